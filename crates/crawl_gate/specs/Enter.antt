@@ -7,8 +7,8 @@ use Rattle.crawl_gate.specs.Word.{Word, open_at, closed_at}
 use Rattle.crawl_gate.specs.View.{knows_closed, view_looking, view_losing}
 use Rattle.crawl_gate.specs.Seat.{GateId, SeatId, IsSeatOf, with_view, after_looking, after_entering, after_losing}
 
--- One try to enter with a pass. If its load reads a closed word, or an open word with the maximum count, that is the result;
--- otherwise its exchange reads the same word again and enters, or it reads another word and the try is lost.
+-- One try to enter with a pass. If its load reads a closed word, or an open word with the maximum count, that is the result. Otherwise its exchange reads the
+-- same word again and enters, or it reads another word and the try is lost.
 abbrev pub TriesToEnter : SeatId → Enter → Type 0
 TriesToEnter pass (Entered unit) =
     (n : ℕ) × (n < pass.view.max_pending) × (knows_closed pass.view ≡ false)
@@ -19,7 +19,7 @@ TriesToEnter pass (Lost back) =
     (n : ℕ) × (x : Word) × (n < pass.view.max_pending) × (knows_closed pass.view ≡ false) × (x ≢ open_at n)
     × (back ≡ after_losing (after_looking pass (open_at n)) x)
 
--- One try while another seat holds a unit: that seat makes the load, so the gate is open, and the pass makes at most the exchange.
+-- One try while another seat holds a unit: that seat makes the load, so the gate is open, and the pass makes only the exchange, if any.
 abbrev pub TriesToEnterBeside : SeatId → SeatId → SeatId → Enter → Type 0
 TriesToEnterBeside held held' pass (Entered unit) =
     (n : ℕ) × (n < pass.view.max_pending) × (held' ≡ after_looking held (open_at n)) × (unit ≡ after_entering pass (open_at n))
@@ -29,11 +29,11 @@ TriesToEnterBeside held held' pass (Lost back) =
     (n : ℕ) × (x : Word) × (n < pass.view.max_pending) × (x ≢ open_at n)
     × (held' ≡ after_looking held (open_at n)) × (back ≡ after_losing pass x)
 
--- a lost try: the count that its load read, and the other word that its exchange read
+-- a lost try: the count that its load read, and the word that its exchange read
 abbrev pub LostTry : Type 0
 LostTry = ℕ × Word
 
--- each load read an open word below the maximum, and each exchange read another word than its load
+-- each load read an open word below the maximum, and each exchange read a word other than its load
 abbrev pub AllLost : ℕ → List LostTry → Type 0
 AllLost max [] = Unit {0}
 AllLost max (t ∷ ts) = (t.0 < max) × (t.1 ≢ open_at t.0) × AllLost max ts
@@ -85,7 +85,7 @@ EntersAtLastBeside held held' pass answer =
     (ts : List LostTry) × AllLost pass.view.max_pending ts
     × TriesToEnterBeside (after_loading held ts) held' (after_exchanging pass ts) answer × ¬ IsLost answer
 
--- the seat that is returned belongs to this gate
+-- the seat that is returned is one of this gate
 abbrev pub GivesSeatOf : GateId → Enter → Type 0
 GivesSeatOf gate (Entered unit) = IsSeatOf gate unit
 GivesSeatOf gate (Closed back) = IsSeatOf gate back

@@ -1,4 +1,4 @@
--- The kinds of step of a gate, what each does to its word and its seats, and histories of such steps.
+-- The kinds of a gate's steps, what each changes, and histories of such steps.
 use Rattle.std.specs.Prelude.{Option, Some, None, ◌≡◌, ◌≢◌, ℕ, ◌+◌, ◌<◌, true, false, List, [], ◌∷◌, ◌++◌, slice_set}
 use mathlib.Core.Option.{some}
 use lib.ListN.{get_elem?}
@@ -13,7 +13,7 @@ use Rattle.crawl_gate.specs.GateInvariant.{Moment}
 abbrev pub first_moment : ℕ → Moment
 first_moment max = record { words = bits (open_at 1) ∷ []; homes = []; views = opening_view max ∷ [] }
 
--- a step of one seat, whose view goes from v to w, while the word goes from x to y
+-- a step of one seat: its view changes from v to w, and the word from x to y
 pub record SeatSteps (gate gate' : Moment) (v w : View) (x y : Word) : Type 0 where
   pub seat : ℕ
   pub view : get_elem? gate.views seat ≡ some v
@@ -21,8 +21,8 @@ pub record SeatSteps (gate gate' : Moment) (v w : View) (x y : Word) : Type 0 wh
   pub small : x.0 < top_bit
   pub next : gate' ≡ record { words = bits y ∷ []; homes = gate.homes; views = slice_set gate.views seat w }
 
--- A split adds the view of a new pass. Every other step changes the view of the one seat that makes it, and names
--- its kind there; a load, and an exchange that is not won, leave the word as it is.
+-- A split adds the view of a new pass. Every other step changes only the view of the seat that makes it, and adds its kind to that view. A load, and an
+-- exchange that fails, do not change the word.
 pub data GateStep (gate gate' : Moment) : Type 0 where
   splits : (v : View) (seat : ℕ) → get_elem? gate.views seat ≡ some v
       → gate' ≡ record { words = gate.words; homes = gate.homes; views = gate.views ++ fresh_view v.max_pending ∷ [] } → GateStep gate gate'
@@ -38,7 +38,7 @@ pub data GateStep (gate gate' : Moment) : Type 0 where
   not_closes : (v : View) (x : Word) → v.holds_unit ≡ false → x ≢ open_at 0
       → SeatSteps gate gate' v (view_not_closing v x) x x → GateStep gate gate'
 
--- the kind of a step. A split has none, since no view shows it
+-- the kind of a step; a split has none, since it is in no view
 abbrev pub kind_of : (gate gate' : Moment) → GateStep gate gate' → Option StepKind
 kind_of gate gate' (splits v seat at next) = None
 kind_of gate gate' (looks v x s) = Some Load
@@ -58,7 +58,7 @@ WordGoes (Some EnterLost) x y = x ≡ y
 WordGoes (Some CloseLost) x y = x ≡ y
 WordGoes None x y = x ≡ y
 
--- the one view that a seat's step changes gains its kind and the word x
+-- only one view changes: it gains this kind of step and the word x
 pub record GainsMet (gate gate' : Moment) (kind : StepKind) (x : Word) : Type 0 where
   pub seat : ℕ
   pub before : View
@@ -67,12 +67,12 @@ pub record GainsMet (gate gate' : Moment) (kind : StepKind) (x : Word) : Type 0 
   pub views : gate'.views ≡ slice_set gate.views seat after
   pub met : after.met ≡ before.met ++ (kind, x) ∷ []
 
--- how a step of this kind changes the views: a split adds one, and changes none
+-- how a step of this kind changes the views: a split adds one, and changes no other
 abbrev pub ViewsGo : (gate gate' : Moment) → Option StepKind → Word → Type 0
 ViewsGo gate gate' (Some kind) x = GainsMet gate gate' kind x
 ViewsGo gate gate' None x = (v : View) × (gate'.views ≡ gate.views ++ v ∷ [])
 
--- the step goes from the word x to the word y, both of which a u64 shows
+-- the step changes the word from x to y, and a u64 can represent both
 pub record GateGoes (gate gate' : Moment) (step : GateStep gate gate') (x y : Word) : Type 0 where
   pub from : gate.words ≡ bits x ∷ []
   pub to : gate'.words ≡ bits y ∷ []
@@ -81,7 +81,7 @@ pub record GateGoes (gate gate' : Moment) (step : GateStep gate gate') (x y : Wo
   pub word : WordGoes (kind_of gate gate' step) x y
   pub views : ViewsGo gate gate' (kind_of gate gate' step) x
 
--- the moments after this one, each by one step from the one before
+-- each of these moments comes from the one before it by one step, beginning with this moment
 abbrev pub IsHistory : Moment → List Moment → Type 0
 IsHistory gate [] = Unit {0}
 IsHistory gate (next ∷ later) = GateStep gate next × IsHistory next later

@@ -1,4 +1,4 @@
--- What each kind of step shows the seat that makes it: the word x that it met, and the view that it leaves.
+-- What a seat learns from each kind of step: the word x that the step met, and the seat's view after it.
 use Rattle.std.specs.Prelude.{◌≡◌, ◌≢◌, ℕ, ◌<◌, true, false}
 use Rattle.atomic_table.specs.Table.{Step, Me}
 use Rattle.crawl_gate.specs.declared.rule.View.{View}
@@ -14,7 +14,7 @@ Sitting = Me (Unit {0}) View
 abbrev pub Looks : Step (Unit {0}) → Sitting → ℕ → Sitting → Type 0
 Looks step before found after = (x : Word) × MayMeet before.0 x × (found ≡ bits x) × (after.0 ≡ view_looking before.0 x) × (after.1 ≡ before.1)
 
--- a pass's exchange for one unit more, below the maximum, which succeeds if it finds the word that it expects
+-- a pass's exchange for one more unit, below the maximum; it succeeds if it meets the word that it expects
 abbrev pub Enters : Step (Unit {0}) → Sitting → ℕ → Sitting → Type 0
 Enters step before found after =
     (before.0.holds_unit ≡ false) × (step.first < before.0.max_pending) × (x : Word) × MayMeet before.0 x × (found ≡ bits x)
@@ -31,7 +31,7 @@ Closes step before found after =
     (before.0.holds_unit ≡ false) × (x : Word) × MayMeet before.0 x × (found ≡ bits x)
     × (found ≡ 0 → after.0 ≡ view_closing before.0 x) × (found ≢ 0 → after.0 ≡ view_not_closing before.0 x) × (after.1 ≡ before.1)
 
--- a split: what it leaves the seat with, and what it gives the new pass, which knows only the maximum
+-- a split: the view of the seat after it, and that of the new pass, which knows only the maximum
 abbrev pub view_split : View → View
 view_split v = v
 

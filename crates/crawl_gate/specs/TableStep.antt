@@ -1,4 +1,4 @@
--- The steps that the gate's table lets a seat make, by the plays and the split of `src/rule.rt`.
+-- The steps that the gate's table allows to a seat: the plays and the split of `src/rule.rt`.
 use Rattle.std.specs.Prelude.{◌≡◌, ℕ, [], ◌∷◌, ◌++◌, slice_index, slice_set}
 use mathlib.Core.Option.{some}
 use lib.ListN.{get_elem?}
@@ -7,8 +7,8 @@ use Rattle.crawl_gate.specs.declared.rule.View.{View}
 use Rattle.crawl_gate.specs.GateInvariant.{Moment}
 use Rattle.crawl_gate.specs.Steps.{Sitting, Looks, Enters, Leaves, Closes, view_split, view_split_off}
 
--- What the table allows of a play with the fact `told` (`Allows` of `atomic_table`): a seat with no slot finds a number and
--- writes another, whichever it is, and it comes out with a view, and by an act with slots, of which `told` holds.
+-- What the table allows in a play with the fact `told` (`Allows` of `atomic_table`): a seat without slots finds a number and writes any number, and its new
+-- view and an act fulfil `told`.
 pub record PlayMade (told : Sitting → ℕ → Sitting → Type 0) (gate gate' : Moment) : Type 0 where
   pub seat : ℕ
   pub before : View
@@ -20,7 +20,7 @@ pub record PlayMade (told : Sitting → ℕ → Sitting → Type 0) (gate gate' 
   pub telling : told (before, []) (slice_index gate.words 0) (after, carried_after [] act)
   pub next : gate' ≡ stepped gate 0 written seat [] after act
 
--- one of the four plays, with whatever operands, or a split
+-- one of the four plays, with any operands, or a split
 pub data TableStep (gate gate' : Moment) : Type 0 where
   by_look : (operands : Step (Unit {0})) → PlayMade (Looks operands) gate gate' → TableStep gate gate'
   by_take_unit : (operands : Step (Unit {0})) → PlayMade (Enters operands) gate gate' → TableStep gate gate'

@@ -1,4 +1,4 @@
--- What a seat knows of its gate, and how each kind of step changes that.
+-- What a seat knows about its gate, and how each kind of step changes that.
 use Rattle.std.specs.Prelude.{ℕ, ◌+◌, Bool, true, false, List, [], ◌∷◌, ◌++◌, ◌||◌}
 use Rattle.crawl_gate.specs.declared.rule.View.{View}
 use Rattle.crawl_gate.specs.declared.step_kind.StepKind.{StepKind}
@@ -22,11 +22,11 @@ opening_view max = record { max_pending = max; holds_unit = true; closed_gate = 
 abbrev pub fresh_view : ℕ → View
 fresh_view max = record { max_pending = max; holds_unit = false; closed_gate = false; met = [] }
 
--- the seat has closed the gate, or has met it closed
+-- the seat has closed the gate, or met it closed
 abbrev pub knows_closed : View → Bool
 knows_closed v = v.closed_gate || any_closed v.met
 
--- a step of this kind met the word x, and changed nothing
+-- a step of this kind met the word x, and changed nothing else
 abbrev pub view_meeting : View → StepKind → Word → View
 view_meeting v kind x = record { max_pending = v.max_pending; holds_unit = v.holds_unit; closed_gate = v.closed_gate; met = v.met ++ (kind, x) ∷ [] }
 
@@ -38,7 +38,7 @@ view_looking v x = view_meeting v Load x
 abbrev pub view_entering : View → Word → View
 view_entering v x = record { max_pending = v.max_pending; holds_unit = true; closed_gate = v.closed_gate; met = v.met ++ (EnterWon, x) ∷ [] }
 
--- an exchange for a unit met the word x, which it did not expect
+-- an exchange for a unit met the word x, which is not the one that it expected
 abbrev pub view_losing : View → Word → View
 view_losing v x = view_meeting v EnterLost x
 
@@ -50,16 +50,16 @@ view_leaving v x = record { max_pending = v.max_pending; holds_unit = false; clo
 abbrev pub view_closing : View → Word → View
 view_closing v x = record { max_pending = v.max_pending; holds_unit = v.holds_unit; closed_gate = true; met = v.met ++ (CloseWon, x) ∷ [] }
 
--- an exchange that would close the gate met the word x, and did not
+-- an exchange that was to close the gate met the word x, and failed
 abbrev pub view_not_closing : View → Word → View
 view_not_closing v x = view_meeting v CloseLost x
 
--- the units of one seat
+-- the number of units of one seat
 abbrev pub units_of : Bool → ℕ
 units_of true = 1
 units_of false = 0
 
--- how many seats hold a unit. The view of a seat that was dropped stays, so its unit counts as held
+-- the number of seats that hold a unit. The view of a seat that was dropped stays, so its unit counts as held
 abbrev pub units_held : List View → ℕ
 units_held [] = 0
 units_held (v ∷ vs) = units_of v.holds_unit + units_held vs

@@ -1,4 +1,4 @@
--- A gate's word: how many units are held, and whether the gate is closed.
+-- A gate's word: the number of units that are held, and whether the gate is closed.
 use Rattle.std.specs.Prelude.{ℕ, ◌+◌, ◌^◌, Bool, true, false}
 
 -- the count, and whether the gate is closed
@@ -11,7 +11,7 @@ open_at count = (count, false)
 abbrev pub closed_at : ℕ → Word
 closed_at count = (count, true)
 
--- the u64 in which only bit 63 is set. Counts are below it
+-- the u64 in which only bit 63 is set. Counts are less than it
 abbrev pub top_bit : ℕ
 top_bit = 2 ^ 63
 
@@ -20,6 +20,6 @@ abbrev pub closed_bit : Bool → ℕ
 closed_bit true = top_bit
 closed_bit false = 0
 
--- the u64 that shows a word
+-- the u64 that represents a word
 abbrev pub bits : Word → ℕ
 bits x = x.0 + closed_bit x.1

@@ -1,5 +1,5 @@
-//! Laws: what holds for every history of a gate's steps, whichever threads make them. They are theorems, and do nothing
-//! when called.
+//! Laws: what is true of every history of a gate's steps, whichever threads make them. A law is a function that does nothing; its
+//! clauses are the theorem.
 ghost use Rattle.std.specs.Prelude.{◌≡◌, ℕ, List, [], ◌∷◌, All};
 ghost use Rattle.crawl_gate.specs.Word.{Word, bits, closed_at};
 ghost use Rattle.crawl_gate.specs.GateInvariant.{Moment, GateInvariant};
@@ -7,8 +7,8 @@ ghost use Rattle.crawl_gate.specs.GateError.{IsMaximum};
 ghost use Rattle.crawl_gate.specs.History.{GateStep, GateGoes, IsHistory, first_moment};
 ghost use Rattle.crawl_gate.specs.TableStep.{TableStep};
 
-/// The gate's invariant holds at the moment at which a gate is made, and at every later moment of a history
-/// from there, or from any other moment that keeps it.
+/// The gate's invariant is true when a gate is made, and at every later moment of a history. It is also true after any other moment
+/// at which it is true.
 #[tactic(auto, using(crate::proofs::Histories::first_kept, crate::proofs::Histories::later_kept))]
 pub fn invariant_in_histories()
     ensures first { (max : ℕ) → IsMaximum max → GateInvariant max (first_moment max) }
@@ -30,7 +30,7 @@ pub fn steps_are_those_of_the_table()
     ensures no_other { (max : ℕ) (gate next : Moment) → GateInvariant max gate → GateStep gate next → TableStep gate next × GateInvariant max next }
 {}
 
-/// After a gate is closed, no step changes its word. So its count stays 0, and nobody enters.
+/// After a gate is closed, no step changes its word. So its count stays 0, and nothing enters.
 #[tactic(auto, using(crate::proofs::Histories::shut_for_good))]
 pub fn closed_for_good()
     ensures { (gate : Moment) (moments : List Moment) → gate.words ≡ bits (closed_at 0) ∷ [] → IsHistory gate moments

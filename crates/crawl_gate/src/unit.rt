@@ -1,4 +1,4 @@
-//! The right to leave once.
+//! A seat that holds a unit: the right to leave once.
 use crate::rule::View;
 use atomic_table::Seat;
 use std::marker::Model;

@@ -1,4 +1,4 @@
-//! The word, a `u64`, that a gate's threads share: bit 63 is the closed bit, the bits below it count units.
+//! The word, a `u64`, that a gate's threads share: bit 63 is the closed bit, and the bits below it count units.
 ghost use Rattle.std.specs.Prelude.{◌≡◌, ◌<◌};
 ghost use Rattle.crawl_gate.specs.Word.{top_bit, bits};
 
