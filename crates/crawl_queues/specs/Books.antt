@@ -1,4 +1,4 @@
--- The books of a part that sends: its id, its count for each subqueue, and its log.
+-- The books of a sender: its id, its count for each subqueue, and its log.
 use Rattle.std.specs.Prelude.{◌≡◌, ℕ, ◌+◌, ◌<◌, ◌==◌, List, [], ◌∷◌, ◌++◌, length, Some, slice_get, slice_set, replicate, if◌then◌else◌, vec_len, vec_capacity}
 use Rattle.crawl_queues.specs.declared.entry.Entry.{Entry}
 use Rattle.crawl_queues.specs.declared.book.Logged.{Logged}
@@ -12,44 +12,44 @@ pub record BookId : Type 0 where
   pub counts : List ℕ
   pub log : List Logged
 
--- what the books are to a contract
+-- what contracts see of the books
 abbrev pub book_of : Book → BookId
 book_of b = record { id = b.id; counts = b.counts.items; log = log_of (lists_of b.told.items) b.lines.items }
 
--- the lines say something of what is known of these queues' lists
+-- the lines are about entries of the lists that are known of these queues
 abbrev pub Knows : List QueueId → ℕ → Book → Type 0
 Knows queues workers b = AreKnown queues workers b.told.items b.lines.items
 
--- one line more makes nothing of the log grow
+-- there is room for one more line in the log
 abbrev pub HasRoom : Book → Type 0
 HasRoom b = vec_len b.lines < vec_capacity b.lines
 
--- the entries that the log has as accepted by subqueue q
+-- the entries of the log that subqueue q accepted
 abbrev pub sent_to : ℕ → List Logged → List Entry
 sent_to q [] = []
 sent_to q (Accepted e p ∷ ls) = if p == q then e ∷ sent_to q ls else sent_to q ls
 sent_to q (Seen u p ∷ ls) = sent_to q ls
 
--- entries of this id, with the numbers from n on
+-- the entries have this id, and the numbers from n on
 abbrev pub Numbered : ℕ → ℕ → List Entry → Type 0
 Numbered id n [] = Unit {0}
 Numbered id n (e ∷ es) = (e.sender ≡ id) × (e.number ≡ n) × Numbered id (n + 1) es
 
--- the count of each subqueue is how many entries the log has for it, and these are numbered in order
+-- the count for each subqueue is the number of entries of the log for it, and these are numbered in order
 pub record IsBook (workers : ℕ) (b : BookId) : Type 0 where
   pub len : length b.counts ≡ workers
   pub counted : (q : ℕ) → q < workers → slice_get b.counts q ≡ Some (length (sent_to q b.log))
   pub numbered : (q : ℕ) → Numbered b.id 0 (sent_to q b.log)
 
--- the book after an entry for subqueue q was accepted, the n-th from 0
+-- the books after subqueue q accepted an entry, which is the n-th there, from 0
 abbrev pub book_accepting : BookId → ℕ → ℕ → Entry → BookId
 book_accepting b q n e = record { id = b.id; counts = slice_set b.counts q (n + 1); log = b.log ++ Accepted e q ∷ [] }
 
--- the book after a URL of subqueue q was found there
+-- the books after a URL of subqueue q was found there
 abbrev pub book_seeing : BookId → List ℕ → ℕ → BookId
 book_seeing b url q = record { id = b.id; counts = b.counts; log = b.log ++ Seen url q ∷ [] }
 
--- the books of a part that has sent nothing
+-- the books of a sender that has sent nothing
 abbrev pub fresh_book : ℕ → ℕ → BookId
 fresh_book id workers = record { id = id; counts = replicate workers 0; log = [] }
 

@@ -1,9 +1,9 @@
--- What contracts see of the tokens of a list.
+-- What contracts see of a seat of a list.
 use Rattle.std.specs.Prelude.{List}
 use Rattle.atomic_table.specs.Seated.{TableId}
 use Rattle.crawl_queues.specs.declared.entry.Entry.{Entry}
 
--- which list, and what is known of it
+-- the list's identity, and what is known of the list
 pub record KnownList : Type 0 where
   pub list : TableId
   pub items : List Entry

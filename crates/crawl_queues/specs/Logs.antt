@@ -1,4 +1,4 @@
--- What the lines of a log say, by what its part knows of the lists.
+-- What the lines of a log mean, by what its sender knows of the lists.
 use Rattle.std.specs.Prelude.{◌≡◌, ℕ, List, [], ◌∷◌, length, map, Some, slice_get, slice_index_or, if◌then◌else◌}
 use Rattle.crawl_queues.specs.declared.entry.Entry.{Entry}
 use Rattle.crawl_queues.specs.declared.log.LogLine.{LogLine}
@@ -8,7 +8,7 @@ use Rattle.crawl_queues.specs.QueueId.{QueueId}
 use Rattle.crawl_queues.specs.Growing.{no_entry, Stays}
 use Rattle.crawl_queues.specs.Known.{KnownList}
 
--- what is known of the lists, by queue
+-- the known entries of a list
 abbrev pub items_of : KnownList → List Entry
 items_of t = t.items
 
@@ -19,7 +19,7 @@ lists_of told = map items_of told
 abbrev pub entry_at : List (List Entry) → ℕ → ℕ → Entry
 entry_at lists q i = slice_index_or (slice_index_or lists q []) i no_entry
 
--- what a line says of an entry
+-- the meaning of a line, given its entry
 abbrev pub says : LogLine → Entry → Logged
 says l e = if l.accepted then Accepted e l.queue else Seen e.url l.queue
 
@@ -34,20 +34,20 @@ log_of lists (l ∷ ls) = line_of lists l ∷ log_of lists ls
 abbrev pub Has : List (List Entry) → ℕ → ℕ → Entry → Type 0
 Has lists q i e = (es : List Entry) × (slice_get lists q ≡ Some es) × (slice_get es i ≡ Some e)
 
--- each line's index has an entry
+-- there is an entry at the index of each line
 abbrev pub AreThere : List (List Entry) → List LogLine → Type 0
 AreThere lists [] = Unit {0}
 AreThere lists (l ∷ ls) = ((e : Entry) × Has lists l.queue l.index e) × AreThere lists ls
 
--- what was known of each list is in these
+-- the known entries of each list are also in these
 abbrev pub AllStay : List (List Entry) → List (List Entry) → Type 0
 AllStay before after = (q : ℕ) (es : List Entry) → slice_get before q ≡ Some es → (fs : List Entry) × (slice_get after q ≡ Some fs) × Stays es fs
 
--- what is known is of the lists of these queues
+-- what is known is about the lists of these queues
 abbrev pub ListsAre : List QueueId → List KnownList → Type 0
 ListsAre queues told = (q : ℕ) (s : QueueId) (t : KnownList) → slice_get queues q ≡ Some s → slice_get told q ≡ Some t → t.list ≡ s.list
 
--- what is known of each queue's list, and lines that say something of that
+-- what is known of each queue's list, and lines that are about known entries
 pub record AreKnown (queues : List QueueId) (workers : ℕ) (told : List KnownList) (ls : List LogLine) : Type 0 where
   pub len : length told ≡ workers
   pub lists_are : ListsAre queues told

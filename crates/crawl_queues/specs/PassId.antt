@@ -2,7 +2,7 @@
 use Rattle.crawl_queues.specs.QueueId.{QueueId}
 use Rattle.crawl_queues.specs.declared.rule.PassView.{PassView}
 
--- which subqueue a pass is of, and what it knows
+-- the subqueue of a pass, and what the pass knows
 pub record PassId : Type 0 where
   pub subqueue : QueueId
   pub view : PassView

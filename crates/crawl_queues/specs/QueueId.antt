@@ -1,8 +1,8 @@
--- Which subqueue something is of.
+-- What identifies a subqueue.
 use Rattle.std.specs.Prelude.{ℕ}
 use Rattle.atomic_table.specs.Seated.{TableId}
 
--- by the numbers of the two parts of its queue, and by what identifies its list
+-- the numbers of the two parts of its queue, and the identity of its list
 pub record QueueId : Type 0 where
   pub web : ℕ × ℕ
   pub list : TableId

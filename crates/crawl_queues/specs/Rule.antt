@@ -1,4 +1,4 @@
--- The rule of a subqueue: what is true of what it holds and of all passes between any two steps.
+-- The rule of a subqueue: what is true of its messages and of all its passes between any two steps.
 use Rattle.std.specs.Prelude.{◌≡◌, ℕ, true, false, List, [], ◌∷◌, ◌++◌, map}
 use mathlib.Core.Option.{some}
 use lib.ListN.{get_elem?}
@@ -9,11 +9,11 @@ use Rattle.crawl_queues.specs.declared.rule.Home.{Home}
 use Rattle.crawl_queues.specs.declared.rule.PassView.{PassView}
 use Rattle.crawl_queues.specs.Entries.{KeepsRule}
 
--- of a pass that has none yet
+-- the home of a pass that has none yet
 abbrev pub no_home : Home
 no_home = record { gate = no_gate; workers = 0; queue = 0 }
 
--- the pass that may push, with what it sent; the one that may pop, with what it took; both in one; and none
+-- the view of the pass that may push, with what it sent; of the one that may pop, with what it took; of one with both rights; and of one with none
 abbrev pub pushing : Home → List Entry → PassView
 pushing h sent = record { home = h; sends = true; sent = sent; takes = false; taken = []; empty_pops = 0 }
 
@@ -33,7 +33,7 @@ abbrev pub AllOfGate : GateId → List Message → Type 0
 AllOfGate g [] = Unit {0}
 AllOfGate g (m ∷ ms) = IsSeatOf g m.unit × AllOfGate g ms
 
--- what the rule says of one pass
+-- the rule for one pass
 pub record PassFits (home : Home) (writer reader : ℕ) (sent taken : List Entry) (id : ℕ) (v : PassView) : Type 0 where
   pub sends : v.sends ≡ true → (id ≡ writer) × (v.sent ≡ sent) × (v.home ≡ home)
   pub takes : v.takes ≡ true → (id ≡ reader) × (v.taken ≡ taken) × (v.home ≡ home)
@@ -44,9 +44,9 @@ pub record SubqueueInvariant (items : List Message) (views : List PassView) : Ty
   pub reader : ℕ
   pub sent : List Entry
   pub taken : List Entry
-  -- what was sent is what was taken, and then what the subqueue holds
+  -- what was sent is what was taken, followed by the messages in the subqueue
   pub split : sent ≡ taken ++ map plain items
-  -- URLs differ, each belongs here, and numbers count up for each sender
+  -- the URLs differ, each belongs to this subqueue, and each sender's entries are numbered in order
   pub rule : KeepsRule home.workers home.queue [] sent
   -- each message holds a unit of the gate
   pub units : AllOfGate home.gate items
@@ -55,6 +55,6 @@ pub record SubqueueInvariant (items : List Message) (views : List PassView) : Ty
 abbrev pub home : GateId → ℕ → ℕ → Home
 home gate workers queue = record { gate = gate; workers = workers; queue = queue }
 
--- both rights in one pass, with what the two passes knew
+-- the view of a pass with both rights, from those of the two passes
 abbrev pub reunited : PassView → PassView → PassView
 reunited v u = record { home = v.home; sends = true; sent = v.sent; takes = true; taken = u.taken; empty_pops = u.empty_pops }

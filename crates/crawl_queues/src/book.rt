@@ -1,4 +1,4 @@
-//! The books of a part: what it records of its own offers.
+//! The books of a sender: what it records of its own offers.
 ghost use Rattle.std.specs.Prelude.{◌≡◌, ◌<◌, ◌^◌, ℕ, List, IfOk, OnOk, Some, slice_get, length, vec_len};
 ghost use Rattle.crawl_queues.specs.declared.entry.Entry.{Entry};
 ghost use Rattle.crawl_queues.specs.QueueId.{QueueId};
@@ -21,9 +21,9 @@ pub enum Logged {
     Seen(CanonUrl, u32),
 }
 
-/// The part's id, the number of its URLs that each queue accepted, its log, oldest line first, and a beginning of each
+/// The sender's id, the number of its URLs that each queue accepted, its log, oldest line first, and a beginning of each queue's
+/// list.
 /// queue's list.
-///
 /// It is a plain struct, so that a contract can say that the log has room. The beginnings have no bytes.
 #[derive(Drop)]
 pub struct Book {
@@ -33,7 +33,7 @@ pub struct Book {
     pub told: Vec<Beginning>,
 }
 
-// A copy of the beginning of each list.
+// Copies the beginning of each list.
 fn all_again(
     alloc: Global,
     queues: &Vec<Subqueue>,
@@ -53,7 +53,7 @@ fn all_again(
 }
 
 impl Book {
-    /// The books of a part that has sent nothing, and knows these beginnings of the lists.
+    /// Makes the books of a sender that has sent nothing, and knows these beginnings of the lists.
     pub fn new<K: Name>(alloc: Global, id: u64, told: Vec<Beginning>) -> Result<Book, AllocError>
         requires len { vec_len told ≡ K.workers }
         requires lists { ListsAre K.queues told.items }
@@ -69,7 +69,7 @@ impl Book {
         })
     }
 
-    /// The books of another part that has sent nothing, and knows the same beginnings of the lists.
+    /// Makes the books of another sender that has sent nothing, and knows the same beginnings of the lists.
     pub fn another<K: Name>(
         &mut self,
         alloc: Global,
@@ -99,8 +99,8 @@ impl Book {
         self.lines.reserve(1)
     }
 
-    /// Records a URL that `queue` accepted, after `number` URLs of this part, and that is at this index of its list. Nothing
-    /// is allocated.
+    /// Records a URL that `queue` accepted after `number` URLs of this sender, and that is at this index of its list. Nothing is
+    /// allocated.
     pub fn accept(&mut self, queue: u32, index: u32, number: u64)
         requires within { queue < vec_len self.old.counts }
         requires narrow { queue < 2 ^ 16 }

@@ -1,4 +1,4 @@
-//! What a queue contains.
+//! The entries and messages of a queue.
 ghost use Rattle.std.specs.Prelude.{◌≡◌, IfOk};
 ghost use Rattle.crawl_queues.specs.Entries.{entry};
 ghost use Rattle.hash_order.specs.HashOrder.{hash_of};
@@ -12,7 +12,7 @@ use hash_index::Keyed;
 pub struct Entry {
     /// The URL.
     pub url: CanonUrl,
-    /// The id of the part that offered it. A worker's id is its queue, the seeder's the number of workers.
+    /// The id of the sender. A worker's id is the number of its queue, and the seeder's is the number of workers.
     pub sender: u64,
     /// The number of URLs of this sender that the queue accepted before.
     pub number: u64,
@@ -30,7 +30,7 @@ pub struct Message {
 }
 
 impl Entry {
-    /// An entry with a copy of this URL, which shares its text.
+    /// Makes an entry with a copy of this URL, which shares its text.
     pub fn of_copy(url: &CanonUrl, sender: u64, number: u64, hops: u32) -> Result<Entry, KeyError>
         ensures { IfOk result (λ e. e ≡ entry url.now sender number hops) }
     {

@@ -1,4 +1,4 @@
-//! Knowledge of a list that only grows: a beginning of it, seen by any thread at any time, stays a beginning.
+//! Knowledge about a list that only grows: a beginning of it, seen by any thread at any time, stays a beginning.
 ghost use Rattle.std.specs.Prelude.{◌≡◌, ◌++◌, ◌∷◌, [], IfOk};
 ghost use Rattle.crawl_queues.specs.Growing.{Stays};
 ghost use Rattle.crawl_queues.specs.Known.{owner_of, begins_with};
@@ -66,7 +66,7 @@ impl Model for Beginning {
 }
 
 impl Growing {
-    /// An empty list, and the right to add to it.
+    /// Makes an empty list, and the right to add to it.
     #[tactic(auto, using(crate::proofs::Moves::begins))]
     pub fn new(alloc: Global) -> Result<(Growing, Owner), AllocError>
         ensures { IfOk result (λ r. r.1 ≡ owner_of r.0 []) }
@@ -92,7 +92,7 @@ impl Growing {
         self.add::<Brand>(owner, entry);
     }
 
-    /// A beginning of the list: what the list is now.
+    /// Returns a beginning of the list: all of it, as it is now.
     #[tactic(auto, using(crate::proofs::Moves::tells))]
     pub fn tell(&self, owner: &mut Owner) -> Beginning
         requires { owner.old.list ≡ self.now }
@@ -103,7 +103,7 @@ impl Growing {
         Beginning { seat }
     }
 
-    /// One more beginning, equal to this one.
+    /// Returns one more beginning, equal to this one.
     #[tactic(auto, using(crate::proofs::Moves::repeats))]
     pub fn again(&self, known: &mut Beginning) -> Beginning
         requires { known.old.list ≡ self.now }

@@ -1,13 +1,13 @@
-//! Laws: what holds for every history of steps of a queue, whichever threads make them. They are theorems, and do nothing when
-//! called.
+//! Laws: what is true of every history of a queue's steps, whichever threads make them. A law is a function that does nothing; its
+//! clauses are the theorem.
 ghost use Rattle.std.specs.Prelude.{ℕ, List, [], ◌∷◌};
 ghost use Rattle.crawl_queues.specs.declared.entry.Entry.{Entry};
 ghost use Rattle.crawl_queues.specs.Entries.{KeepsRule};
 ghost use Rattle.crawl_queues.specs.History.{IsAcceptedList, Moment, SubqueueStep, ListsMove, IsHistory, first_moment, AllKept};
 ghost use Rattle.crawl_queues.specs.Rule.{SubqueueInvariant};
 
-/// In a list that keeps the rule of a queue, all URLs differ, each belongs to the queue, and each sender's entries are
-/// numbered 0, 1, 2, .. in order. Each list of an account keeps this rule.
+/// In a list that keeps the rule of a queue, all URLs differ, each belongs to the queue, and each sender's entries are numbered 0,
+/// 1, 2, .. in order. Each list of an account keeps this rule.
 #[tactic(auto, using(crate::proofs::Histories::accepted_lists))]
 pub fn accepted_lists()
     ensures { (workers q : ℕ) (es : List Entry) → KeepsRule workers q [] es → IsAcceptedList workers q es }

@@ -1,4 +1,4 @@
-//! The queues of a URL frontier: what each contains between any two steps of any threads, and what its senders know of it.
+//! The queues of a URL frontier: what each contains between any two steps of any threads, and what its senders know about it.
 //!
 //! A queue is a [`Subqueue`]. The owner of its [`PushRight`] adds messages at the end, and the owner of its [`PopRight`] takes them
 //! from the front. Each message is a URL with a unit of the frontier's gate. A [`Beginning`] is what a queue's list was at some

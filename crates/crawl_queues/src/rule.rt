@@ -72,7 +72,7 @@ impl Split<PassView> for Divide {
     ghost right = { λ v. popping v.home v.taken v.empty_pops };
 }
 
-// Both rights in one pass again. It learns that what was sent is what was taken, followed by what the queue contains.
+// Both rights are in one pass again. It learns that what was sent is what was taken, followed by what the queue contains.
 pub(crate) struct Reunite;
 
 impl Join<PassView> for Reunite {

@@ -32,16 +32,16 @@ const AWAITED: u64 = 1;
 
 const ASLEEP: u64 = 2;
 
-// The number of times that a worker looks at its bell before it sleeps: for some 60 microseconds, a few times as long as it
-// takes to be woken. Nobody else writes there until it rings, so these looks slow nobody down if each worker has a processor.
+// The number of times that a worker looks at its bell before it sleeps: for some 60 microseconds, a few times as long as it takes
+// to be woken. Nobody else writes to the bell until it rings, so these looks slow nobody down if each worker has a processor.
 const LOOKS: u32 = 5_000;
 
-// If a worker has no processor of its own, its looks keep the processor from the thread that would ring. So the more waits in
-// a row were in vain, the fewer begin with looks, but at least one in this many does.
+// If a worker has no processor of its own, its looks keep the processor from the thread that would ring. So the more waits in a row
+// were in vain, the fewer begin with looks. At least one in this number does.
 const WAITS: u64 = 64;
 
-/// The URLs that wait for one worker, first in, first out, and the bell that wakes that worker. In contracts it is which
-/// queue it is; no contract depends on the bell.
+/// The URLs that wait for one worker, first in, first out, and the bell that wakes that worker. In contracts it is the identity of
+/// the queue; no contract depends on the bell.
 pub struct Subqueue {
     line: Line,
     // identifies the list of what was sent, which the shard has
@@ -101,7 +101,7 @@ fn settle<B: Stamp>(line: &Line, pass: &mut Pass, gate: &Gate, workers: u32, que
 }
 
 impl Subqueue {
-    /// The empty queue with this index, its two rights, and a beginning of its list.
+    /// Makes the empty queue with this index, its two rights, and a beginning of its list.
     #[tactic(auto, using(crate::proofs::Passing::begins, crate::proofs::Passing::divides))]
     pub fn new(
         alloc: Global,
@@ -133,8 +133,8 @@ impl Subqueue {
         ))
     }
 
-    /// Adds a message at the end. The message is returned if an allocation fails, or after nearly 2^62 pushes. The list that
-    /// the right owns gets the entry `listed`, which is the message's.
+    /// Adds a message at the end, and the entry `listed`, which must be the message's, to the list that the right owns. The message
+    /// is returned if an allocation fails, or after nearly 2^62 pushes.
     pub fn push<R: Wait>(
         &self,
         rt: &R,
@@ -160,7 +160,7 @@ impl Subqueue {
         }
     }
 
-    /// One more beginning of the list of what was sent, equal to this one.
+    /// Returns one more beginning of the list of what was sent, equal to this one.
     pub fn again(&self, known: &mut Beginning) -> Beginning
         requires { known.old.list ≡ self.now.list }
         ensures same { known.new ≡ known.old }

@@ -36,7 +36,7 @@ impl Adds for Brand {
     ghost entry = { no_entry };
 }
 
-// The owner's list has one entry more.
+// Adds an entry to the owner's list.
 pub(crate) struct Grow<B: Adds> {
     of: PhantomData<B>,
 }
@@ -47,7 +47,7 @@ impl<B: Adds> Play<(), ListView> for Grow<B> {
     ghost then = { λ step before found after. Adding B.entry before after };
 }
 
-// The owner compares the beginning that it was given with the whole list, and is the owner again.
+// The owner compares the beginning that it was given with the whole list, and gives it up.
 pub(crate) struct Compare;
 
 impl Play<(), ListView> for Compare {
