@@ -1,4 +1,4 @@
--- What `{}` prints of each error.
+-- The text that `{}` prints for each error.
 use Rattle.std.specs.Prelude.{ℕ, List, codes}
 use Rattle.crawl_frontier.specs.declared.error.FrontierError.{FrontierError}
 use Rattle.crawl_frontier.specs.declared.error.FrontierError.TheVariants.{BadWorkers, BadLimit, NoMemory}

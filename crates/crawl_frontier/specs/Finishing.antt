@@ -1,4 +1,4 @@
--- Inside `finish`: how far the parts were taken apart, settled and compared.
+-- The steps of `finish`: how far the workers and senders were taken apart, and the queues settled and compared.
 use Rattle.std.specs.Prelude.{◌≡◌, ◌≢◌, ◌⊎◌, ℕ, ◌+◌, ◌<◌, ◌≤◌, true, false, List, [], ◌∷◌, ◌++◌, length, map, Option, None, Some, slice_get, is_some}
 use Rattle.std.specs.Ordering.{nat_cmp}
 use Rattle.std.specs.BTreeMap.{BTreeMap, get}
@@ -21,14 +21,14 @@ use Rattle.crawl_queues.specs.Books.{BookId, IsBook, book_of, queue_of}
 use Rattle.crawl_frontier.specs.Parts.{WorkerId, SenderId, ShardId}
 use Rattle.crawl_frontier.specs.Accounts.{At, IsPart, Agrees, Accounts, FinishFails}
 
--- what is left of a list that is used up from its end
+-- the first list is the rest of one that is used up from its end
 abbrev pub Begins : {X : Type 0} → List X → List X → Type 0
 Begins xs all = (k : ℕ) (x : _) → At xs k x → At all k x
 
 abbrev pub HasBook : List BookId → BookId → Type 0
 HasBook books b = (j : ℕ) × At books j b
 
--- each part is left, or its books are here; and all books are some part's
+-- each worker and sender is left, or its books are here; and all books are those of one of them
 pub record Gathered (workers : ℕ) (closed : List WorkerId) (senders : List SenderId) (left : List WorkerId) (lefts : List SenderId) (books : List BookId) : Type 0 where
   pub begin : Begins left closed
   pub begins : Begins lefts senders
@@ -37,7 +37,7 @@ pub record Gathered (workers : ℕ) (closed : List WorkerId) (senders : List Sen
   pub parts : (j : ℕ) (b : BookId) → At books j b → IsPart closed senders b
   pub are_books : (j : ℕ) (b : BookId) → At books j b → IsBook workers b
 
--- the right to pop of each queue is a closed worker's of this queue
+-- the right to pop from each queue is that of a closed worker of this queue
 abbrev pub Slots : GateId → ℕ → List QueueId → List WorkerId → BTreeMap ℕ PassId → Type 0
 Slots gate workers queues closed rights =
     (q : ℕ) (p : PassId) → get nat_cmp rights q ≡ Some p
@@ -48,26 +48,26 @@ abbrev pub OwnRight : GateId → ℕ → BTreeMap ℕ PassId → WorkerId → Ty
 OwnRight gate workers rights w =
     (p : PassId) × (get nat_cmp rights w.queue ≡ Some p) × (p.view ≡ popping (home gate workers w.queue) w.taken w.empty_pops)
 
--- two closed workers have queue q
+-- two closed workers have the same queue q
 abbrev pub IsShared : List WorkerId → ℕ → Type 0
 IsShared closed q = (j k : ℕ) × (v w : WorkerId) × At closed j v × At closed k w × (v.queue ≡ q) × (w.queue ≡ q) × (j ≢ k)
 
--- of the closed workers from `from` on: each has a queue, and that queue's right; and at a queue below `alone` that
--- right is its own, and no other of them has the queue
+-- for the closed workers from index `from` on: each has a queue, and the right of that queue is here; at a queue below `alone`, that right is its own, and no
+-- other of them has the queue
 pub record Placed (gate : GateId) (workers : ℕ) (closed : List WorkerId) (from : ℕ) (rights : BTreeMap ℕ PassId) (alone : ℕ) : Type 0 where
   pub within : (k : ℕ) (w : WorkerId) → At closed k w → from ≤ k → w.queue < workers
   pub there : (k : ℕ) (w : WorkerId) → At closed k w → from ≤ k → is_some (get nat_cmp rights w.queue) ≡ true
   pub own : (k : ℕ) (w : WorkerId) → At closed k w → from ≤ k → w.queue < alone → OwnRight gate workers rights w
   pub once : (j k : ℕ) (v w : WorkerId) → At closed j v → At closed k w → from ≤ j → from ≤ k → v.queue ≡ w.queue → w.queue < alone → j ≡ k
-  -- a right that is there is one of theirs
+  -- each right that is here is one of theirs
   pub whose : (q : ℕ) → is_some (get nat_cmp rights q) ≡ true → (k : ℕ) × (w : WorkerId) × At closed k w × (from ≤ k) × (w.queue ≡ q)
 
--- each right is one of these queues'
+-- each right is that of one of these queues
 abbrev pub RightsOf : List QueueId → BTreeMap ℕ PassId → Type 0
 RightsOf queues rights = (q : ℕ) (p : PassId) → get nat_cmp rights q ≡ Some p → slice_get queues q ≡ Some p.subqueue
 
--- of the shard under the lock of queue q and the right to pop: either the shard is this queue's, and what was sent is
--- what was taken; or it is another's; or it is this queue's, and the subqueue was not seen to be empty
+-- the shard under the lock of queue q, and the right to pop from q: either the shard is this queue's, and what was sent is what was taken; or it is another
+-- queue's; or it is this queue's, and the subqueue was not seen to be empty
 abbrev pub Shows : List QueueId → ℕ → ShardId → PassId → Option Doubt → Type 0
 Shows queues q s right None = (s.queue ≡ q) × (s.sent ≡ right.view.taken)
 Shows queues q s right (Some (Elsewhere p)) = (p ≡ s.queue) × (p ≢ q)
@@ -78,12 +78,12 @@ Shows queues q s right (Some (Holds held)) =
 abbrev pub Settles : ℕ → List QueueId → ℕ → ShardId → PassId → List Entry → Option Doubt → Type 0
 Settles workers queues q s right es doubt = (es ≡ s.sent) × KeepsRule workers s.queue [] es × Shows queues q s right doubt
 
--- the last shard is settled with the right to pop of queue q, and taken off
+-- the last shard is settled with the right to pop from queue q, and removed
 abbrev pub SettlesLast : ℕ → List QueueId → ℕ → List ShardId → List ShardId → BTreeMap ℕ PassId → List Entry → Option Doubt → Type 0
 SettlesLast workers queues q shards left rights es doubt =
     (s : ShardId) × (right : PassId) × (shards ≡ left ++ s ∷ []) × (get nat_cmp rights q ≡ Some right) × Settles workers queues q s right es doubt
 
--- queue q is settled with its shard, of those that come last first, and its right to pop
+-- queue q is settled with its shard, the last of the list, and its right to pop
 abbrev pub SettlesAt : ℕ → List QueueId → List ShardId → BTreeMap ℕ PassId → ℕ → List Entry → Option Doubt → Type 0
 SettlesAt workers queues shards rights q es doubt =
     (j : ℕ) × (s : ShardId) × (right : PassId) × At shards j s × (j + q + 1 ≡ length shards) × (get nat_cmp rights q ≡ Some right)
@@ -101,64 +101,64 @@ Stands es (Seen u q) = has_url u es ≡ true
 abbrev pub StandsAt : List (List Entry) → Logged → Type 0
 StandsAt lists l = (es : List Entry) → At lists (queue_of l) es → Stands es l
 
--- what is known of each list became more, and stayed what is known of that list
+-- more is known of each list, and what was known is still true
 abbrev pub AreRaised : List KnownList → List KnownList → Type 0
 AreRaised before after = (length after ≡ length before)
     × ((q : ℕ) (t : KnownList) → At before q t → (u : KnownList) × At after q u × (u.list ≡ t.list) × Stays t.items u.items)
 
--- of shards that come last first: the shard of queue q, at home
+-- the list of shards, last first, has the shard of queue q in its place
 abbrev pub IsHome : List ShardId → ℕ → ShardId → Type 0
 IsHome shards q s = (s.queue ≡ q) × ((j : ℕ) × At shards j s × (j + q + 1 ≡ length shards))
 
--- what is known of each list holds in its shard's, if that is at home
+-- what is known of each list is true of its shard, if that is in its place
 abbrev pub AreToldOf : List ShardId → List KnownList → Type 0
 AreToldOf shards told = (q : ℕ) (s : ShardId) (t : KnownList) → IsHome shards q s → At told q t → Stays t.items s.sent
 
--- each line of a log is true of its queue's shard, if that is at home
+-- each line of a log is true of its queue's shard, if that is in its place
 abbrev pub LogIsOf : List ShardId → List Logged → Type 0
 LogIsOf shards log = (k : ℕ) (l : Logged) (s : ShardId) → At log k l → IsHome shards (queue_of l) s → Stands s.sent l
 
 abbrev pub LogsAreOf : List ShardId → List BookId → Type 0
 LogsAreOf shards books = (j : ℕ) (b : BookId) → At books j b → LogIsOf shards b.log
 
--- the count of subqueue q is not that of the list there
+-- the count for subqueue q differs from that of the list
 abbrev pub CountFails : ℕ → List (List Entry) → BookId → Type 0
 CountFails q lists b = (es : List Entry) × (n : ℕ) × At lists q es × At b.counts q n × (n ≢ count_of b.id es)
 
--- the books do not agree with the list there
+-- the books do not agree with the list
 abbrev pub DisagreesAt : ℕ → List (List Entry) → BookId → Type 0
 DisagreesAt q lists b = (es : List Entry) × At lists q es × (¬ Agrees q es b)
 
 abbrev pub OneDisagrees : ℕ → List (List Entry) → List BookId → Type 0
 OneDisagrees q lists books = (j : ℕ) × (b : BookId) × At books j b × DisagreesAt q lists b
 
--- below `least` each line of the log is true of its subqueue's list
+-- for each subqueue below `least`, each line of the log is true of its list
 abbrev pub LogStands : ℕ → List (List Entry) → List Logged → Type 0
 LogStands least lists log = (k : ℕ) (l : Logged) → At log k l → queue_of l < least → StandsAt lists l
 
 abbrev pub LogsStand : ℕ → List (List Entry) → List BookId → Type 0
 LogsStand least lists books = (j : ℕ) (b : BookId) → At books j b → LogStands least lists b.log
 
--- below `least` each count is that of the list
+-- for each subqueue below `least`, the count is that of the list
 abbrev pub CountsStand : ℕ → List (List Entry) → BookId → Type 0
 CountsStand least lists b = (q : ℕ) (es : List Entry) → q < least → At lists q es → slice_get b.counts q ≡ Some (count_of b.id es)
 
--- below `least` the books agree with the lists
+-- for each subqueue below `least`, the books agree with its list
 abbrev pub AgreesBelow : ℕ → List (List Entry) → BookId → Type 0
 AgreesBelow least lists b = (q : ℕ) (es : List Entry) → q < least → At lists q es → Agrees q es b
 
--- below `least` each list keeps its rule
+-- for each subqueue below `least`, its list keeps its rule
 abbrev pub KeepRuleBelow : ℕ → ℕ → List (List Entry) → Type 0
 KeepRuleBelow workers least lists = (q : ℕ) (es : List Entry) → q < least → At lists q es → KeepsRule workers q [] es
 
 abbrev pub AllAre : {X : Type 0} → (X → Type 0) → List X → Type 0
 AllAre P xs = (j : ℕ) (x : _) → At xs j x → P x
 
--- of queues below `settled`, `least` is the first at which some books disagree; and there is none if they are equal
+-- of the queues below `settled`, `least` is the first at which some books disagree; if there is none, the two are equal
 abbrev pub AgreeTo : ℕ → ℕ → List (List Entry) → List BookId → Type 0
 AgreeTo least settled lists books = (least ≤ settled) × AllAre (AgreesBelow least lists) books × (least < settled → OneDisagrees least lists books)
 
--- Once the books are compared with the lists, the run has its account, or the least queue that is not settled is known.
+-- After the books are compared with the lists, the run has its account, or the least queue that is not settled is known.
 pub record CanCompare (workers : ℕ) (closed : List WorkerId) (senders : List SenderId) (s : Settled) : Type 0 where
   pub workers_are : s.workers ≡ workers
   pub len : length s.lists.items ≡ workers
@@ -169,15 +169,15 @@ pub record CanCompare (workers : ℕ) (closed : List WorkerId) (senders : List S
   pub account : (least : ℕ) → workers ≤ least → AgreeTo least s.least s.lists.items (map book_of s.books.items) → Accounts workers closed senders s.lists.items
   pub fault : (least : ℕ) → least < workers → AgreeTo least s.least s.lists.items (map book_of s.books.items) → FinishFails workers closed senders (Disagree least)
 
--- the set has the ids of the books, and no other
+-- the set has exactly the ids of the books
 pub record IdsOf (books : List BookId) (ids : BTreeSet ℕ) : Type 0 where
   pub of_books : (s : ℕ) → contains nat_cmp ids s ≡ true → (j : ℕ) × (b : BookId) × At books j b × (b.id ≡ s)
   pub all : (j : ℕ) (b : BookId) → At books j b → contains nat_cmp ids b.id ≡ true
 
--- each entry's sender is in the set
+-- the sender of each entry is in the set
 abbrev pub SendersIn : BTreeSet ℕ → List Entry → Type 0
 SendersIn ids es = (k : ℕ) (e : Entry) → At es k e → contains nat_cmp ids e.sender ≡ true
 
--- some entry's sender is not in the set
+-- the sender of some entry is not in the set
 abbrev pub Stranger : BTreeSet ℕ → List Entry → Type 0
 Stranger ids es = (k : ℕ) × (e : Entry) × At es k e × (contains nat_cmp ids e.sender ≡ false)

@@ -1,4 +1,4 @@
--- What an offer returns, and what it does to the books and the pass of the part that makes it.
+-- The result of an offer, and what the offer does to the books and the pass of its sender.
 use Rattle.std.specs.Prelude.{◌≡◌, ◌≢◌, ◌⊎◌, ℕ, ◌^◌, ◌<◌, ◌≤◌, true, List, Some, Ok, Err, Result, slice_get, slice_set}
 use Rattle.crawl_keys.specs.Assignment.{subqueue_of}
 use Rattle.crawl_gate.specs.View.{knows_closed, fresh_view}
@@ -18,7 +18,7 @@ use Rattle.crawl_queues.specs.Logs.{Has}
 use Rattle.crawl_frontier.specs.Units.{GaveBack}
 use Rattle.crawl_queues.specs.Books.{BookId, book_accepting, book_seeing}
 
--- what of the shard's result is known once the lock is released
+-- what is known of the shard's result after the lock is released
 abbrev pub Replies : List ℕ → ℕ → ℕ → SeatId → Admit → Type 0
 Replies url own hops unit (admit.Admitted n i) = (n ≡ own) × (own < 2 ^ 63) × (hops ≤ hops_limit)
 Replies url own hops unit (admit.Crossed found u) = (found ≢ own) × (u ≡ unit)
@@ -26,7 +26,7 @@ Replies url own hops unit (admit.Seen there i u) = (there ≡ url) × (u ≡ uni
 Replies url own hops unit (admit.TooFar u) = (hops_limit < hops) × (u ≡ unit)
 Replies url own hops unit (admit.NoMemory u) = u ≡ unit
 
--- the index that the shard returned is true of the lists as they are known
+-- the index that the shard returned is right for the lists as they are known
 abbrev pub IsKnown : List (List Entry) → ℕ → List ℕ → ℕ → ℕ → Admit → Type 0
 IsKnown lists q url id hops (admit.Admitted n i) = Has lists q i (entry url id n hops)
 IsKnown lists q url id hops (admit.Crossed found u) = Unit {0}
@@ -34,7 +34,7 @@ IsKnown lists q url id hops (admit.Seen there i u) = (e : Entry) × Has lists q 
 IsKnown lists q url id hops (admit.TooFar u) = Unit {0}
 IsKnown lists q url id hops (admit.NoMemory u) = Unit {0}
 
--- the books before and after, by the result
+-- the books before and after an offer, by its result
 abbrev pub OfferBooks : ℕ → BookId → BookId → List ℕ → ℕ → Result Offer OfferError → Type 0
 OfferBooks workers b b' url hops (Ok (Accepted q n)) =
     (q ≡ subqueue_of url workers) × (slice_get b.counts q ≡ Some n) × (hops ≤ hops_limit) × (b' ≡ book_accepting b q n (entry url b.id n hops))
@@ -43,7 +43,7 @@ OfferBooks workers b b' url hops (Err (Crossed own found)) = (b' ≡ b) × (slic
 OfferBooks workers b b' url hops (Err TooFar) = (b' ≡ b) × (hops_limit < hops)
 OfferBooks workers b b' url hops (Err _) = b' ≡ b
 
--- of an offer after it has entered: it keeps the pass if the URL was accepted, and else has the one that the unit became
+-- the passes of an offer that has entered: if the URL was accepted, the sender keeps its pass; otherwise it gets the one that the unit became
 abbrev pub Delivers : SeatId → SeatId → SeatId → Result Offer OfferError → Type 0
 Delivers pass pass' unit (Ok (Accepted q n)) = pass' ≡ pass
 Delivers pass pass' unit (Ok Seen) = GaveBack unit pass'
@@ -56,7 +56,7 @@ Delivers pass pass' unit (Err _) = ⊥
 abbrev pub EntersAndLeaves : SeatId → SeatId → Type 0
 EntersAndLeaves pass pass' = (u : SeatId) × EntersAtLast pass (enter.Entered u) × GaveBack u pass'
 
--- the words that a sender's pass met, by the result
+-- the words that a sender's pass meets, by the result
 abbrev pub OfferWords : SeatId → SeatId → Result Offer OfferError → Type 0
 OfferWords pass pass' (Ok (Accepted q n)) = ((u : SeatId) × EntersAtLast pass (enter.Entered u)) × (pass'.view ≡ fresh_view pass.view.max_pending)
 OfferWords pass pass' (Ok Seen) = EntersAndLeaves pass pass'
@@ -67,7 +67,7 @@ OfferWords pass pass' (Err TooFar) = EntersAndLeaves pass pass'
 OfferWords pass pass' (Err NoMemory) = (pass' ≡ pass) ⊎ EntersAndLeaves pass pass'
 OfferWords pass pass' (Err Filtered) = pass' ≡ pass
 
--- likewise for one with a unit, whose seat makes the loads
+-- likewise for a sender that holds a unit, with which it makes the loads
 abbrev pub EntersAndLeavesBeside : SeatId → SeatId → SeatId → SeatId → Type 0
 EntersAndLeavesBeside held held' pass pass' = (u : SeatId) × EntersAtLastBeside held held' pass (enter.Entered u) × GaveBack u pass'
 
@@ -82,7 +82,7 @@ OfferWordsBeside held held' pass pass' (Err TooFar) = EntersAndLeavesBeside held
 OfferWordsBeside held held' pass pass' (Err NoMemory) = ((held' ≡ held) × (pass' ≡ pass)) ⊎ EntersAndLeavesBeside held held' pass pass'
 OfferWordsBeside held held' pass pass' (Err Filtered) = (held' ≡ held) × (pass' ≡ pass)
 
--- the results of a sender that knows the gate closed
+-- the results for a sender that knows that the gate is closed
 abbrev pub IsLate : Result Offer OfferError → Type 0
 IsLate (Err Closed) = Unit {0}
 IsLate (Err Filtered) = Unit {0}

@@ -1,11 +1,11 @@
--- What contracts see of the parts of a shard.
+-- What contracts see of shards, workers, senders and the seeder.
 use Rattle.std.specs.Prelude.{ℕ, List}
 use Rattle.crawl_gate.specs.Seat.{SeatId}
 use Rattle.crawl_queues.specs.declared.entry.Entry.{Entry}
 use Rattle.crawl_queues.specs.declared.entry.Message.{Message}
 use Rattle.crawl_queues.specs.Books.{BookId}
 
--- a shard's queue and the list sent
+-- a shard's queue, and its list of accepted URLs
 pub record ShardId : Type 0 where
   pub queue : ℕ
   pub sent : List Entry
@@ -13,7 +13,7 @@ pub record ShardId : Type 0 where
 abbrev pub shard : ℕ → List Entry → ShardId
 shard queue sent = record { queue = queue; sent = sent }
 
--- a worker's queue, its pass of the gate, the list that it took, how many of its pops found nothing, and its books
+-- a worker's queue, its pass of the gate, the list that it took, the number of its pops that found nothing, and its books
 pub record WorkerId : Type 0 where
   pub queue : ℕ
   pub seat : SeatId
@@ -40,7 +40,7 @@ pub record SenderId : Type 0 where
 abbrev pub sender_with : BookId → SeatId → SenderId
 sender_with book seat = record { book = book; seat = seat }
 
--- the seeder's, in addition to the opening unit
+-- likewise for the seeder, which also has the opening unit
 pub record SeederId : Type 0 where
   pub book : BookId
   pub opening : SeatId

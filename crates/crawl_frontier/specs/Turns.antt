@@ -1,4 +1,4 @@
--- What a worker's `next` and `done` return.
+-- The results of a worker's `next` and `done`.
 use Rattle.std.specs.Prelude.{◌≡◌, ◌⊎◌, ℕ, ◌+◌, ◌<◌, [], ◌∷◌, ◌++◌}
 use Rattle.crawl_gate.specs.Word.{open_at, closed_at}
 use Rattle.crawl_gate.specs.Seat.{SeatId, after_looking, after_not_closing, after_closing}
@@ -8,7 +8,7 @@ use Rattle.crawl_queues.specs.Entries.{MayFollow}
 use Rattle.crawl_frontier.specs.Units.{GaveBack}
 use Rattle.crawl_frontier.specs.Parts.{WorkerId, BusyId, worker}
 
--- the unit that a message came with, after a load that found the gate open
+-- the unit of a message, after a load that found the gate open
 abbrev pub LoadedHeld : SeatId → SeatId → Type 0
 LoadedHeld u u' = (n : ℕ) × (0 < n) × (u' ≡ after_looking u (open_at n))
 
@@ -22,6 +22,6 @@ Turns n w (Closed v) =
     ((v.seat ≡ after_closing w.seat (open_at 0)) ⊎ (v.seat ≡ after_not_closing w.seat (closed_at 0)))
     × (v ≡ worker w.queue v.seat w.taken (w.empty_pops + 1) w.book)
 
--- the unit of the message was given back, and its seat is the worker's pass; all else is as it was
+-- the message's unit was given back and is now the worker's pass; nothing else changed
 abbrev pub Done : BusyId → WorkerId → Type 0
 Done b w = GaveBack b.message.unit w.seat × (w ≡ worker b.worker.queue w.seat b.worker.taken b.worker.empty_pops b.worker.book)

@@ -83,8 +83,8 @@ fn admit<K: Name, R: Wait>(
     unreachable!()
 }
 
-/// Offers a URL with the unit that it entered by. The log has room for one line more, so nothing of the part grows
-/// after the push. If the URL was not accepted, `pass` becomes what was that unit's seat.
+/// Offers a URL with the unit with which it entered. The log has room for one more line, so nothing of the sender is allocated
+/// after the push. If the URL is not accepted, `pass` becomes the pass that this unit was.
 pub(crate) fn deliver<K: Name, R: Wait>(
     rt: &R,
     frontier: &Frontier<K>,

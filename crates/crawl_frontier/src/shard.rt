@@ -1,4 +1,4 @@
-//! What the lock of a queue protects.
+//! The shard of a queue: what the queue's lock protects.
 ghost use Rattle.std.specs.Prelude.{◌≡◌, ◌⊎◌, ◌<◌, ◌≤◌, ◌^◌, [], ℕ, IfOk, IfSome, IsSome, Some, length, slice_get, vec_capacity, vec_len};
 ghost use Rattle.std.specs.BTreeMap.{get};
 ghost use Rattle.std.specs.Ordering.{nat_cmp};

@@ -11,7 +11,7 @@ use crawl_queues::{Book, Entry};
 use std::alloc::{AllocError, Global};
 use std::collections::BTreeSet;
 
-// The ids of all parts.
+// The ids of all workers and senders.
 #[tactic(auto, using(crate::proofs::Settling::ids_more, crate::proofs::Settling::at_book))]
 fn ids_of(alloc: Global, books: &[Book]) -> Result<BTreeSet<u64>, AllocError>
     ensures { IfOk result (λ ids. IdsOf (map book_of books.now) ids) }
@@ -63,7 +63,7 @@ pub fn all_have_parts(
     Ok(all_senders_in(lists, &ids))
 }
 
-// The first queue for which a count differs, or `least` if that is less.
+// The first queue for which a count differs from the list, or `least` if that is less.
 fn counts_stand(lists: &[AcceptedList], book: &Book, least: u32) -> u32
     requires lists { least ≤ length lists.now }
     requires counts { least ≤ length book.now.counts.items }
@@ -79,8 +79,8 @@ fn counts_stand(lists: &[AcceptedList], book: &Book, least: u32) -> u32
     least
 }
 
-/// The first queue for which some part's books disagree with the list, or `least` if that is less. Each line of a log is true,
-/// so equal counts are enough, and no line is read.
+/// The first queue for which some sender's books disagree with the list, or `least` if that is less. Each line of a log is true
+/// already, so it is enough to compare the counts, and no line is read.
 pub fn books_agree(lists: &[AcceptedList], mut books: Vec<Book>, mut least: u32) -> u32
     requires least { least ≤ length lists.now }
     requires books { AllAre (IsBook (length lists.now)) (map book_of books.items) }

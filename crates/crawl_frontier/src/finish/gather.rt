@@ -13,7 +13,7 @@ use crawl_queues::{Book, Name, PopRight};
 use std::alloc::{AllocError, Global};
 use std::collections::BTreeMap;
 
-// Stores a right to pop at its queue. It returns the first queue that two workers have, given that this was `alone` before.
+// Stores a right to pop at its queue. Returns the first queue that two workers have; without this right it was `alone`.
 fn place(
     rights: &mut BTreeMap<u32, PopRight>,
     queue: u32,

@@ -23,7 +23,7 @@ pub enum Doubt {
     Holds(Held),
 }
 
-/// `least`, or this queue if it is less and not good.
+/// Returns `queue` if it is less than `least` and not good, and otherwise `least`.
 pub fn least_of(is_good: bool, queue: u32, least: u32) -> u32
     ensures below { result ≤ least }
     ensures good { queue < result → is_good ≡ true }

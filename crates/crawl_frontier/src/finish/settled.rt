@@ -17,7 +17,7 @@ use crate::shard::Shard;
 use crawl_queues::{Book, Name, Subqueue};
 use std::sync::Mutex;
 
-/// What is compared.
+/// The values that are compared.
 #[derive(Drop)]
 pub struct Settled {
     pub workers: u32,

@@ -40,7 +40,7 @@ fn tell_all<K: Name>(queues: &Vec<Subqueue>, shards: &mut Vec<Shard<K>>, told: &
     }
 }
 
-// The same for the books of a part. These say the same as before.
+// Likewise for the books of a sender. The meaning of its lines stays the same.
 fn tell_book<K: Name>(queues: &Vec<Subqueue>, shards: &mut Vec<Shard<K>>, book: &mut Book)
     requires queues { (queues.now.items ≡ K.queues) × (vec_len queues.now ≡ K.workers) }
     requires shards { vec_len shards.old ≡ K.workers }
