@@ -1,4 +1,4 @@
--- The errors of a run, by its filter, its seeds, its accepted entries and its results.
+-- The errors of a run, from its filter, its seeds, its accepted entries and its results.
 use Rattle.std.specs.Prelude.{ℕ, ◌+◌, ◌==◌, Bool, false, not, ◌&&◌, ◌||◌, List, [], ◌∷◌, if◌then◌else◌, Option, Some, None, bytes_eq}
 use Rattle.std.specs.List.{list_any}
 use Rattle.crawl_queues.specs.declared.entry.Entry.{Entry}
@@ -7,7 +7,7 @@ use Rattle.crawl_certificate.specs.declared.error.CertError.{CertError}
 use Rattle.crawl_certificate.specs.declared.error.CertError.TheVariants as fault
 use Rattle.crawl_pages.specs.Pages.{links_of}
 
--- the URL is accepted: some entry has it
+-- the URL is accepted: an entry has it
 abbrev pub is_accepted : List Entry → List ℕ → Bool
 is_accepted entries url = list_any (λ e. bytes_eq e.url url) entries
 
@@ -18,13 +18,13 @@ has_result results url = list_any (λ r. bytes_eq r.url url) results
 abbrev pub stands_in : List (List ℕ) → List ℕ → Bool
 stands_in urls url = list_any (λ own. bytes_eq own url) urls
 
--- an allowed URL of the list is not accepted; `accepted` says which URLs are
+-- an allowed URL of the list is not accepted; `accepted` tests whether a URL is
 abbrev pub some_missing : (List ℕ → Bool) → (List ℕ → Bool) → List (List ℕ) → Bool
 some_missing allowed accepted urls = list_any (λ url. allowed url && not (accepted url)) urls
 
 -- ---- the errors
 
--- a seed that is allowed is not accepted
+-- an allowed seed is not accepted
 abbrev pub seed_missing : (List ℕ → Bool) → List (List ℕ) → List Entry → Bool
 seed_missing allowed seeds entries = some_missing allowed (is_accepted entries) seeds
 
@@ -32,36 +32,36 @@ seed_missing allowed seeds entries = some_missing allowed (is_accepted entries) 
 abbrev pub not_fetched : List Entry → List PageResult → Bool
 not_fetched entries results = list_any (λ e. not (has_result results e.url)) entries
 
--- a link of a result that is allowed is not accepted
+-- an allowed link of a result is not accepted
 abbrev pub link_missing : (List ℕ → Bool) → List Entry → List PageResult → Bool
 link_missing allowed entries results = list_any (λ r. some_missing allowed (is_accepted entries) (links_of r.page)) results
 
--- the entry has one hop more than an entry with this URL
+-- the entry has one hop more than some entry with this URL
 abbrev pub is_behind : List Entry → List ℕ → Entry → Bool
 is_behind entries url e = list_any (λ before. bytes_eq before.url url && e.hops == before.hops + 1) entries
 
--- the entry is linked from a result of an entry with one hop less
+-- a result of an entry with one hop less links to the entry
 abbrev pub is_linked : List Entry → List PageResult → Entry → Bool
 is_linked entries results e = list_any (λ r. stands_in (links_of r.page) e.url && is_behind entries r.url e) results
 
--- the entry is allowed, and a seed if it has no hops, else linked from a result of an entry with one hop less
+-- the entry is allowed, and is a seed if it has no hops; otherwise a result of an entry with one hop less links to it
 abbrev pub is_founded : (List ℕ → Bool) → List (List ℕ) → List Entry → List PageResult → Entry → Bool
 is_founded allowed seeds entries results e =
     allowed e.url && (if e.hops == 0 then stands_in seeds e.url else is_linked entries results e)
 
--- an entry is not founded, or a result's URL is not accepted
+-- an entry is not founded, or the URL of a result is not accepted
 abbrev pub unfounded : (List ℕ → Bool) → List (List ℕ) → List Entry → List PageResult → Bool
 unfounded allowed seeds entries results =
     list_any (λ e. not (is_founded allowed seeds entries results e)) entries || list_any (λ r. not (is_accepted entries r.url)) results
 
--- two results have one URL
+-- two results have the same URL
 abbrev pub twice : List PageResult → Bool
 twice [] = false
 twice (r ∷ rest) = has_result rest r.url || twice rest
 
 -- ---- their order
 
--- the first of these that holds
+-- the first of these errors that the run has
 abbrev pub first_of : (a b c d e : Bool) → Option CertError
 first_of a b c d e =
     if a then Some fault.SeedMissing

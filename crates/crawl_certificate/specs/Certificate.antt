@@ -1,4 +1,4 @@
--- What a certificate says.
+-- What a certificate states.
 use Rattle.std.specs.Prelude.{◌≡◌, ◌↔◌, ℕ, ◌==◌, ◌<◌, Bool, IsTrue, List, map, length, count_by, slice_get, Option, Some, None, Result, Ok, Err, All, AllPairs, Contains}
 use Rattle.std.specs.Cmp.Lexicographic.{slice_cmp}
 use Rattle.std.specs.Ordering.{nat_cmp}
@@ -14,7 +14,7 @@ use Rattle.crawl_keys.specs.Outcome.{Gives}
 use Rattle.crawl_pages.specs.Pages.{links_of}
 use Rattle.crawl_certificate.specs.Reachable.{Reachable}
 
--- the URLs of entries, and of results, in their order
+-- the URLs of entries, and of results, in order
 abbrev pub entry_urls : List Entry → List (List ℕ)
 entry_urls entries = map (λ e. e.url) entries
 
@@ -25,7 +25,7 @@ result_urls results = map (λ r. r.url) results
 abbrev pub IsAscending : List (List ℕ) → Type 0
 IsAscending urls = AllPairs (λ a b. slice_cmp nat_cmp a b ≡ Less) urls
 
--- each result has the page that its URL means
+-- each result has the page that the source has at its URL
 abbrev pub ArePages : (List ℕ → Page) → List PageResult → Type 0
 ArePages meaning results = All (λ r. r.page ≡ meaning r.url) results
 
@@ -33,24 +33,25 @@ ArePages meaning results = All (λ r. r.page ≡ meaning r.url) results
 abbrev pub AreReachable : (List ℕ → Page) → (List ℕ → Bool) → List (List ℕ) → List (List ℕ) → Type 0
 AreReachable page allowed seeds urls = (url : List ℕ) → Contains urls url ↔ Reachable page allowed seeds url
 
--- the number of entries in each of the account's queues is the number of URLs that belong to the queue
+-- for each of the account's queues, the number of its entries is that of the URLs that belong to the queue
 abbrev pub CountsOf : AccountId → List (List ℕ) → Type 0
 CountsOf account urls =
     (queue : ℕ) (entries : List Entry) → queue < account.workers → slice_get account.queues queue ≡ Some entries
     → count_by (λ url. subqueue_of url account.workers == queue) urls ≡ length entries
 
--- the pages of a whole crawl: the URLs that can be reached, ascending and so each once, each with the page that it means
+-- the pages of a whole crawl: the URLs that can be reached, each once and in ascending order, with the pages that the source has
+-- there
 pub record IsCrawl (meaning : List ℕ → Page) (allowed : List ℕ → Bool) (seeds : List (List ℕ)) (pages : List PageResult) : Type 0 where
   pub ascends : IsAscending (result_urls pages)
   pub means : ArePages meaning pages
   pub reached : AreReachable meaning allowed seeds (result_urls pages)
 
--- a refusal for the error, and none if there is no error
+-- the error if there is one, and otherwise Ok
 abbrev pub unless_fault : Option CertError → Result (Unit {0}) CertError
 unless_fault None = Ok tt
 unless_fault (Some fault) = Err fault
 
--- the result is a refusal for the error, and Ok if there is no error, unless memory ran out
+-- the result is the error if there is one, and otherwise Ok; or it is out of memory
 abbrev pub Tells : {T : Type 0} → Result T CertError → Option CertError → Type 0
 Tells result fault = Gives NoMemory (λ _. tt) result (unless_fault fault)
 
@@ -58,7 +59,7 @@ Tells result fault = Gives NoMemory (λ _. tt) result (unless_fault fault)
 abbrev pub AllowedAreIn : (List ℕ → Bool) → List (List ℕ) → List (List ℕ) → Type 0
 AllowedAreIn allowed those urls = All (λ url. IsTrue (allowed url) → Contains those url) urls
 
--- allowed seeds and links are entries, and entries have results
+-- each allowed seed and link is an entry, and each entry has a result
 pub record NothingLost (allowed : List ℕ → Bool) (seed_urls : List (List ℕ)) (entries : List Entry) (results : List PageResult) : Type 0 where
   pub seeds : AllowedAreIn allowed (entry_urls entries) seed_urls
   pub fetched : All (λ e. Contains (result_urls results) e.url) entries

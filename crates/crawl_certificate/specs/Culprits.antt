@@ -1,4 +1,4 @@
--- Which URL has the error of a run that is not certified.
+-- The URL that has the error of a run that is not certified.
 use Rattle.std.specs.Prelude.{◌≡◌, ◌⊎◌, ℕ, Bool, false, not, ◌&&◌, ◌||◌, List, nat_lt, count_by, Option, Some, None, Result, Ok, Err, bytes_eq}
 use Rattle.std.specs.List.{list_any}
 use Rattle.crawl_queues.specs.declared.entry.Entry.{Entry}
@@ -29,7 +29,7 @@ abbrev pub is_unfounded : (List ℕ → Bool) → List (List ℕ) → List Entry
 is_unfounded allowed seeds entries results url =
     list_any (λ e. bytes_eq e.url url && not (is_founded allowed seeds entries results e)) entries
 
--- two results have the URL
+-- two results have this URL
 abbrev pub is_twice : List PageResult → List ℕ → Bool
 is_twice results url = nat_lt 1 (count_by (λ r. bytes_eq r.url url) results)
 
@@ -45,28 +45,28 @@ is_at_fault allowed seeds entries results fault.NoMemory url = false
 
 -- ---- the culprit
 
--- out of memory, at no URL
+-- out of memory, without a URL
 abbrev pub no_memory : Culprit
 no_memory = record { cause = fault.NoMemory; url = None }
 
--- the cause is the error, and the URL the least that has it
+-- the culprit has this error as its cause, and the least URL that has the error
 pub record IsCulprit (fault : Option CertError) (at : CertError → List ℕ → Bool) (culprit : Culprit) : Type 0 where
   pub url : List ℕ
   pub cause : fault ≡ Some culprit.cause
   pub named : culprit.url ≡ Some url
   pub least : IsLeast (at culprit.cause) (Some url)
 
--- the result is Ok if there is no error, and else names its culprit, unless memory ran out
+-- the result is the culprit of the error if there is one, and otherwise Ok; or it is out of memory
 abbrev pub Names : {T : Type 0} → Result T Culprit → Option CertError → (CertError → List ℕ → Bool) → Type 0
 Names (Ok x) fault at = fault ≡ None
 Names (Err culprit) fault at = IsCulprit fault at culprit ⊎ (culprit ≡ no_memory)
 
--- as above, of a whole run
+-- likewise for a whole run
 abbrev pub NamesCulprit : {T : Type 0} → (List ℕ → Bool) → List (List ℕ) → List Entry → List PageResult → Result T Culprit → Type 0
 NamesCulprit allowed seeds entries results result =
     Names result (first_fault allowed seeds entries results) (is_at_fault allowed seeds entries results)
 
--- if a run does not have an error, no URL has it: so no URL has an error that comes before a culprit's
+-- if a run does not have an error, no URL has it. So no URL has an error that comes before the culprit's
 pub record HasNoneAt (allowed : List ℕ → Bool) (seed_urls : List (List ℕ)) (entries : List Entry) (results : List PageResult) : Type 0 where
   pub seeds : seed_missing allowed seed_urls entries ≡ false → (url : List ℕ) → is_at_fault allowed seed_urls entries results fault.SeedMissing url ≡ false
   pub fetched : not_fetched entries results ≡ false → (url : List ℕ) → is_at_fault allowed seed_urls entries results fault.NotFetched url ≡ false
@@ -74,9 +74,9 @@ pub record HasNoneAt (allowed : List ℕ → Bool) (seed_urls : List (List ℕ))
   pub founded : unfounded allowed seed_urls entries results ≡ false → (url : List ℕ) → is_at_fault allowed seed_urls entries results fault.Unfounded url ≡ false
   pub once : twice results ≡ false → (url : List ℕ) → is_at_fault allowed seed_urls entries results fault.Twice url ≡ false
 
--- ---- how it is found
+-- ---- how the culprit is found
 
--- the first of these that is there, with its cause
+-- the first of these URLs that is not none, and the error of its place
 abbrev pub first_named : (a b c d e : Option (List ℕ)) → Option (CertError × List ℕ)
 first_named (Some url) b c d e = Some (fault.SeedMissing, url)
 first_named None (Some url) c d e = Some (fault.NotFetched, url)
@@ -85,7 +85,7 @@ first_named None None None (Some url) e = Some (fault.Unfounded, url)
 first_named None None None None (Some url) = Some (fault.Twice, url)
 first_named None None None None None = None
 
--- the result is Ok if there is none, and else names it, unless memory ran out
+-- the result is that URL with its error, or Ok if all are none; or it is out of memory
 abbrev pub NamesFirst : Option (CertError × List ℕ) → Result (Unit {0}) Culprit → Type 0
 NamesFirst first (Ok x) = first ≡ None
 NamesFirst first (Err culprit) =

@@ -5,11 +5,11 @@ use Rattle.std.specs.BTreeSet.{BTreeSet, contains}
 use Rattle.hash_order.specs.HashOrder.{by_hash}
 use Rattle.crawl_queues.specs.declared.entry.Entry.{Entry}
 
--- what the references point to
+-- the values to which the references point
 abbrev pub pointed : {X : Type 0} → List (Bor X) → List X
 pointed xs = map (λ x. x.now) xs
 
--- there is an entry, and it has the URL
+-- there is an entry, and it has this URL
 abbrev pub at_this : Option Entry → List ℕ → Bool
 at_this None url = false
 at_this (Some e) url = bytes_eq e.url url
@@ -18,7 +18,7 @@ at_this (Some e) url = bytes_eq e.url url
 abbrev pub stands_at : List Entry → ℕ → List ℕ → Bool
 stands_at entries index url = at_this (slice_get entries index) url
 
--- the index of the one entry with the URL, and none if no entry has it
+-- the index of the only entry with the URL, or none if no entry has it
 abbrev pub Finds : List Entry → List ℕ → Option ℕ → Type 0
 Finds entries url None = (k : ℕ) (e : Entry) → slice_get entries k ≡ Some e → bytes_eq url e.url ≡ false
 Finds entries url (Some index) =

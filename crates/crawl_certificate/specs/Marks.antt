@@ -1,4 +1,4 @@
--- What a pass over results finds, and two such passes put together.
+-- What a pass over results finds, and the combination of two passes.
 use Rattle.std.specs.Prelude.{◌≡◌, ℕ, Bool, ◌&&◌, ◌||◌, List, [], ◌∷◌, map, slice_get, Option, None, Some, true, bytes_eq}
 use Rattle.std.specs.List.{list_any}
 use Rattle.crawl_queues.specs.declared.entry.Entry.{Entry}
@@ -16,17 +16,17 @@ pub record AreMarks (allowed : List ℕ → Bool) (entries : List Entry) (result
   pub stray : IsLeast (is_a_stray entries results) (url_of marks.told.stray)
   pub twice : url_of marks.told.stray ≡ None → IsLeast (is_twice results) (url_of marks.told.twice)
 
--- each entry that is marked passes the test
+-- each marked entry passes the test
 abbrev pub MarksOnly : (Entry → Bool) → List Entry → List Bool → Type 0
 MarksOnly test entries marks = (k : ℕ) (e : Entry) → slice_get entries k ≡ Some e → slice_get marks k ≡ Some true → test e ≡ true
 
--- entry by entry, whether it is marked in one of the two
+-- an entry is marked if it is marked in one of the two lists
 abbrev pub in_one : List Bool → List Bool → List Bool
 in_one marks [] = marks
 in_one [] (y ∷ ys) = []
 in_one (x ∷ xs) (y ∷ ys) = (x || y) ∷ in_one xs ys
 
--- what is found is what two passes found together; `both` is the least URL of an entry that both found a result of
+-- what is found is what the two passes found; `both` is the least URL of an entry for which both found a result
 pub record AreTogether (entries : List Entry) (first second found : Marks) : Type 0 where
   pub both : Option (List ℕ)
   pub fetched : found.fetched.items ≡ in_one first.fetched.items second.fetched.items

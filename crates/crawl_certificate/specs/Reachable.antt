@@ -1,10 +1,9 @@
--- Which URLs a crawl can reach: those to which a walk over links leads from a seed, by allowed URLs only.
+-- The URLs that a crawl can reach: those to which a walk over links leads from a seed, by allowed URLs only.
 use Rattle.std.specs.Prelude.{◌≡◌, ℕ, ◌+◌, Bool, IsTrue, List, [], ◌∷◌, length, Contains}
 use Rattle.crawl_pages.specs.declared.page.Page.{Page}
 use Rattle.crawl_pages.specs.Pages.{links_of}
 
--- a walk continues from a URL over these: each is among the links of the page of the one before and is allowed, and the
--- last is `end`
+-- a walk continues from a URL along this list: each URL is allowed and is a link of the page before it, and the last URL is `end`
 abbrev pub GoesOn : (List ℕ → Page) → (List ℕ → Bool) → List ℕ → List (List ℕ) → List ℕ → Type 0
 GoesOn page allowed url [] end = url ≡ end
 GoesOn page allowed url (next ∷ rest) end = Contains (links_of (page url)) next × IsTrue (allowed next) × GoesOn page allowed next rest end
@@ -19,7 +18,7 @@ pub record Reachable (page : List ℕ → Page) (allowed : List ℕ → Bool) (s
   pub walk : List (List ℕ)
   pub leads : IsWalk page allowed seeds walk url
 
--- some walk to the URL has n hops, and n + 1 URLs
+-- a walk to the URL has n hops, and so n + 1 URLs
 pub record WalkOf (page : List ℕ → Page) (allowed : List ℕ → Bool) (seeds : List (List ℕ)) (hops : ℕ) (url : List ℕ) : Type 0 where
   pub walk : List (List ℕ)
   pub leads : IsWalk page allowed seeds walk url

@@ -1,4 +1,4 @@
--- Small runs, for the definitions to be tried on.
+-- Small runs, with which the definitions are tested.
 use Rattle.std.specs.Prelude.{ℕ, Bool, true, not, List, [], ◌∷◌, bytes_eq}
 use Rattle.crawl_queues.specs.declared.entry.Entry.{Entry}
 use Rattle.crawl_pages.specs.declared.page.Page.{Page}

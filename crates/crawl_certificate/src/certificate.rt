@@ -1,4 +1,4 @@
-//! When a run is certified.
+//! Certifying a run.
 ghost use Rattle.std.specs.Prelude.{◌≡◌, List, true, length, vec_len, IfOk, OnOk, All, IsPermutation};
 ghost use Rattle.crawl_keys.specs.HostFilter.{allows};
 ghost use Rattle.crawl_certificate.specs.AccountEntries.{entries_of, DifferByUrl};
@@ -31,13 +31,13 @@ use std::alloc::{AllocError, Global};
 use std::marker::Model;
 use std::thread::Threads;
 
-/// What a certified crawl found.
+/// The pages that a certified crawl found.
 #[derive(Drop)]
 pub struct CrawlResult {
     pages: Vec<PageResult>,
 }
 
-// Contracts see what was found as the list of its pages.
+// Contracts see the list of its pages.
 impl Model for CrawlResult {
     ghost use Rattle.std.specs.Prelude.{List};
     ghost use Rattle.crawl_pages.specs.declared.page.PageResult.{PageResult};
@@ -48,7 +48,7 @@ impl Model for CrawlResult {
 }
 
 impl CrawlResult {
-    /// The pages, in ascending order of the bytes of their URLs.
+    /// Returns the pages, in ascending order of the bytes of their URLs.
     pub fn pages(&self) -> &[PageResult]
         ensures { result.now ≡ self.now }
     {
@@ -59,14 +59,14 @@ impl CrawlResult {
 /// How a run is certified.
 #[derive(Clone, Copy)]
 pub struct CertifySettings {
-    /// How many threads share the work. If it is 1, no thread is started.
+    /// The number of threads that share the work. If it is 1, no thread is started.
     pub threads: usize,
-    /// Whether it is known that the run lost nothing. Then most of what is left to check needs no search for a link.
+    /// Whether it is known that the run lost nothing. Then most of the check needs no search for links.
     pub is_lossless: bool,
 }
 
-/// The pages of a crawl if its run is certified, without other threads. The results are copied; [`certify_with`] takes them, and also
-/// returns the URL that has the error.
+/// Returns the pages of a crawl if its run is certified, without other threads. The results are copied. [`certify_with`] takes
+/// them, and also returns the URL that has the error.
 ///
 /// # Errors
 /// The first error that the run has, in the order of [`CertError`]; `NoMemory` if an allocation failed.
@@ -96,12 +96,12 @@ pub fn certify(
     Ok(CrawlResult { pages })
 }
 
-/// The pages of a crawl if its run is certified: a search for each error, and then the results in ascending order. If a thread
-/// cannot be started, the calling thread does its work.
+/// Returns the pages of a crawl if its run is certified: it searches for each error, and then sorts the results. If a thread cannot
+/// be started, the calling thread does its work.
 ///
 /// # Errors
-/// The first error that the run has, in the order of [`CertError`], and the least URL, byte by byte, that has it; or `NoMemory`, at
-/// no URL, if an allocation failed.
+/// The first error that the run has, in the order of [`CertError`], and the least URL, byte by byte, that has it. If an allocation
+/// failed, `NoMemory` without a URL.
 pub fn certify_with<R: Threads + Sync>(
     rt: &R,
     settings: CertifySettings,
@@ -127,13 +127,13 @@ pub fn certify_with<R: Threads + Sync>(
     let accepted = Accepted::of(alloc, account)?;
     let all = Chunk::whole(&accepted, &results);
     find_fault(rt, alloc, settings, filter, seeds, all)?;
-    // Its memory is for the sort.
+    // Its memory can then be used for the sort.
     drop(accepted);
     let pages = in_order(rt, alloc, results, settings.threads)?;
     Ok(CrawlResult { pages })
 }
 
-/// Ok if the run has no error.
+/// Returns Ok if the run has no error, and otherwise the first error and its least URL.
 fn find_fault<'a, R: Threads + Sync>(
     rt: &R,
     alloc: Global,
@@ -155,7 +155,7 @@ fn find_fault<'a, R: Threads + Sync>(
     fault_by_marks(alloc, filter, seeds, whole.accepted, marks)
 }
 
-/// Ok if the run has no error, by what a pass over the results found.
+/// Likewise, from what a pass over the results found.
 fn fault_by_marks<'a>(
     alloc: Global,
     filter: &Filter,
@@ -186,7 +186,7 @@ fn fault_by_marks<'a>(
     )
 }
 
-/// An error for the first of these URLs that is there.
+/// Returns the error of the first of these URLs that is not `None`, or Ok if all are.
 fn verdict(
     seed_missing: Option<&CanonUrl>,
     not_fetched: Option<&CanonUrl>,
@@ -214,7 +214,7 @@ fn verdict(
     Ok(())
 }
 
-/// Copies of the results in ascending order of their URLs.
+/// Returns copies of the results in ascending order of their URLs.
 fn sorted_copies(alloc: Global, results: &[PageResult]) -> Result<Vec<PageResult>, AllocError>
     ensures { IfOk result (λ pages. pages.items ≡ results_by_url results.now) }
 {

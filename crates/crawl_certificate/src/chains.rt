@@ -1,40 +1,41 @@
-//! A guess of which entry a link leads to, by the order in which the workers offered links.
+//! Guesses the entry to which a link leads, from the order in which the workers offered links.
 
 use crawl_frontier::{Account, Entry};
 use crawl_keys::{CanonUrl, hash};
 use std::alloc::{AllocError, Global};
 use std::mem;
 
-/// No entry has this index.
+/// An index that no entry has.
 const NONE: usize = usize::MAX;
 
-/// With at most this many workers, a link's hash is compared with those that the worker's chains continue with; else its host is
-/// hashed.
+/// With at most this number of workers, the hash of a link is compared with those of the next entries of the worker's chains. With
+/// more, the link's queue is computed from its host.
 const FEW: u32 = 8;
 
-/// For each worker and subqueue the entries that the worker sent there, in order. No result depends on what it returns.
+/// For each worker and subqueue, the entries that the worker sent there, in order: its chain. No result of a certificate depends on
+/// it.
 #[derive(Drop)]
 pub struct Chains {
     workers: u32,
-    /// For each worker and subqueue the index of the first of them, among all entries.
+    /// For each worker and subqueue, the index of the first entry of its chain, among all entries.
     firsts: Vec<usize>,
-    /// For each entry the index of the next one of the same worker in the same subqueue.
+    /// For each entry, the index of the next one of its chain.
     nexts: Vec<usize>,
 }
 
-/// How far a walk over results has come in the chains of their workers.
+/// The position of a walk over results in the chains of their workers.
 #[derive(Drop)]
 pub struct Heads<'c> {
     chains: &'c Chains,
     entries: &'c [&'c Entry],
-    /// For each worker and subqueue the index of the first of its entries that was not passed.
+    /// For each worker and subqueue, the index of the first entry of the chain that was not passed.
     heads: Vec<usize>,
-    /// The hash of that entry's URL, or 0 if there is none; nothing if there are many workers.
+    /// The hash of that entry's URL, or 0 if there is none. The list is empty if there are many workers.
     hashes: Vec<u64>,
 }
 
 impl Chains {
-    /// Those of an account of `count` entries.
+    /// Computes the chains of an account with `count` entries.
     pub fn of(alloc: Global, account: &Account, count: usize) -> Result<Chains, AllocError> {
         let workers = account.workers();
         let pairs = (workers as usize).saturating_mul(workers as usize);
@@ -52,7 +53,7 @@ impl Chains {
         Ok(chains)
     }
 
-    // Adds the entries of a subqueue, of which the first has this index among all.
+    // Adds the entries of a subqueue. The first of them has index `first` among all.
     fn add(&mut self, queue: u32, first: usize, entries: &[Entry]) {
         for behind in 0..entries.len() {
             let place = entries.len() - 1 - behind;
@@ -60,7 +61,7 @@ impl Chains {
         }
     }
 
-    // Puts an entry before those of its worker in the subqueue. The seeder's are of no worker.
+    // Puts an entry at the front of its worker's chain. Entries of the seeder are in no chain.
     fn put(&mut self, sender: u64, queue: u32, index: usize) {
         let pair = self.pair(sender, queue);
         let Some(head) = self.firsts.get_mut(pair) else {
@@ -81,7 +82,7 @@ impl Chains {
 }
 
 impl<'c> Heads<'c> {
-    /// The state before any entry was passed.
+    /// Returns the position before any entry was passed.
     pub fn of(
         alloc: Global,
         chains: &'c Chains,
@@ -102,7 +103,7 @@ impl<'c> Heads<'c> {
         })
     }
 
-    /// The subqueue of the URL.
+    /// Returns the subqueue of the URL.
     pub fn queue_of(&self, url: &CanonUrl) -> u32 {
         let workers = self.chains.workers;
         if workers < 2 {
@@ -111,7 +112,7 @@ impl<'c> Heads<'c> {
         hash(url.host_key()) % workers
     }
 
-    /// The pair of the worker and a subqueue whose first entry that was not passed may have the URL, if there is one.
+    /// Returns the pair of the worker and a subqueue whose next entry may have the URL, if there is one.
     pub fn pair_with(&self, worker: u32, url: &CanonUrl) -> Option<usize> {
         let worker = u64::from(worker);
         if self.hashes.is_empty() {
@@ -127,12 +128,12 @@ impl<'c> Heads<'c> {
         None
     }
 
-    /// The index of the first entry of the pair that was not passed, or one that no entry has.
+    /// Returns the index of the pair's next entry, or one that no entry has.
     pub fn head(&self, pair: usize) -> usize {
         at(&self.heads, pair)
     }
 
-    /// Passes that entry.
+    /// Passes the pair's next entry.
     pub fn pass(&mut self, pair: usize) {
         let next = at(&self.chains.nexts, at(&self.heads, pair));
         if let Some(head) = self.heads.get_mut(pair) {
@@ -144,7 +145,7 @@ impl<'c> Heads<'c> {
     }
 }
 
-// The hash of the URL of the entry at the index, or 0 if there is none.
+// The hash of the URL of the entry at the index, or 0 if there is no entry.
 fn hash_at(entries: &[&Entry], index: usize) -> u64 {
     match entries.get(index) {
         Some(entry) => entry.url.text_hash(),
@@ -152,7 +153,7 @@ fn hash_at(entries: &[&Entry], index: usize) -> u64 {
     }
 }
 
-// What is at the index, or an index that no entry has.
+// The number at the index, or an index that no entry has.
 fn at(indices: &[usize], index: usize) -> usize {
     match indices.get(index) {
         Some(found) => *found,

@@ -1,23 +1,23 @@
-//! Results that one thread looks at.
+//! The results that one thread checks.
 ghost use Rattle.std.specs.Prelude.{◌≡◌, ◌<◌, ◌≤◌, ◌+◌, ◌^◌, ◌++◌, length};
 
 use crate::lookups::Accepted;
 use crawl_pages::PageResult;
 
-/// Fewer results are not worth another thread.
+/// With fewer results than this, another thread saves no time.
 const MANY: usize = 4096;
 
-/// A chunk of the results, with the entries that they may have.
+/// A chunk of the results, and the entries to which they may belong.
 #[derive(Clone, Copy)]
 pub struct Chunk<'r, 'e, 'a> {
     pub accepted: &'e Accepted<'a>,
-    /// How many results come before this chunk.
+    /// The number of results before this chunk.
     pub first: usize,
     pub results: &'r [PageResult],
 }
 
 impl<'r, 'e, 'a> Chunk<'r, 'e, 'a> {
-    /// All results.
+    /// Returns a chunk of all results.
     pub fn whole(accepted: &'e Accepted<'a>, results: &'r [PageResult]) -> Chunk<'r, 'e, 'a>
         ensures accepted { result.accepted.now ≡ accepted.now }
         ensures results { result.results.now ≡ results.now }
@@ -30,7 +30,7 @@ impl<'r, 'e, 'a> Chunk<'r, 'e, 'a> {
         }
     }
 
-    /// The number of threads, or 1 if there are too few results for another thread.
+    /// Returns the number of threads, or 1 if there are too few results for another thread.
     pub fn threads_worth(&self, threads: usize) -> usize {
         if self.results.len() < MANY {
             1
@@ -39,7 +39,7 @@ impl<'r, 'e, 'a> Chunk<'r, 'e, 'a> {
         }
     }
 
-    /// About half the number of results, such that no queue has entries with results in both halves.
+    /// Returns about half the number of results, such that no queue has entries with results in both halves.
     pub fn queue_border(&self) -> usize
         ensures { result ≤ length self.now.results.now }
     {
@@ -48,7 +48,7 @@ impl<'r, 'e, 'a> Chunk<'r, 'e, 'a> {
         begins.saturating_sub(self.first).min(self.results.len())
     }
 
-    /// The first `count` results, and the others.
+    /// Returns the first `count` results, and the others.
     pub fn split_at(self, count: usize) -> (Chunk<'r, 'e, 'a>, Chunk<'r, 'e, 'a>)
         requires { count ≤ length self.results.now }
         ensures accepted { (result.0.accepted.now ≡ self.entry.accepted.now) × (result.1.accepted.now ≡ self.entry.accepted.now) }

@@ -1,4 +1,4 @@
-//! Which URL has the error of a run that is not certified.
+//! The URL that has the error of a run that is not certified.
 ghost use Rattle.std.specs.Prelude.{◌≡◌, ◌⊎◌, Some};
 ghost use Rattle.crawl_certificate.specs.Culprits.{no_memory};
 
@@ -11,12 +11,12 @@ use std::alloc::AllocError;
 pub struct Culprit {
     /// The first error of the run.
     pub cause: CertError,
-    /// The least URL, byte by byte, that has the error; none if memory ran out.
+    /// The least URL, byte by byte, that has the error. `None` if memory ran out.
     pub url: Option<CanonUrl>,
 }
 
 impl Culprit {
-    /// The error at this URL. There may be no memory to name it.
+    /// Makes the error at this URL. If there is no memory to copy the URL, the error is out of memory.
     pub fn new(cause: CertError, url: &CanonUrl) -> Culprit
         ensures { (result ≡ record { cause = cause; url = Some url.now }) ⊎ (result ≡ no_memory) }
     {

@@ -2,23 +2,23 @@
 use std::alloc::AllocError;
 use thiserror::Error;
 
-/// Why a run is not certified, in the order in which the reasons are looked for.
+/// Why a run is not certified, in the order in which the errors are searched for.
 #[derive(Clone, Copy, Debug, PartialEq, Eq, Error)]
 pub enum CertError {
-    /// A seed that the filter allows is not accepted.
+    /// A seed that the filter allows was not accepted.
     #[error("incomplete: seed missing")]
     SeedMissing,
     /// An entry has no result.
     #[error("incomplete: page not fetched")]
     NotFetched,
-    /// A link of a result that the filter allows is not accepted.
+    /// A link of a result was not accepted, although the filter allows it.
     #[error("incomplete: link missing")]
     LinkMissing,
-    /// The filter does not allow an entry; or the entry has no hops and is no seed; or it has hops, and is linked from no
-    /// result of an entry with one hop less. Or the URL of a result is not accepted.
+    /// The filter does not allow an entry; or the entry has no hops and is not a seed; or it has hops, and no result of an entry
+    /// with one hop less links to it. Or the URL of a result was not accepted.
     #[error("incomplete: unfounded URL")]
     Unfounded,
-    /// Two results have one URL.
+    /// Two results have the same URL.
     #[error("incomplete: fetched twice")]
     Twice,
     /// An allocation failed. This may replace any other result.

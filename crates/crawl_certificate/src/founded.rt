@@ -11,7 +11,7 @@ use crate::lookups::Urls;
 use crawl_frontier::Entry;
 use crawl_keys::{CanonUrl, Filter};
 
-/// The least URL of an entry that is not founded, by marks for those that are linked.
+/// The least URL of an entry that is not founded. `marks` says which entries are linked.
 pub fn least_unfounded<'e, 'a>(
     filter: &Filter,
     seeds: &Urls<'a>,
@@ -30,7 +30,7 @@ pub fn least_unfounded<'e, 'a>(
     least
 }
 
-/// Whether the entry is allowed, and a seed if it has no hops, else linked.
+/// Whether the entry is allowed, and is a seed if it has no hops, or else is linked.
 pub fn is_founded<'a>(filter: &Filter, seeds: &Urls<'a>, entry: &'a Entry, is_linked: bool) -> bool
     ensures { result ≡ (allows filter.now entry.now.url && (if entry.now.hops == 0 then is_in seeds.now entry.now.url else is_linked)) }
 {

@@ -4,14 +4,14 @@ ghost use Rattle.crawl_certificate.specs.Least.{is_below, url_of, url_if, lesser
 
 use crawl_keys::CanonUrl;
 
-/// The URL, if it has the error.
+/// Returns the URL if it has the error.
 pub fn where_at_fault<'a>(url: &'a CanonUrl, at_fault: bool) -> Option<&'a CanonUrl>
     ensures { url_of result ≡ url_if at_fault url.now }
 {
     if at_fault { Some(url) } else { None }
 }
 
-/// The lesser of two URLs, if there are two.
+/// Returns the lesser of two URLs. If one is `None`, the other.
 pub fn lesser<'a>(first: Option<&'a CanonUrl>, second: Option<&'a CanonUrl>) -> Option<&'a CanonUrl>
     ensures { url_of result ≡ lesser (url_of first.entry) (url_of second.entry) }
 {
@@ -24,7 +24,7 @@ pub fn lesser<'a>(first: Option<&'a CanonUrl>, second: Option<&'a CanonUrl>) -> 
     Some(lesser_of(url, other))
 }
 
-/// The lesser of two URLs, byte by byte.
+/// Returns the lesser of two URLs, byte by byte.
 fn lesser_of<'a>(url: &'a CanonUrl, other: &'a CanonUrl) -> &'a CanonUrl
     ensures { result.now ≡ (if is_below other.now url.now then other.now else url.now) }
 {

@@ -1,7 +1,7 @@
 //! The certificate of a crawl: that its results are the pages of exactly the URLs that can be reached.
 //!
-//! [`certify`] looks for five errors of a run in what the run left, its account and its results. If it finds none, no
-//! URL was missed and none was made up, whatever the threads did.
+//! [`certify`] searches a run's account and results for five errors. If it finds none, no URL was missed and none was made up,
+//! whatever the threads did.
 #![tactic(auto)]
 
 mod certificate;
@@ -10,7 +10,7 @@ mod chunk;
 mod culprit;
 mod error;
 mod founded;
-/// What holds of certificates.
+/// Laws about certificates.
 pub mod laws;
 mod least;
 mod lookups;

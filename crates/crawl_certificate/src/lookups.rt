@@ -1,4 +1,5 @@
-//! What is looked up by URL: the entries of an account by its own indices, and sets of borrowed URLs in the order of their hashes.
+//! Look-ups by URL: the entries of an account, by the account's own indices; and sets of borrowed URLs, in the order of their
+//! hashes.
 ghost use Rattle.std.specs.Prelude.{◌≡◌, ◌<◌, ℕ, List, Some, take, length, slice_get, is_some, IfOk, IfSome};
 ghost use Rattle.crawl_keys.specs.Assignment.{subqueue_of};
 ghost use Rattle.crawl_certificate.specs.Queues.{AreQueues};
@@ -13,12 +14,12 @@ use std::alloc::{AllocError, Global};
 use std::collections::BTreeSet;
 use std::marker::Model;
 
-/// What a run accepted: all entries, subqueue by subqueue. To a contract it is the list of these.
+/// All entries that a run accepted, subqueue by subqueue. Contracts see the list of these.
 #[derive(Drop)]
 pub struct Accepted<'a> {
     account: &'a Account,
     entries: Vec<&'a Entry>,
-    /// For each subqueue how many entries come before its own.
+    /// For each subqueue, the number of entries that come before its own.
     firsts: Vec<usize>,
 }
 
@@ -36,7 +37,7 @@ impl<'a> Model for Accepted<'a> {
 }
 
 impl<'a> Accepted<'a> {
-    /// All that the account lists.
+    /// Lists all entries of the account.
     pub fn of(alloc: Global, account: &'a Account) -> Result<Accepted<'a>, AllocError>
         ensures all { IfOk result (λ all. all ≡ entries_of account.now) }
         ensures apart { IfOk result (λ all. DifferByUrl all) }
@@ -57,12 +58,12 @@ impl<'a> Accepted<'a> {
         })
     }
 
-    /// The account.
+    /// Returns the account.
     pub fn account(&self) -> &'a Account {
         self.account
     }
 
-    /// All entries.
+    /// Returns all entries.
     pub fn entries(&self) -> &[&'a Entry]
         ensures entries { pointed result.now ≡ self.now }
         ensures len { length result.now ≡ length self.now }
@@ -70,7 +71,7 @@ impl<'a> Accepted<'a> {
         self.entries.as_slice()
     }
 
-    /// The index at which the entries of a subqueue begin among all, as near to the index as can be.
+    /// Returns the index at which a subqueue's entries begin that is nearest to this index.
     pub fn nearest_first(&self, index: usize) -> usize {
         let mut nearest: usize = 0;
         for first in &self.firsts {
@@ -89,14 +90,14 @@ impl<'a> Accepted<'a> {
         self.entries[index]
     }
 
-    /// The index of the entry with the URL among all, if the URL is accepted.
+    /// Returns the index of the entry with the URL among all entries, or `None` if the URL was not accepted.
     pub fn find(&self, url: &CanonUrl) -> Option<usize>
         ensures found { Finds self.now url.now result }
         ensures accepted { is_some result ≡ is_accepted self.now url.now }
         ensures within { IfSome result (λ index. index < length self.now) }
     {
         let account = self.account;
-        // As `CanonUrl::subqueue`, which requires 1 to 512 of them: an account does not say so.
+        // The same as `CanonUrl::subqueue`, which requires from 1 to 512 workers: the type of an account does not state that.
         let workers = account.workers();
         if workers == 0 {
             return None;
@@ -106,13 +107,13 @@ impl<'a> Accepted<'a> {
         Some(self.firsts[queue as usize] + index)
     }
 
-    /// As [`Accepted::find`], but looks first at the entry at the guess, which may be any.
+    /// As [`Accepted::find`], but tries the entry at the guess first, which may be any index.
     pub fn find_by(&self, guess: usize, url: &CanonUrl) -> Option<usize>
         ensures found { Finds self.now url.now result }
         ensures accepted { is_some result ≡ is_accepted self.now url.now }
         ensures within { IfSome result (λ index. index < length self.now) }
     {
-        // By the account no other entry has the URL.
+        // For the proof: by the account no other entry has the URL.
         let _ = &self.account;
         if self.is_at(guess, url) {
             return Some(guess);
@@ -120,7 +121,7 @@ impl<'a> Accepted<'a> {
         self.find(url)
     }
 
-    /// The entry at the index, if it has the URL.
+    /// Returns the entry at the index, if it has the URL.
     #[tactic(auto, using(crate::proofs::Walks::stands_there, std::proofs::lemmas::Option::slice_get_within, crawl_frontier::proofs::Gets::same_at))]
     pub fn with_url(&self, index: usize, url: &CanonUrl) -> Option<&Entry>
         ensures { IfSome result (λ entry. (slice_get self.now index ≡ Some entry.now) × (entry.now.url ≡ url.now)) }
@@ -146,7 +147,7 @@ impl<'a> Accepted<'a> {
 /// A set of URLs.
 pub type Urls<'a> = BTreeSet<HashedText<'a>>;
 
-/// The URLs as a set.
+/// Makes a set of the URLs.
 pub fn url_set(alloc: Global, urls: &[CanonUrl]) -> Result<Urls<'_>, AllocError>
     ensures { IfOk result (λ set. (url : List ℕ) → is_in set url ≡ stands_in urls.now url) }
 {

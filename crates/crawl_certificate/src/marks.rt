@@ -1,5 +1,5 @@
-//! One pass over the results: which entries have a result, and which are linked. The URL of each result, and each link, is
-//! looked up once.
+//! One pass over the results: which entries have a result, and to which entries results link. The URL of each result, and each
+//! link, is looked up once.
 ghost use Rattle.std.specs.Prelude.{◌≡◌, ◌+◌, ◌==◌, ℕ, Bool, false, ◌&&◌, ◌||◌, not, List, map, length, None, IfOk, bytes_eq};
 ghost use Rattle.crawl_queues.specs.declared.entry.Entry.{Entry};
 ghost use Rattle.crawl_keys.specs.HostFilter.{allows};
@@ -17,23 +17,23 @@ use crawl_keys::{CanonUrl, Filter};
 use crawl_pages::{PageResult, links_of};
 use std::alloc::{AllocError, Global};
 
-/// What is known of results: for each error the least URL that has it.
+/// What results show: for each of these errors, the least URL that has it.
 #[derive(Clone, Copy)]
 pub struct Told<'r, 'e> {
     /// A link that the filter allows is not accepted.
     pub missing: Option<&'r CanonUrl>,
-    /// The URL of a result is not accepted.
+    /// The URL of a result was not accepted.
     pub stray: Option<&'r CanonUrl>,
-    /// Two results have one URL, that of an entry, if no URL of a result is a stray.
+    /// Two results have the same URL, which is that of an entry. Only meaningful if there is no stray.
     pub twice: Option<&'e CanonUrl>,
 }
 
 /// What a pass over the results finds.
 #[derive(Drop)]
 pub struct Marks<'r, 'e> {
-    /// For each entry whether a result has its URL.
+    /// For each entry, whether a result has its URL.
     pub fetched: Vec<bool>,
-    /// For each entry whether it is linked from a result of an entry with one hop less.
+    /// For each entry, whether a result of an entry with one hop less links to it.
     pub linked: Vec<bool>,
     pub told: Told<'r, 'e>,
 }
@@ -53,10 +53,10 @@ impl<'r, 'e> Told<'r, 'e> {
     }
 }
 
-/// What the results say of the entries, and what is wrong with them.
+/// Makes a pass over the results: which entries they mark, and the errors that they show.
 ///
-/// The entry of each result is looked for first after that of the result before it, and of the first one at
-/// the index `first`: each worker's results come in the order of its subqueue's entries.
+/// The entry of the first result is searched for at the index `first`, and that of each other result after the entry of the result
+/// before it: each worker's results are in the order of its subqueue's entries.
 pub fn marks_of<'r, 'e>(
     alloc: Global,
     filter: &Filter,
@@ -76,7 +76,7 @@ pub fn marks_of<'r, 'e>(
     })
 }
 
-/// No mark of any entry.
+/// Returns a list in which no entry is marked.
 #[tactic(auto, using(crate::proofs::Places::none_marked))]
 pub fn no_marks(alloc: Global, accepted: &Accepted<'_>) -> Result<Vec<bool>, AllocError>
     ensures { IfOk result (λ marks. marks.items ≡ map (λ _. false) accepted.now) }
@@ -85,7 +85,7 @@ pub fn no_marks(alloc: Global, accepted: &Accepted<'_>) -> Result<Vec<bool>, All
     Ok(marks)
 }
 
-/// Marks the entries that have a result and those that results link to. Returns the least URL of each error.
+/// Marks the entries that have a result, and those to which results link. Returns the least URL of each error.
 fn mark_results<'r, 'e>(
     filter: &Filter,
     accepted: &'e Accepted<'_>,
@@ -115,8 +115,8 @@ fn mark_results<'r, 'e>(
     told
 }
 
-/// Marks the entry that has the result, and those that are linked from it and have one hop more. `twice` is whether the
-/// entry was marked before. The guess moves to after what was found.
+/// Marks the entry of the result, and the entries to which the result links and that have one hop more. `twice` returns whether the
+/// entry was marked before. The guess becomes the index after the entry that was found.
 fn mark_result<'r, 'e>(
     filter: &Filter,
     accepted: &'e Accepted<'_>,
@@ -179,7 +179,7 @@ fn mark_links<'a>(
     missing
 }
 
-/// Marks the entry of the link, if it has one hop more than `hops`. Returns the link if it is allowed and not accepted.
+/// Marks the entry of the link, if it has one hop more than `hops`. Returns the link if it is allowed and was not accepted.
 fn mark<'a>(
     filter: &Filter,
     accepted: &Accepted<'_>,

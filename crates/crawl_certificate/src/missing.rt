@@ -1,4 +1,5 @@
-//! What a run misses: accepted seeds and links, results of entries. For each error the least URL that has it.
+//! What a run misses: seeds and links that were not accepted, and entries without a result. For each error the least URL that has
+//! it.
 ghost use Rattle.std.specs.Prelude.{◌≡◌, ℕ, List, Bool, not, ◌&&◌, map, length, bytes_eq};
 ghost use Rattle.std.specs.List.{list_any};
 ghost use Rattle.crawl_keys.specs.HostFilter.{allows};
@@ -19,7 +20,7 @@ fn is_missing(filter: &Filter, accepted: &Accepted<'_>, url: &CanonUrl) -> bool
     filter.allows(url) && accepted.find(url).is_none()
 }
 
-/// The least allowed URL among these that is not accepted.
+/// Returns the least allowed URL among these that was not accepted.
 pub fn least_missing<'a>(
     filter: &Filter,
     accepted: &Accepted<'_>,
@@ -35,7 +36,7 @@ pub fn least_missing<'a>(
     least
 }
 
-/// The least URL of an entry whose mark is not set.
+/// Returns the least URL of an entry that is not marked.
 pub fn least_unmarked<'e>(entries: &'e [&Entry], marks: &[bool]) -> Option<&'e CanonUrl>
     requires { length marks.now ≡ length entries.now }
     ensures { (marked : List ℕ → Bool) → marks.now ≡ map (λ e. marked e.url) (pointed entries.now) → IsLeast (λ url. list_any (λ e. bytes_eq e.url url && not (marked e.url)) (pointed entries.now)) (url_of result) }

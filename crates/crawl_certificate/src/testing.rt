@@ -1,4 +1,4 @@
-//! For tests only.
+//! Calls for tests only.
 ghost use Rattle.std.specs.Prelude.{IfOk, IfSome};
 ghost use Rattle.crawl_certificate.specs.AccountEntries.{entries_of};
 ghost use Rattle.crawl_certificate.specs.Walks.{IsWalk};
@@ -13,7 +13,7 @@ use std::thread::Threads;
 
 const THREADS: usize = 4;
 
-/// For each entry whether the walk by threads over these results saw that it is linked. Nothing if the results are not in the order
+/// For each entry, whether the walk in threads over these results saw that it is linked. `None` if the results are not in the order
 /// of the entries. No contract says that the walk sees all links: those that it does not see are looked up.
 pub fn seen_linked<R: Threads + Sync>(
     rt: &R,

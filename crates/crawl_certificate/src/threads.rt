@@ -1,4 +1,4 @@
-//! The pass over the results by threads: each has a chunk, and what they find is put together.
+//! The pass over the results in threads: each thread has a chunk, and what they find is combined.
 ghost use Rattle.std.specs.Prelude.{◌≡◌, ◌<◌, Bool, ◌&&◌, map, length, vec_len, IfOk, bytes_eq};
 ghost use Rattle.std.specs.List.{list_any};
 ghost use Rattle.crawl_keys.specs.HostFilter.{allows};
@@ -16,8 +16,8 @@ use crawl_keys::{CanonUrl, Filter};
 use std::alloc::{AllocError, Global};
 use std::thread::{Threads, join};
 
-/// What the chunk says. With several threads each half of it has half of them; a thread that cannot be started has its work done
-/// by this one.
+/// Makes the pass over a chunk. With several threads, the chunk is halved, and each half gets half of the threads. If a thread
+/// cannot be started, the calling thread does its work.
 #[tactic(auto, using(std::proofs::lemmas::Grind::common_steps, crate::proofs::Together::marks_long))]
 pub fn marks_by<'r, 'e, R: Threads + Sync>(
     rt: &R,
@@ -45,7 +45,7 @@ pub fn marks_by<'r, 'e, R: Threads + Sync>(
     Ok(together(chunk.accepted.entries(), first, second))
 }
 
-/// What two passes over results found, put together.
+/// Combines what two passes over results found.
 fn together<'r, 'e>(
     entries: &'e [&Entry],
     first: Marks<'r, 'e>,
@@ -72,7 +72,7 @@ fn together<'r, 'e>(
     }
 }
 
-/// Marks each entry that is marked in `more`, and returns the least URL of an entry that was marked before.
+/// Marks each entry that is marked in `more`, and returns the least URL of an entry that was already marked.
 pub fn add_marks<'e>(
     entries: &'e [&Entry],
     marks: &mut [bool],

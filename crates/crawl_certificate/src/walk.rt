@@ -1,8 +1,9 @@
-//! The check of a run that lost nothing, without a search for any link.
+//! The check of a run that lost nothing, which searches for no links.
 //!
-//! Such a run can only have an unfounded entry, a result whose URL is no entry, or two results with one URL. Results in the order of
-//! the entries are just theirs. The links of a worker's results, in their order, meet the URLs that it was the first to offer in the
-//! order in which each queue accepted them. So a link is only compared with the next of these.
+//! Such a run can only have an unfounded entry, a result whose URL is not that of an entry, or two results with the same URL. If
+//! the results are in the order of the entries, the last two are excluded. If the links of a worker's results are followed in
+//! order, they meet the URLs that the worker was the first to offer in the order in which each queue accepted them. So a link only
+//! has to be compared with the next of these.
 ghost use Rattle.std.specs.Prelude.{◌≡◌, ◌+◌, ◌<◌, ◌^◌, ◌==◌, ◌&&◌, Bool, List, None, Some, true, false, length, vec_len, IfOk, IfSome, IsSomeAnd, if◌then◌else◌, Contains};
 ghost use Rattle.crawl_queues.specs.declared.entry.Entry.{Entry};
 ghost use Rattle.crawl_keys.specs.HostFilter.{allows};
@@ -48,8 +49,8 @@ pub fn is_faultless<R: Threads + Sync>(
     is_founded_by(alloc, filter, seeds, whole.accepted, linked)
 }
 
-/// For each entry whether the walk over all results saw that it is linked from the result of an entry with one hop less. Nothing if
-/// the results are not those of the entries, in their order.
+/// For each entry, whether the walk over all results saw that a result of an entry with one hop less links to it. `None` if the
+/// results are not those of the entries, in their order.
 pub fn linked_by<R: Threads + Sync>(
     rt: &R,
     alloc: Global,
@@ -62,8 +63,9 @@ pub fn linked_by<R: Threads + Sync>(
     walked_by(rt, alloc, threads, &chains, whole)
 }
 
-/// As [`walked`]. With several threads each half of the chunk has half of them; the links of one worker's results meet no entries
-/// that another one sent. A thread that cannot be started has its work done by this one.
+/// As [`walked`], in threads. With several threads, the chunk is halved, and each half gets half of the threads. The walk marks
+/// only entries that the worker of a result itself sent, so the halves are independent. If a thread cannot be started, the calling
+/// thread does its work.
 fn walked_by<R: Threads + Sync>(
     rt: &R,
     alloc: Global,
@@ -93,7 +95,7 @@ fn walked_by<R: Threads + Sync>(
     Ok(together(chunk.accepted.entries(), first, second))
 }
 
-/// The marks of two walks put together, if both came to their end.
+/// Combines the marks of two walks, if both reached their end.
 fn together(
     entries: &[&Entry],
     first: Option<Vec<bool>>,
@@ -127,8 +129,8 @@ fn is_founded_by(
     Ok(are_founded(filter, &seed_set, accepted.entries(), &marks))
 }
 
-/// Marks of entries that are linked from the result of an entry with one hop less. Nothing if the chunk's results are not those
-/// of the chunk's entries, in their order.
+/// Returns marks of entries to which a result of an entry with one hop less links. `None` if the chunk's results are not those of
+/// the chunk's entries, in their order.
 fn walked(
     alloc: Global,
     chains: &Chains,
@@ -145,8 +147,8 @@ fn walked(
     }
 }
 
-/// Marks entries that are linked from the result of an entry with one hop less. Returns whether the results are those of the
-/// entries, in their order.
+/// Marks entries to which a result of an entry with one hop less links. Returns whether the results are those of the entries, in
+/// their order.
 fn walk(chunk: Chunk<'_, '_, '_>, heads: &mut Heads<'_>, linked: &mut [bool]) -> bool
     requires long { length linked.old ≡ length chunk.accepted.now }
     ensures long { length linked.new ≡ length linked.old }
@@ -167,7 +169,7 @@ fn walk(chunk: Chunk<'_, '_, '_>, heads: &mut Heads<'_>, linked: &mut [bool]) ->
     true
 }
 
-/// Marks entries that are among these links and have one hop more than `hops`.
+/// Marks the entries of these links that have one hop more than `hops`.
 fn walk_page(
     accepted: &Accepted<'_>,
     heads: &mut Heads<'_>,
@@ -185,7 +187,7 @@ fn walk_page(
     }
 }
 
-/// Marks the next entry that the worker sent to the link's queue, if it has the link and one hop more than `hops`.
+/// Marks the next entry that the worker sent to the link's queue, if it has the link's URL and one hop more than `hops`.
 fn mark_next(
     accepted: &Accepted<'_>,
     heads: &mut Heads<'_>,
@@ -211,7 +213,7 @@ fn mark_next(
     }
 }
 
-/// Whether each entry is allowed, and is a seed if it has no hops, otherwise marked.
+/// Whether each entry is allowed, and is a seed if it has no hops, or else is marked.
 fn are_founded<'a>(filter: &Filter, seeds: &Urls<'a>, entries: &[&'a Entry], marks: &[bool]) -> bool
     requires { length marks.now ≡ length entries.now }
     ensures { (holds : Entry → Bool) → result ≡ true → MarksOnly holds (pointed entries.now) marks.now → (e : Entry) → Contains (pointed entries.now) e → (allows filter.now e.url && (if e.hops == 0 then is_in seeds.now e.url else holds e)) ≡ true }
