@@ -1,5 +1,5 @@
--- The gate's half of a state: who holds a unit, which word each sender remembers, and the gate's own steps. The number of units that are held also depends on
--- the subqueues, so each step gets `messages`, the number of accepted messages that are not done.
+-- The gate's half of a state: who holds a unit, which word each sender remembers, and the gate's own steps. The number of units
+-- that are held also depends on the subqueues, so each step gets `messages`, the number of accepted messages that are not done.
 use Rattle.std.specs.Prelude.{ℕ, suc, ◌+◌, Bool, true, false, ◌&&◌, ◌||◌, not, List, [], length, nat_eq, if◌then◌else◌, Option, Some, None}
 use Rattle.std.specs.List.{list_any}
 use Rattle.std.specs.Ordering.{nat_cmp}
@@ -14,8 +14,8 @@ use Rattle.crawl_core.specs.declared.reply.Refusal.{Refusal}
 use Rattle.crawl_core.specs.declared.reply.Refusal.TheVariants as why
 use Rattle.crawl_core.specs.Flags.{one_if, same_flag}
 
--- the senders that hold a unit, in ascending order; the word that each sender remembers, if any, by ascending sender; whether the opening unit is still held;
--- whether the gate is closed; and the maximum of units, which never changes
+-- the senders that hold a unit, in ascending order; the word that each sender remembers, if any, by ascending sender; whether the
+-- opening unit is still held; whether the gate is closed; and the maximum of units, which never changes
 pub record GateSide : Type 0 where
   pub holders : List ℕ
   pub remembered : List (ℕ × Word)

@@ -1,4 +1,5 @@
--- Handing the unit of the URL that a subqueue is busy with to a sender: `Done`, `Look` and `Enter` in one call. And the progress of a subqueue.
+-- Handing the unit of the URL that a subqueue is busy with to a sender: `Done`, `Look` and `Enter` in one call. And the progress of
+-- a subqueue.
 use Rattle.std.specs.Prelude.{◌≡◌, ℕ, suc, ◌-◌, Bool, false, nat_eq, not, ◌&&◌, length, slice_get, if◌then◌else◌, Option, None, Some, option_map}
 use Rattle.crawl_core.specs.declared.event.Event.TheVariants.{Look, Enter, Done}
 use Rattle.crawl_core.specs.declared.progress.Progress.{Progress}

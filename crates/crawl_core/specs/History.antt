@@ -39,7 +39,8 @@ done_by queue _ _ = false
 abbrev pub done_in : ℕ → List (Event × Reply) → ℕ
 done_in queue history = count_by (λ x. done_by queue x.0 x.1) history
 
--- the messages that left the subqueue, in the order in which their URLs were taken: for each URL the message with which the subqueue accepted it
+-- the messages that left the subqueue, in the order in which their URLs were taken: for each URL the message with which the
+-- subqueue accepted it
 abbrev pub left_in : ℕ → List (Event × Reply) → List Message
 left_in queue history = filter_map (message_with (accepted_in queue history)) (taken_urls queue history)
 
@@ -53,7 +54,8 @@ abbrev pub AcceptsOnce : List (Event × Reply) → Type 0
 AcceptsOnce history =
     (queue i j : ℕ) (url : List ℕ) → slice_get (accepted_urls queue history) i ≡ Some url → slice_get (accepted_urls queue history) j ≡ Some url → i ≡ j
 
--- each URL that was taken is that of a message that left, and the messages of one sender left with the numbers 0, 1, 2, .. in this order
+-- each URL that was taken is that of a message that left, and the messages of one sender left with the numbers 0, 1, 2, .. in this
+-- order
 pub record LeavesInOrder (history : List (Event × Reply)) : Type 0 where
   pub leaves : (queue : ℕ) → map (λ m. m.url) (left_in queue history) ≡ taken_urls queue history
   pub numbered : (queue sender k number : ℕ) → slice_get (numbers_of (left_in queue history) sender) k ≡ Some number → number ≡ k

@@ -10,24 +10,24 @@ use Rattle.crawl_core.specs.GateSide.{GateSide, holds, remembers}
 use Rattle.crawl_core.specs.State.{State, count_of}
 use Rattle.crawl_core.specs.History.{accepted_in, accepted_urls, taken_urls, done_in, AreOut, was_closed, was_ended, has_unit, last_word}
 
--- the maximum has room for the opening unit, which is held from the start. With a maximum of 0 it would be exceeded before any event, so no frontier is made
--- with 0
+-- the maximum has room for the opening unit, which is held from the start. With a maximum of 0 it would be exceeded before any
+-- event, so no frontier is made with 0
 abbrev pub HasRoom : ℕ → Type 0
 HasRoom max = 1 ≤ max
 
 abbrev pub AreDifferent : List ℕ → Type 0
 AreDifferent numbers = (i j n : ℕ) → slice_get numbers i ≡ Some n → slice_get numbers j ≡ Some n → i ≡ j
 
--- if this number of units is held: it is at most the maximum, and 0 after the gate was closed; while the gate is open, no sender remembers a closed word; and
--- no sender holds two units
+-- if this number of units is held: it is at most the maximum, and 0 after the gate was closed; while the gate is open, no sender
+-- remembers a closed word; and no sender holds two units
 pub record GateInvariant (gate : GateSide) (count : ℕ) : Type 0 where
   pub within : count ≤ gate.max
   pub empty : gate.closed ≡ true → count ≡ 0
   pub met : gate.closed ≡ false → list_all (λ entry. not entry.1.closed) gate.remembered ≡ true
   pub holders : AreDifferent gate.holders
 
--- no more URLs were taken than were accepted; no URL was accepted twice; the messages of each sender are numbered 0, 1, 2, .. in order; and if the subqueue is
--- busy, a URL was taken from it
+-- no more URLs were taken than were accepted; no URL was accepted twice; the messages of each sender are numbered 0, 1, 2, .. in
+-- order; and if the subqueue is busy, a URL was taken from it
 pub record SubqueueInvariant (queue : Subqueue) : Type 0 where
   pub within : queue.taken ≤ length queue.accepted
   pub distinct : UrlsDiffer queue.accepted
@@ -37,8 +37,8 @@ pub record SubqueueInvariant (queue : Subqueue) : Type 0 where
 abbrev pub EachSubqueue : (Subqueue → Type 0) → State → Type 0
 EachSubqueue P state = (place : ℕ) (queue : Subqueue) → slice_get state.subqueues place ≡ Some queue → P queue
 
--- a subqueue is as the history states: it accepted these messages; the URLs of the first of them were taken, in order, and those of the others wait; and each
--- fetch of a taken URL is done, except the last one if the subqueue is busy
+-- a subqueue is as the history states: it accepted these messages; the URLs of the first of them were taken, in order, and those of
+-- the others wait; and each fetch of a taken URL is done, except the last one if the subqueue is busy
 pub record IsAfter (history : List (Event × Reply)) (place : ℕ) (queue : Subqueue) : Type 0 where
   pub accepted : queue.accepted ≡ accepted_in place history
   pub taken : queue.taken ≡ length (taken_urls place history)

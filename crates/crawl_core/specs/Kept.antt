@@ -1,5 +1,5 @@
--- What the machine stores of a state: the gate's half unchanged, and for each subqueue the URLs that wait, all URLs that it ever accepted, and the number of
--- messages of each sender in place of the messages.
+-- What the machine stores of a state: the gate's half unchanged, and for each subqueue the URLs that wait, all URLs that it ever
+-- accepted, and the number of messages of each sender in place of the messages.
 use Rattle.std.specs.Prelude.{◌≡◌, ℕ, ◌+◌, ◌≤◌, Bool, false, List, [], length, unwrap_or, bytes_eq}
 use Rattle.std.specs.List.{sum_by, list_any}
 use Rattle.std.specs.Ordering.{nat_cmp}
@@ -10,8 +10,8 @@ use Rattle.crawl_core.specs.Flags.{one_if}
 use Rattle.crawl_limits.specs.Limits.{pending_limit}
 use Rattle.crawl_core.specs.GateSide.{GateSide, units_out, shown_word}
 
--- for a subqueue: the URLs that wait, oldest first; all that it ever accepted, oldest first; how many of them are each sender's, by ascending sender; and
--- whether the one that was taken last is not done
+-- for a subqueue: the URLs that wait, oldest first; all that it ever accepted, oldest first; how many of them are each sender's, by
+-- ascending sender; and whether the one that was taken last is not done
 pub record KeptQueue : Type 0 where
   pub waiting : List (List ℕ)
   pub seen : List (List ℕ)

@@ -1,5 +1,5 @@
--- The machine's own table of steps: that of `Step`, with what is kept of a subqueue in place of the subqueue. The gate's half is the same. Each other
--- definition has the name of its counterpart in `Step`.
+-- The machine's own table of steps: that of `Step`, with what is kept of a subqueue in place of the subqueue. The gate's half is
+-- the same. Each other definition has the name of its counterpart in `Step`.
 use Rattle.std.specs.Prelude.{◌≡◌, ℕ, suc, true, false, not, List, [], ◌∷◌, ◌++◌, slice_get, slice_set, if◌then◌else◌, Option, Some, None}
 use Rattle.std.specs.Ordering.{nat_cmp}
 use Rattle.std.specs.BTreeMap.{insert_entry}

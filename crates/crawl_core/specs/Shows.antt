@@ -10,8 +10,8 @@ use Rattle.crawl_core.specs.State.{State}
 use Rattle.crawl_core.specs.Step.{Step}
 use Rattle.crawl_core.specs.Kept.{Kept, KeptQueue, number_at}
 
--- what is kept of a subqueue represents this one: the URLs after those taken wait, all accepted URLs are kept, and the number that is kept for each sender is
--- that of its URLs
+-- what is kept of a subqueue represents this one: the URLs after those taken wait, all accepted URLs are kept, and the number that
+-- is kept for each sender is that of its URLs
 pub record ShowsQueue (kept : KeptQueue) (queue : Subqueue) : Type 0 where
   pub waits : kept.waiting ≡ map (λ m. m.url) (waiting queue)
   pub seen : kept.seen ≡ map (λ m. m.url) queue.accepted

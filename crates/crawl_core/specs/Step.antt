@@ -1,4 +1,5 @@
--- One step of the frontier, composed of the gate's half and those of the subqueues: the reply to an event in a state, and the state after it.
+-- One step of the frontier, composed of the gate's half and those of the subqueues: the reply to an event in a state, and the state
+-- after it.
 use Rattle.std.specs.Prelude.{◌≡◌, ℕ, List, not, slice_get, slice_set, if◌then◌else◌, Option, Some, None}
 use Rattle.crawl_core.specs.declared.event.Event.{Event}
 use Rattle.crawl_core.specs.declared.event.Event.TheVariants.{Look, Enter, Admit, Back, EndSeeds, Take, Done, Close}
@@ -48,7 +49,7 @@ admit_to state sender url place (Some queue) =
     else if has_url queue.accepted url then record { reply = told.Seen; state = state }
     else put state sender url place queue
 
--- `Take`: the oldest message that was not taken, if there is one; its subqueue is then busy
+-- `Take`: the oldest message that waits, if there is one; its subqueue is then busy
 abbrev pub take_oldest : State → ℕ → Subqueue → Option Message → Turn
 take_oldest state place queue None = record { reply = told.Empty; state = state }
 take_oldest state place queue (Some message) = record {
