@@ -20,8 +20,8 @@ IsPart closed senders b = ((k : ℕ) × (w : WorkerId) × At closed k w × (w.bo
 abbrev pub HasWorkers : ℕ → List WorkerId → Type 0
 HasWorkers workers closed = (q : ℕ) → q < workers → (k : ℕ) × (w : WorkerId) × At closed k w × (w.queue ≡ q)
 
--- the books agree with the entries of subqueue q: the entries that they have as accepted are those with their id, in order, and each URL that they have as seen
--- is at its index there
+-- the books agree with the entries of subqueue q: the entries that they have as accepted are those with their id, in order, and
+-- each URL that they have as seen is at its index there
 pub record Agrees (q : ℕ) (es : List Entry) (b : BookId) : Type 0 where
   pub sent : sent_to q b.log ≡ entries_of b.id es
   pub seen : (k : ℕ) (url : List ℕ) → At b.log k (Seen url q) → has_url url es ≡ true
@@ -81,8 +81,8 @@ pub record IsFirstUnsettled (closed : List WorkerId) (senders : List SenderId) (
   pub there : (f : Found) × At found q f × (¬ IsSettled closed senders q f)
   pub below : (p : ℕ) (f : Found) → p < q → At found p f → IsSettled closed senders p f
 
--- The error: a worker is missing; or else the sender of an entry that was found; or else some queue disagrees, and this is the least such queue. No clause of
--- an earlier call has the lists that were found. The error is never that the gate is unsettled.
+-- The error: a worker is missing; or else the sender of an entry that was found; or else some queue disagrees, and this is the
+-- least such queue. No clause of an earlier call has the lists that were found. The error is never that the gate is unsettled.
 abbrev pub FinishFails : ℕ → List WorkerId → List SenderId → FinishError → Type 0
 FinishFails workers closed senders MissingPart =
     (¬ HasWorkers workers closed)

@@ -8,8 +8,9 @@ use Rattle.crawl_frontier.specs.Limits.{hops_limit}
 use Rattle.crawl_queues.specs.Entries.{has_url, count_of, entry}
 use Rattle.crawl_frontier.specs.Parts.{ShardId, shard}
 
--- The shard before and after, the URL, the sender's id and own count, the hops, the unit, and the result. The checks are in this order: the counts differ; the
--- URL is in the list; the hops are above the limit. If none applies, the URL is added at the end. The index that is returned is that of the URL from then on.
+-- The shard before and after, the URL, the sender's id and own count, the hops, the unit, and the result. The checks are in this
+-- order: the counts differ; the URL is in the list; the hops are above the limit. If none applies, the URL is added at the end. The
+-- index that is returned is that of the URL from then on.
 abbrev pub Admits : ShardId → ShardId → List ℕ → ℕ → ℕ → ℕ → SeatId → Admit → Type 0
 Admits s t url id own hops unit (Admitted n i) =
     (n ≡ own) × (own < 2 ^ 63) × (count_of id s.sent ≡ own) × (has_url url s.sent ≡ false) × (hops ≤ hops_limit)

@@ -52,8 +52,8 @@ OwnRight gate workers rights w =
 abbrev pub IsShared : List WorkerId → ℕ → Type 0
 IsShared closed q = (j k : ℕ) × (v w : WorkerId) × At closed j v × At closed k w × (v.queue ≡ q) × (w.queue ≡ q) × (j ≢ k)
 
--- for the closed workers from index `from` on: each has a queue, and the right of that queue is here; at a queue below `alone`, that right is its own, and no
--- other of them has the queue
+-- for the closed workers from index `from` on: each has a queue, and the right of that queue is here; at a queue below `alone`,
+-- that right is its own, and no other of them has the queue
 pub record Placed (gate : GateId) (workers : ℕ) (closed : List WorkerId) (from : ℕ) (rights : BTreeMap ℕ PassId) (alone : ℕ) : Type 0 where
   pub within : (k : ℕ) (w : WorkerId) → At closed k w → from ≤ k → w.queue < workers
   pub there : (k : ℕ) (w : WorkerId) → At closed k w → from ≤ k → is_some (get nat_cmp rights w.queue) ≡ true
@@ -66,8 +66,8 @@ pub record Placed (gate : GateId) (workers : ℕ) (closed : List WorkerId) (from
 abbrev pub RightsOf : List QueueId → BTreeMap ℕ PassId → Type 0
 RightsOf queues rights = (q : ℕ) (p : PassId) → get nat_cmp rights q ≡ Some p → slice_get queues q ≡ Some p.subqueue
 
--- the shard under the lock of queue q, and the right to pop from q: either the shard is this queue's, and what was sent is what was taken; or it is another
--- queue's; or it is this queue's, and the subqueue was not seen to be empty
+-- the shard under the lock of queue q, and the right to pop from q: either the shard is this queue's, and what was sent is what was
+-- taken; or it is another queue's; or it is this queue's, and the subqueue was not seen to be empty
 abbrev pub Shows : List QueueId → ℕ → ShardId → PassId → Option Doubt → Type 0
 Shows queues q s right None = (s.queue ≡ q) × (s.sent ≡ right.view.taken)
 Shows queues q s right (Some (Elsewhere p)) = (p ≡ s.queue) × (p ≢ q)

@@ -43,7 +43,8 @@ OfferBooks workers b b' url hops (Err (Crossed own found)) = (b' ≡ b) × (slic
 OfferBooks workers b b' url hops (Err TooFar) = (b' ≡ b) × (hops_limit < hops)
 OfferBooks workers b b' url hops (Err _) = b' ≡ b
 
--- the passes of an offer that has entered: if the URL was accepted, the sender keeps its pass; otherwise it gets the one that the unit became
+-- the passes of an offer that has entered: if the URL was accepted, the sender keeps its pass; otherwise it gets the one that the
+-- unit became
 abbrev pub Delivers : SeatId → SeatId → SeatId → Result Offer OfferError → Type 0
 Delivers pass pass' unit (Ok (Accepted q n)) = pass' ≡ pass
 Delivers pass pass' unit (Ok Seen) = GaveBack unit pass'
