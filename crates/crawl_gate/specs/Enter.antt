@@ -7,8 +7,8 @@ use Rattle.crawl_gate.specs.Word.{Word, open_at, closed_at}
 use Rattle.crawl_gate.specs.View.{knows_closed, view_looking, view_losing}
 use Rattle.crawl_gate.specs.Seat.{GateId, SeatId, IsSeatOf, with_view, after_looking, after_entering, after_losing}
 
--- One try to enter with a pass. If its load reads a closed word, or an open word with the maximum count, that is the result. Otherwise its exchange reads the
--- same word again and enters, or it reads another word and the try is lost.
+-- One try to enter with a pass. If its load reads a closed word, or an open word with the maximum count, that is the result.
+-- Otherwise its exchange reads the same word again and enters, or it reads another word and the try is lost.
 abbrev pub TriesToEnter : SeatId → Enter → Type 0
 TriesToEnter pass (Entered unit) =
     (n : ℕ) × (n < pass.view.max_pending) × (knows_closed pass.view ≡ false)

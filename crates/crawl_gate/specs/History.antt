@@ -21,8 +21,8 @@ pub record SeatSteps (gate gate' : Moment) (v w : View) (x y : Word) : Type 0 wh
   pub small : x.0 < top_bit
   pub next : gate' ≡ record { words = bits y ∷ []; homes = gate.homes; views = slice_set gate.views seat w }
 
--- A split adds the view of a new pass. Every other step changes only the view of the seat that makes it, and adds its kind to that view. A load, and an
--- exchange that fails, do not change the word.
+-- A split adds the view of a new pass. Every other step changes only the view of the seat that makes it, and adds its kind to that
+-- view. A load, and an exchange that fails, do not change the word.
 pub data GateStep (gate gate' : Moment) : Type 0 where
   splits : (v : View) (seat : ℕ) → get_elem? gate.views seat ≡ some v
       → gate' ≡ record { words = gate.words; homes = gate.homes; views = gate.views ++ fresh_view v.max_pending ∷ [] } → GateStep gate gate'

@@ -7,8 +7,8 @@ use Rattle.crawl_gate.specs.declared.rule.View.{View}
 use Rattle.crawl_gate.specs.GateInvariant.{Moment}
 use Rattle.crawl_gate.specs.Steps.{Sitting, Looks, Enters, Leaves, Closes, view_split, view_split_off}
 
--- What the table allows in a play with the fact `told` (`Allows` of `atomic_table`): a seat without slots finds a number and writes any number, and its new
--- view and an act fulfil `told`.
+-- What the table allows in a play with the fact `told` (`Allows` of `atomic_table`): a seat without slots finds a number and writes
+-- any number, and its new view and an act fulfil `told`.
 pub record PlayMade (told : Sitting → ℕ → Sitting → Type 0) (gate gate' : Moment) : Type 0 where
   pub seat : ℕ
   pub before : View
