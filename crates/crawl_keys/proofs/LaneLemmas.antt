@@ -16,7 +16,8 @@ none_set z few none k inside =
     let all = leading_from_mask_l (top 7) z mask in
     not-true _ (prefix_len_passes (λ x. not (top 7 x)) z k 0 (omega (arith, all)))
 
--- For 16 bytes and the byte before each: a test of each byte, the slashes among the bytes before, and a test of each byte that follows a slash.
+-- For 16 bytes and the byte before each: a test of each byte, the slashes among the bytes before, and a test of each byte that
+-- follows a slash.
 module _ (own slashes begins : ℕ → ℕ) (other : (a : ℕ) → a ≢ 47 → slashes a ≡ 0)
     (first : agree_below (λ b. top 7 (bit_or (own b) (bit_and (slashes 47) (begins b))) || may_begin b) (λ _. true) 256 ≡ true)
     (later : agree_below (λ b. top 7 (bit_or (own b) (bit_and 0 (begins b))) || is_kept b) (λ _. true) 256 ≡ true) where

@@ -1,4 +1,5 @@
--- The text that identifies an http or https URL. The parser and the serializer are those of the URL Standard, as the crate `url` defines them.
+-- The text that identifies an http or https URL. The parser and the serializer are those of the URL Standard, as the crate `url`
+-- defines them.
 use Rattle.std.specs.Prelude.{◌≡◌, ℕ, Bool, true, ◌||◌, List, bytes_eq, codes, Some, None, Result, Ok, Err, if◌then◌else◌}
 use Rattle.url.specs.declared.error.ParseError.{ParseError}
 use Rattle.url.specs.declared.error.ParseError.TheVariants.{OutOfMemory, Overflow}

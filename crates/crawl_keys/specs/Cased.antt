@@ -17,7 +17,8 @@ LeadsAnywhere text url = (base : Option Parts) → text_of_parse (parse_url base
 abbrev pub IsFront : List ℕ → Type 0
 IsFront front = (front ≡ codes "http://") ⊎ (front ≡ codes "https://")
 
--- the front is the scheme in lower case with its slashes, and the port is a colon and the digits of the scheme's default port, which the parser omits
+-- the front is the scheme in lower case with its slashes, and the port is a colon and the digits of the scheme's default port,
+-- which the parser omits
 pub record IsFrontOf (scheme front port : List ℕ) : Type 0 where
   pub digits : List ℕ
   pub web : (lowercase scheme ≡ codes "http") ⊎ (lowercase scheme ≡ codes "https")

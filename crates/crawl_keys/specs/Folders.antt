@@ -10,8 +10,8 @@ use Rattle.url.specs.Path.{without_last_segment}
 abbrev pub is_colon : ℕ → Bool
 is_colon b = b == colon
 
--- Only the folder of the page determines the URL to which such a text leads: the text has no scheme, since it begins with a slash or has no colon; it is more
--- than a query or a fragment; and nothing is trimmed at its start.
+-- Only the folder of the page determines the URL to which such a text leads: the text has no scheme, since it begins with a slash
+-- or has no colon; it is more than a query or a fragment; and nothing is trimmed at its start.
 abbrev pub is_of_folder : List ℕ → Bool
 is_of_folder text =
     nat_lt space (slice_index text 0)

@@ -11,7 +11,8 @@ is_number_sign b = b == number_sign
 abbrev pub ends_visibly : List ℕ → Bool
 ends_visibly text = nat_lt space (slice_index text (length text - 1))
 
--- The text before its fragment. If the end of that would be trimmed, or if it is empty, the text stays whole: `a #f` leads to `a%20`, but `a ` leads to `a`.
+-- The text before its fragment. If the end of that would be trimmed, or if it is empty, the text stays whole: `a #f` leads to
+-- `a%20`, but `a ` leads to `a`.
 abbrev pub before_fragment : List ℕ → List ℕ
 before_fragment text =
     let front = before_first is_number_sign text in

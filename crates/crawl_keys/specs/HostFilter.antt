@@ -21,8 +21,8 @@ is_none (suffix ∷ more) = false
 abbrev pub is_within : List ℕ → List ℕ → Bool
 is_within host suffix = bytes_eq host suffix || ends_with nat_eq host (codes "." ++ suffix)
 
--- whether a filter with these suffixes allows the URL with this canonical text: without a suffix it allows every URL, and otherwise those whose host key is
--- within one of the suffixes
+-- whether a filter with these suffixes allows the URL with this canonical text: without a suffix it allows every URL, and otherwise
+-- those whose host key is within one of the suffixes
 abbrev pub allows : List (List ℕ) → List ℕ → Bool
 allows [] url = true
 allows (suffix ∷ more) url = list_any (is_within (host_key url)) (suffix ∷ more)

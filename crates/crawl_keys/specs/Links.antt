@@ -37,8 +37,8 @@ abbrev pub above : ℕ → List ℕ → List ℕ
 above zero path = path
 above (suc n) path = without_last_segment (above n path)
 
--- After any other path, the parser reads the path of the text as it reads that of the rest after a path that is n folders higher. Both texts have the same
--- query.
+-- After any other path, the parser reads the path of the text as it reads that of the rest after a path that is n folders higher.
+-- Both texts have the same query.
 pub record ReadsAs (text : List ℕ) (ups : ℕ) (rest : List ℕ) : Type 0 where
   pub path : (front : List ℕ) → parse_path SpecialNotFile front (split_once question_mark text).0 ≡ parse_path SpecialNotFile (above ups front) (split_once question_mark rest).0
   pub query : (split_once question_mark text).1 ≡ (split_once question_mark rest).1
@@ -78,8 +78,8 @@ pub record IsInFolder (text : List ℕ) (ups : ℕ) (rest : List ℕ) : Type 0 w
   pub plain : is_plain slash rest ≡ true
   pub no_scheme : has_no_scheme text ≡ true
 
--- The position in the text of a page, whose path begins at `root`, at which the folder n above the page's ends. A folder ends after its slash, and there is
--- none above the first one.
+-- The position in the text of a page, whose path begins at `root`, at which the folder n above the page's ends. A folder ends after
+-- its slash, and there is none above the first one.
 abbrev pub folder_above : List ℕ → ℕ → ℕ → ℕ → ℕ
 folder_above page root folder zero = folder
 folder_above page root folder (suc n) = root + length (without_last_segment (slice_range page root (folder_above page root folder n - 1))) + 1

@@ -4,8 +4,8 @@ use Rattle.std.specs.List.{list_all, prefix_len}
 use Rattle.url.specs.Ascii.{backslash, dot, hyphen, percent_sign, question_mark, slash, space}
 use Rattle.url.specs.Input.{rsplit_once}
 
--- one of `"`, `#`, `'`, `<`, `>`, `\`, `^`, the backtick, `{` and `}`. The parser escapes these bytes in a path or a query, reads them as a slash, or ends the
--- path or query at them
+-- one of `"`, `#`, `'`, `<`, `>`, `\`, `^`, the backtick, `{` and `}`. The parser escapes these bytes in a path or a query, reads
+-- them as a slash, or ends the path or query at them
 abbrev pub is_mark : ℕ → Bool
 is_mark b = b == 34 || b == 35 || b == 39 || b == 60 || b == 62 || b == backslash || b == 94 || b == 96 || b == 123 || b == 125
 
@@ -21,7 +21,8 @@ may_begin b = is_kept b && not (b == slash || b == dot || b == percent_sign)
 abbrev pub may_follow : ℕ → ℕ → Bool
 may_follow last b = if last == slash then may_begin b else is_kept b
 
--- up to the first `?`, each byte of the text may follow the one before it, and the first one may follow this byte; after the `?`, each byte is kept
+-- up to the first `?`, each byte of the text may follow the one before it, and the first one may follow this byte; after the `?`,
+-- each byte is kept
 abbrev pub is_plain : ℕ → List ℕ → Bool
 is_plain last [] = true
 is_plain last (b ∷ text) = may_follow last b && (if b == question_mark then list_all is_kept text else is_plain b text)

@@ -26,8 +26,8 @@ use url::Url;
 
 /// The URL of a page, prepared for resolving its links.
 ///
-/// It stores where the path and the folder end in the page's text. So a link in a common form is
-/// resolved by joining two texts, and the URL Standard's parser is needed only for the others. The
+/// It stores the positions in the page's text at which the path begins and the folder ends. So a link in
+/// a common form is resolved by joining two texts, and the URL Standard's parser is needed only for the others. The
 /// page's URL is parsed when the first such link needs it, and kept.
 ///
 /// ```rust
