@@ -9,7 +9,8 @@ use Rattle.crawl_queues.specs.declared.growing.rule.ListView.{ListView}
 abbrev pub no_entry : Entry
 no_entry = record { url = []; sender = 0; number = 0; hops = 0 }
 
--- the view of a seat that owns the list and has a beginning of it; of one that owns it and has none; and of one that only knows a beginning
+-- the view of a seat that owns the list and has a beginning of it; of one that owns it and has none; and of one that only knows a
+-- beginning
 abbrev pub holding : List Entry → List Entry → ListView
 holding all begins = record { owns = true; all = all; begins = begins }
 

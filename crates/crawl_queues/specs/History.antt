@@ -30,8 +30,8 @@ first_moment = record { items = []; views = undivided no_home ∷ [] }
 abbrev pub ViewAt : Moment → ℕ → PassView → Type 0
 ViewAt m pass v = get_elem? m.views pass ≡ some v
 
--- Settling, dividing and counting an empty pop are splits, which add a view. A push and a pop change the view of the pass that makes them. If a pass is
--- reunited with another, its view is spent, and its list goes to the other.
+-- Settling, dividing and counting an empty pop are splits, which add a view. A push and a pop change the view of the pass that
+-- makes them. If a pass is reunited with another, its view is spent, and its list goes to the other.
 pub data SubqueueStep (m m' : Moment) : Type 0 where
   settles : (pass : ℕ) (h old : Home) → ViewAt m pass (undivided old)
       → m' ≡ record { items = m.items; views = slice_set m.views pass (undivided h) ++ spent ∷ [] } → SubqueueStep m m'
@@ -48,7 +48,8 @@ pub data SubqueueStep (m m' : Moment) : Type 0 where
       → m' ≡ record { items = m.items; views = slice_set (slice_set m.views pass (reunited (pushing h sent) (popping home taken n))) other spent }
       → SubqueueStep m m'
 
--- How a step changes the list of what was sent, s, and the list of what was taken, t: a push adds to s, a pop adds to t, and no other step changes them.
+-- How a step changes the list of what was sent, s, and the list of what was taken, t: a push adds to s, a pop adds to t, and no
+-- other step changes them.
 abbrev pub ListsMove : {m m' : Moment} → SubqueueStep m m' → List Entry → List Entry → List Entry → List Entry → Type 0
 ListsMove (settles pass h old at is) s t s' t' = (s' ≡ s) × (t' ≡ t)
 ListsMove (divides pass h at is) s t s' t' = (s' ≡ s) × (t' ≡ t)

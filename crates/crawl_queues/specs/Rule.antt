@@ -13,7 +13,8 @@ use Rattle.crawl_queues.specs.Entries.{KeepsRule}
 abbrev pub no_home : Home
 no_home = record { gate = no_gate; workers = 0; queue = 0 }
 
--- the view of the pass that may push, with what it sent; of the one that may pop, with what it took; of one with both rights; and of one with none
+-- the view of the pass that may push, with what it sent; of the one that may pop, with what it took; of one with both rights; and
+-- of one with none
 abbrev pub pushing : Home → List Entry → PassView
 pushing h sent = record { home = h; sends = true; sent = sent; takes = false; taken = []; empty_pops = 0 }
 
