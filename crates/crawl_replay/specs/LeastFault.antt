@@ -1,4 +1,4 @@
--- The least error of a script: that of the first of its lines that has one.
+-- The error of a script: that of its first line that has one.
 use Rattle.std.specs.Prelude.{◌≡◌, ℕ, ◌+◌, List, [], ◌∷◌, length, Option, Result, Ok, Err}
 use Rattle.std.specs.Result.{result_err}
 use Rattle.text_lines.specs.LeastFault.{IsLeastFault}
@@ -7,7 +7,7 @@ use Rattle.crawl_replay.specs.declared.script.header.Header.{Header}
 use Rattle.crawl_replay.specs.declared.script.error.ScriptError.{ScriptError}
 use Rattle.crawl_replay.specs.declared.script.error.ScriptError.TheVariants as wrong
 
--- the workers that a header names; if there is none, its own line has the error
+-- the number of workers in a header; if the header is bad, its own line has the error
 abbrev pub workers_in : Result Header ScriptError → ℕ
 workers_in (Ok header) = header.workers
 workers_in (Err _) = 1
@@ -17,7 +17,7 @@ abbrev pub fault_after : List (List ℕ) → List ℕ → Option ScriptError
 fault_after [] line = result_err (header_in line)
 fault_after (header ∷ earlier) line = result_err (said_by (workers_in (header_in header)) (length earlier + 2) line)
 
--- the error of lines that are no script; no line at all is a bad header
+-- the error of lines that are not a script; if there is no line, it is a bad header
 abbrev pub IsScriptFault : List (List ℕ) → ScriptError → Type 0
 IsScriptFault [] fault = fault ≡ wrong.BadHeader
 IsScriptFault (line ∷ more) fault = IsLeastFault fault_after (line ∷ more) fault

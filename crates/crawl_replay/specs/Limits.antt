@@ -1,6 +1,6 @@
--- The limit of a script's numbers. It is a number here, and nowhere else in the definitions.
+-- The limit of a script's numbers.
 use Rattle.std.specs.Prelude.{ℕ}
 
--- the digits of a number
+-- the greatest number of digits
 abbrev pub most_digits : ℕ
 most_digits = 20

@@ -5,7 +5,7 @@ use Rattle.crawl_core.specs.Run.{IsRun}
 use Rattle.crawl_replay.specs.Script.{Said, script_of}
 use Rattle.crawl_replay.specs.Replies.{reply_lines}
 
--- the bytes are a script, and the text has the lines of a new frontier's replies to its events
+-- the bytes are a script, and the text has a line for each reply of a new frontier to its events
 pub record IsReplay (bytes text : List ℕ) : Type 0 where
   pub script : Said
   pub read : script_of bytes ≡ Ok script

@@ -1,4 +1,4 @@
--- What bytes say as a script: each line says a part of it or has an error, and the least line with an error decides.
+-- The script in bytes: each line has a content or an error, and the first line with an error determines that of the script.
 use Rattle.std.specs.Prelude.{ℕ, ◌+◌, Bool, ◌&&◌, List, [], ◌∷◌, length, codes, ◌==◌, nat_le, if◌then◌else◌, Option, Some, None, option_and_then, ok_or, Result, Ok, Err, option_map, bytes_eq}
 use Rattle.std.specs.Str.Lines.{lines}
 use Rattle.crawl_core.specs.declared.event.Event.{Event}
@@ -16,7 +16,7 @@ use Rattle.crawl_replay.specs.declared.script.header.Header.{Header}
 use Rattle.crawl_replay.specs.declared.script.error.ScriptError.{ScriptError}
 use Rattle.crawl_replay.specs.declared.script.error.ScriptError.TheVariants.{BadHeader, BadLine, BadUrl}
 
--- what a script says: its header, and its events in order
+-- the content of a script: its header, and its events in order
 pub record Said : Type 0 where
   pub workers : ℕ
   pub max : ℕ
@@ -24,7 +24,7 @@ pub record Said : Type 0 where
 
 -- ---- the header
 
--- the limits of a frontier
+-- both numbers are within the limits of a frontier
 abbrev pub is_within : ℕ → ℕ → Bool
 is_within workers max = nat_le 1 workers && nat_le workers worker_limit && nat_le 1 max && nat_le max pending_limit
 
@@ -44,7 +44,7 @@ header_of text =
 
 -- ---- an event
 
--- the canonical URL of a text, and the subqueue, of the given number, that its host key is assigned to; a text without one is bad
+-- the canonical URL of a text, and the subqueue, of this number, to which its host key is assigned; a bad URL if it has none
 abbrev pub address_from : ℕ → ℕ → Result (List ℕ) KeyError → Result (List ℕ × ℕ) ScriptError
 address_from workers number (Ok url) = Ok (url, subqueue_of url workers)
 address_from workers number (Err _) = Err (BadUrl number)
@@ -56,7 +56,7 @@ abbrev pub admit_at : ℕ → Result (List ℕ × ℕ) ScriptError → Result Ev
 admit_at sender (Ok address) = Ok (Admit sender address.0 address.1)
 admit_at sender (Err fault) = Err fault
 
--- `S URL`: all that follows the first space is the URL
+-- `S URL`: the URL is all of the text after the first space
 abbrev pub admit_parts : List ℕ → Option (ℕ × List ℕ)
 admit_parts rest = option_and_then (λ p. option_map (λ sender. (sender, p.1)) (number_of 64 p.0)) (at_space rest)
 
@@ -88,7 +88,7 @@ event_from workers number text (Some p) =
     if bytes_eq p.0 (codes "admit") then admit_of workers number p.1
     else ok_or (numbered_event p.0 p.1) (BadLine number)
 
--- the event that a text says, as the line with this number, to a frontier with this number of workers
+-- the event of a text on the line with this number, for a frontier with this number of workers
 abbrev pub event_of : ℕ → ℕ → List ℕ → Result Event ScriptError
 event_of workers number text = event_from workers number text (at_space text)
 
@@ -98,7 +98,7 @@ abbrev pub with_text : {A : Type 0} → Result (List ℕ) LineError → (List �
 with_text (Ok text) says = says text
 with_text (Err fault) says = Err (fault_of fault)
 
--- what the first line says
+-- the header on the first line
 abbrev pub header_in : List ℕ → Result Header ScriptError
 header_in line = with_text (text_of 1 line) (λ text. ok_or (header_of text) BadHeader)
 
@@ -106,22 +106,22 @@ abbrev pub some_event : Result Event ScriptError → Result (Option Event) Scrip
 some_event (Ok event) = Ok (Some event)
 some_event (Err fault) = Err fault
 
--- what another line says, an empty one nothing
+-- the event on another line; none if the line is empty
 abbrev pub said_by : ℕ → ℕ → List ℕ → Result (Option Event) ScriptError
 said_by workers number line = with_text (text_of number line) (λ text. if length text == 0 then Ok None else some_event (event_of workers number text))
 
--- what each line says, from this number on
+-- the content of each line; the first of these lines has this number
 abbrev pub said_from : ℕ → ℕ → List (List ℕ) → List (Result (Option Event) ScriptError)
 said_from workers number [] = []
 said_from workers number (line ∷ more) = said_by workers number line ∷ said_from workers (number + 1) more
 
--- the error of the first that has one
+-- the error of the first line that has one
 abbrev pub least_fault : List (Result (Option Event) ScriptError) → Option ScriptError
 least_fault [] = None
 least_fault (Ok said ∷ more) = least_fault more
 least_fault (Err fault ∷ more) = Some fault
 
--- the events that are said, in order
+-- the events on the lines, in order
 abbrev pub events_in : List (Result (Option Event) ScriptError) → List Event
 events_in [] = []
 events_in (Ok (Some event) ∷ more) = event ∷ events_in more
@@ -147,6 +147,6 @@ abbrev pub script_in : List (List ℕ) → Result Said ScriptError
 script_in [] = Err BadHeader
 script_in (line ∷ more) = with_header (header_in line) more
 
--- the script that the bytes say, or its error
+-- the script in the bytes, or its error
 abbrev pub script_of : List ℕ → Result Said ScriptError
 script_of bytes = script_in (lines bytes)

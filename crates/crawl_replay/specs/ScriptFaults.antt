@@ -1,10 +1,10 @@
--- The error of a script whose line has no text.
+-- The error of a script with a line that has no text.
 use Rattle.text_lines.specs.declared.lines.LineError.{LineError}
 use Rattle.text_lines.specs.declared.lines.LineError.TheVariants.{TooLong, NotText}
 use Rattle.crawl_replay.specs.declared.script.error.ScriptError.{ScriptError}
 use Rattle.crawl_replay.specs.declared.script.error.ScriptError.TheVariants as wrong
 
--- the error of a script that has this error of its lines
+-- the error of a script for this error of a line
 abbrev pub fault_of : LineError → ScriptError
 fault_of (TooLong number) = wrong.LineTooLong number
 fault_of (NotText number) = wrong.NotText number

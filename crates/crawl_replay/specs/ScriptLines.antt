@@ -1,4 +1,4 @@
--- The lines of a script as the format says them: which bytes a line has that says this or that.
+-- The lines of a script, as the format defines them: which bytes each kind of line has.
 use Rattle.std.specs.Prelude.{◌≡◌, ◌≢◌, ◌⊎◌, ◌+◌, ◌≤◌, ◌<◌, ◌^◌, ℕ, List, [], ◌∷◌, ◌++◌, length, codes, Option, Some, None, Result, Ok, Err, All, IsUtf8}
 use Rattle.std.specs.Str.Parse.{digits_value}
 use Rattle.crawl_keys.specs.Assignment.{subqueue_of}
@@ -13,12 +13,12 @@ use Rattle.crawl_replay.specs.declared.script.header.Header.{Header}
 use Rattle.crawl_replay.specs.declared.script.error.ScriptError.{ScriptError}
 use Rattle.crawl_replay.specs.declared.script.error.ScriptError.TheVariants.{LineTooLong, NotText, BadHeader, BadLine, BadUrl, NoMemory}
 
--- a line that is short enough and is a text
+-- a line that is UTF-8 and not too long
 pub record IsLineText (line : List ℕ) : Type 0 where
   pub short : length line ≤ line_limit
   pub text : IsUtf8 line
 
--- one digit or more, no more than a number may have, of this value, which fits the given number of bits
+-- one digit or more, at most the number that is allowed, with this value, which fits this number of bits
 pub record IsNumber (bits value : ℕ) (text : List ℕ) : Type 0 where
   pub digits : All (λ b. (48 ≤ b) × (b ≤ 57)) text
   pub some : 1 ≤ length text
@@ -38,14 +38,14 @@ pub record IsAdmit (sender : ℕ) (address line : List ℕ) : Type 0 where
   pub written : line ≡ codes "admit" ++ (codes " " ++ (number ++ (codes " " ++ address)))
   pub sent : IsNumber 64 sender number
 
--- an address with this canonical URL, which belongs to this subqueue of the given number
+-- an address with this canonical URL, which belongs to this subqueue, of this number
 pub record IsAdmission (workers sender : ℕ) (url : List ℕ) (queue : ℕ) (line : List ℕ) : Type 0 where
   pub address : List ℕ
   pub admits : IsAdmit sender address line
   pub named : canonical address ≡ Ok url
   pub placed : queue ≡ subqueue_of url workers
 
--- an address that has no canonical URL
+-- an address without a canonical URL
 pub record IsBadAdmission (line : List ℕ) : Type 0 where
   pub sender : ℕ
   pub address : List ℕ
@@ -53,7 +53,7 @@ pub record IsBadAdmission (line : List ℕ) : Type 0 where
   pub refusal : KeyError
   pub refused : canonical address ≡ Err refusal
 
--- the line that says an event, to a frontier with this number of workers
+-- the line of an event, for a frontier with this number of workers
 abbrev pub IsEventLine : ℕ → Event → List ℕ → Type 0
 IsEventLine workers (Look sender) line = IsNumbered (codes "look") 64 sender line
 IsEventLine workers (Enter sender) line = IsNumbered (codes "enter") 64 sender line
@@ -64,7 +64,7 @@ IsEventLine workers (Take queue) line = IsNumbered (codes "take") 32 queue line
 IsEventLine workers (Done queue) line = IsNumbered (codes "done") 32 queue line
 IsEventLine workers Close line = line ≡ codes "close"
 
--- `workers N max M`, with numbers that a frontier can be made with
+-- `workers N max M`, with numbers that are within a frontier's limits
 pub record IsHeaderLine (workers max : ℕ) (line : List ℕ) : Type 0 where
   pub first : List ℕ
   pub second : List ℕ
@@ -73,7 +73,7 @@ pub record IsHeaderLine (workers max : ℕ) (line : List ℕ) : Type 0 where
   pub max_is : IsNumber 64 max second
   pub within : AreLimits workers max
 
--- what the line with this number says, after the first: which lines say nothing, which an event, and which have each error
+-- the content of the line with this number, after the first: which lines are empty, which are an event, and which have each error
 abbrev pub LineSays : ℕ → ℕ → List ℕ → Result (Option Event) ScriptError → Type 0
 LineSays workers number line (Ok None) = line ≡ []
 LineSays workers number line (Ok (Some event)) = IsLineText line × IsEventLine workers event line
@@ -85,7 +85,7 @@ LineSays workers number line (Err (BadUrl n)) = (n ≡ number) × IsLineText lin
 LineSays workers number line (Err BadHeader) = ⊥
 LineSays workers number line (Err NoMemory) = ⊥
 
--- what the first line says: which lines say a header, and which have each error
+-- the content of the first line: which lines are a header, and which have each error
 abbrev pub HeaderSays : List ℕ → Result Header ScriptError → Type 0
 HeaderSays line (Ok header) = IsLineText line × IsHeaderLine header.workers header.max line
 HeaderSays line (Err (LineTooLong n)) = (n ≡ 1) × (line_limit < length line)
@@ -95,14 +95,14 @@ HeaderSays line (Err (BadLine n)) = ⊥
 HeaderSays line (Err (BadUrl n)) = ⊥
 HeaderSays line (Err NoMemory) = ⊥
 
--- the lines say these events, in order, and nothing else; the first of them has this number
+-- the lines have exactly these events, in order; the first of the lines has this number
 abbrev pub LinesSay : ℕ → ℕ → List (List ℕ) → List Event → Type 0
 LinesSay workers number [] events = events ≡ []
 LinesSay workers number (line ∷ more) events =
     (LineSays workers number line (Ok None) × LinesSay workers (number + 1) more events)
     ⊎ ((event : Event) × (later : List Event) × (events ≡ event ∷ later) × LineSays workers number line (Ok (Some event)) × LinesSay workers (number + 1) more later)
 
--- the lines say this script: the first its header, the others its events
+-- the lines are this script: the first has its header, and the others its events
 pub record IsScript (lines : List (List ℕ)) (script : Said) : Type 0 where
   pub first : List ℕ
   pub more : List (List ℕ)

@@ -1,4 +1,5 @@
-//! Laws of scripts and of what they make the machine do. None does anything when it is called.
+//! Laws about scripts, and about the runs of the machine on them. A law is a function that does nothing; its clauses are the
+//! theorem.
 ghost use Rattle.std.specs.Prelude.{◌≡◌, ◌↔◌, ℕ, List, Option, Result, map, slice_get, Some, Ok, zip};
 ghost use Rattle.std.specs.Str.Lines.{lines};
 ghost use Rattle.crawl_core.specs.State.{State, start};
@@ -17,9 +18,8 @@ ghost use Rattle.crawl_replay.specs.ScriptLines.{HeaderSays, LineSays, IsScript}
 ghost use Rattle.crawl_replay.specs.declared.script.header.Header.{Header};
 ghost use Rattle.crawl_replay.specs.declared.script.error.ScriptError.{ScriptError};
 
-/// Hosts keep to their subqueues. If each admission names its URL's subqueue, as those of a script that was read do: in
-/// every state of a run each message is in its URL's subqueue; a URL is taken at most once; and it is taken only from its
-/// subqueue.
+/// Hosts keep to their subqueues. If each admission names its URL's subqueue, as it does in a script that was read, then in every
+/// state of a run each message is in its URL's subqueue, and a URL is taken at most once, and only from its subqueue.
 #[tactic(auto, using(crate::proofs::Assigned::placed_at))]
 pub fn hosts_keep_to_their_subqueues()
     ensures states { (workers max : ℕ) (history : List (Event × Reply)) (state : State) → Run (start workers max) history state → IsAssigned workers (map (λ x. x.0) history) → (queue k : ℕ) (found : Subqueue) (m : Message) → slice_get state.subqueues queue ≡ Some found → slice_get found.accepted k ≡ Some m → queue ≡ subqueue_of m.url workers }
@@ -30,10 +30,11 @@ pub fn hosts_keep_to_their_subqueues()
     crawl_core::laws::taken_once_in_order();
 }
 
-/// The lines of a script mean what the format says. `header_in` and `said_by`, by which the meaning of a script is defined, say
-/// something of a line exactly if the line has the bytes that the format names for it: `workers N max M` for a header; for
-/// each event its word, spaces and digits, and the URL of an admission; and for each error, what is wrong with the line. And
-/// bytes are a script exactly if their first line says its header, and the others its events, in order.
+/// The lines of a script mean what the format says. The meaning of a script is defined by `header_in` and `said_by`. They return a
+/// content for a line if and only if the line has the bytes that the format defines for it: `workers N max M` for a header, and for
+/// each event its word, spaces and digits, and the URL of an admission. They return an error if and only if the line is wrong in
+/// the way that the format defines for that error. And bytes are a script if and only if the first line has its header, and the
+/// others have its events, in order.
 #[tactic(auto, using(crate::proofs::HeaderWords::header_means, crate::proofs::LineWords::line_means))]
 pub fn lines_mean_what_the_format_says()
     ensures header { (line : List ℕ) (said : Result Header ScriptError) → (header_in line ≡ said) ↔ HeaderSays line said }

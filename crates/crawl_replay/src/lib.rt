@@ -1,7 +1,7 @@
 //! Scripts of atomic steps, and the replies of the machine to them.
 #![tactic(auto)]
 
-/// What holds of scripts, and of what they make the machine do.
+/// Laws about scripts, and about the runs of the machine on them.
 pub mod laws;
 mod numbers;
 mod replay;

@@ -1,13 +1,13 @@
-//! Numbers as scripts write them: only decimal digits, with or without leading zeros.
+//! Numbers as they are written in scripts: only decimal digits, with or without leading zeros.
 ghost use Rattle.std.specs.Prelude.{◌≡◌};
 ghost use Rattle.std.specs.List.{list_all};
 ghost use Rattle.std.specs.Char.{is_ascii_digit};
 ghost use Rattle.crawl_replay.specs.Numbers.{is_number, number_of};
 
-/// The most digits of a number: those of the greatest `u64`.
+/// The greatest number of digits: that of the greatest `u64`.
 pub const DIGIT_LIMIT: usize = 20;
 
-/// The number that the text is, if it is one that fits 32 bits.
+/// Returns the number in the text, or `None` if it is not a number that fits 32 bits.
 #[tactic(auto, using(crate::proofs::NumberText::parsed))]
 pub fn number32(text: &str) -> Option<u32>
     ensures { result ≡ number_of 32 text.now }
@@ -19,7 +19,7 @@ pub fn number32(text: &str) -> Option<u32>
     }
 }
 
-/// The number that the text is, if it is one that fits 64 bits.
+/// Returns the number in the text, or `None` if it is not a number that fits 64 bits.
 #[tactic(auto, using(crate::proofs::NumberText::parsed))]
 pub fn number64(text: &str) -> Option<u64>
     ensures { result ≡ number_of 64 text.now }

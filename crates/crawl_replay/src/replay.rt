@@ -11,11 +11,11 @@ use crate::script::{Script, ScriptError, read_script};
 use crawl_core::{CoreError, NoMemory, Reply, run};
 use std::alloc::{AllocError, Global};
 
-/// The replies of a new frontier to the script that the bytes are, one line each. The whole script is read before any
-/// event is run.
+/// Returns the replies of a new frontier to the script in these bytes, one line each. The whole script is read before any event is
+/// run.
 ///
 /// # Errors
-/// Those of [`read_script`]; `NoMemory` also where the machine or the lines found no room.
+/// Those of [`read_script`]; `NoMemory` also if the machine or the replies run out of memory.
 pub fn replay_text(alloc: Global, bytes: &[u8]) -> Result<Vec<u8>, ScriptError>
     ensures ok { IfOk result (λ text. IsReplay bytes.now text.items) }
     ensures err { IfErr result (IsRefusal ScriptError.NoMemory (script_of bytes.now)) }

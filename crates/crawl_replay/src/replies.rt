@@ -6,7 +6,7 @@ use crawl_core::{NoMemory, Refusal, Reply};
 use std::alloc::Global;
 use std::fmt;
 
-/// A reply as a script's reader sees it.
+/// Displays a reply as a line of a replay, without the LF.
 #[derive(Clone, Copy)]
 pub struct ReplyText<'a>(pub &'a Reply);
 
@@ -53,7 +53,7 @@ fn refusal_text(why: Refusal) -> &'static str
     }
 }
 
-/// The replies in order, one line each.
+/// Returns the replies in order, one line each.
 pub fn reply_lines(alloc: Global, replies: &[Reply]) -> Result<String, NoMemory>
     ensures { IfOk result (λ text. string_bytes text ≡ reply_lines replies.now) }
 {

@@ -19,35 +19,34 @@ pub use header::{Header, header_of};
 use std::alloc::Global;
 use text_lines::{first_line, text_of};
 
-/// Events for a frontier, and the numbers that it is made with.
+/// Events for a frontier, and the numbers with which it is made.
 #[derive(Debug, PartialEq, Eq, Drop)]
 pub struct Script {
-    /// How many workers, and so subqueues, the frontier has: 1 to [`WORKER_LIMIT`](crawl_core::WORKER_LIMIT).
+    /// The number of workers, and so of subqueues: 1 to [`WORKER_LIMIT`](crawl_core::WORKER_LIMIT).
     pub workers: u32,
     /// The frontier's maximum of pending URLs: 1 to [`PENDING_LIMIT`](crawl_core::PENDING_LIMIT).
     pub max: u64,
-    /// What happens, in order.
+    /// The events, in order.
     pub events: Vec<Event>,
 }
 
-/// The script that the bytes are.
+/// Reads the script in these bytes.
 ///
-/// The first line is `workers N max M`, and each line after it an event or empty: `look S`, `enter S`, `back S`,
-/// `admit S URL`, `endseeds`, `take Q`, `done Q` or `close`. Fields are one space apart. A number has one to twenty
-/// digits. The URL is all that follows the second space, read by [`canonical`](crawl_keys::canonical), and goes to the
-/// subqueue that its host key is assigned to.
+/// The first line is `workers N max M`. Each line after it is empty or an event: `look S`, `enter S`, `back S`, `admit S URL`,
+/// `endseeds`, `take Q`, `done Q` or `close`. One space separates two fields. A number has one to twenty digits. The URL is all of
+/// the line after the second space; [`canonical`](crawl_keys::canonical) reads it, and it goes to the subqueue to which its host
+/// key is assigned.
 ///
 /// # Errors
-/// That of the least line that has an error, and there the first of the checks, in the order of [`ScriptError`];
-/// `NoMemory` if an allocation failed.
+/// The first check, in the order of [`ScriptError`], that the first line with an error fails; `NoMemory` if an allocation failed.
 #[tactic(auto, using(crate::proofs::Least::least))]
 pub fn read_script(alloc: Global, bytes: &[u8]) -> Result<Script, ScriptError>
     ensures exact { Gives ScriptError.NoMemory content result (script_of bytes.now) }
     ensures limits { IfOk result (λ script. AreLimits script.workers script.max) }
-    // Each admission names the subqueue that its URL's host key is assigned to; and its text is a canonical URL.
+    // Each admission names the subqueue to which the host key of its URL is assigned, and its text is a canonical URL.
     ensures assigned { IfOk result (λ script. IsAssigned script.workers script.events.items) }
     ensures addressed { IfOk result (λ script. AreAddressed script.workers script.events.items) }
-    // The error is that of the least line that has one.
+    // The error is that of the first line that has one.
     ensures least { IfErr result (λ fault. IsScriptFault (lines bytes.now) fault ⊎ (fault ≡ ScriptError.NoMemory)) }
 {
     script_from(alloc, bytes)
@@ -70,7 +69,7 @@ fn script_from(alloc: Global, bytes: &[u8]) -> Result<Script, ScriptError>
     })
 }
 
-/// Reads `workers N max M`. A line that is something else, or has a number outside its limits, is a `BadHeader`.
+/// Reads `workers N max M`. Any other line, and a number outside its limits, is a `BadHeader`.
 fn header_in(line: &[u8]) -> Result<Header, ScriptError>
     ensures exact { result ≡ header_in line.now }
     ensures limits { IfOk result (λ header. AreLimits header.workers header.max) }
@@ -78,7 +77,7 @@ fn header_in(line: &[u8]) -> Result<Header, ScriptError>
     header_of(text_of(1, line)?).ok_or(ScriptError::BadHeader)
 }
 
-/// The events of the lines after the first.
+/// Returns the events on the lines after the first.
 fn events_of(alloc: Global, workers: u32, bytes: &[u8]) -> Result<Vec<Event>, ScriptError>
     requires some_worker { 1 ≤ workers }
     requires few_workers { workers ≤ worker_limit }

@@ -6,7 +6,7 @@ use std::alloc::{AllocError, AllocFailed};
 use text_lines::LineError;
 use thiserror::Error;
 
-/// Why bytes are no script, in the order of the checks. Lines are numbered from 1.
+/// Why bytes are not a script, in the order of the checks. Lines are numbered from 1.
 #[derive(Clone, Copy, Debug, PartialEq, Eq, Error)]
 pub enum ScriptError {
     /// The line with this number has more than [`LINE_LIMIT`](text_lines::LINE_LIMIT) bytes.
@@ -15,14 +15,13 @@ pub enum ScriptError {
     /// The line with this number is not UTF-8.
     #[error("script: line {0}: not UTF-8")]
     NotText(u64),
-    /// The first line does not read `workers N max M` with both numbers within the frontier's limits, or there is no
-    /// line at all.
+    /// The first line is not `workers N max M` with both numbers within the frontier's limits, or there is no line.
     #[error("script: bad header")]
     BadHeader,
     /// The line with this number, after the first, is neither empty nor an event.
     #[error("script: line {0}: bad line")]
     BadLine(u64),
-    /// The line with this number admits a text that has no canonical `http` or `https` URL.
+    /// The line with this number admits a text without a canonical `http` or `https` URL.
     #[error("script: line {0}: bad URL")]
     BadUrl(u64),
     /// An allocation failed. This may replace any other result.

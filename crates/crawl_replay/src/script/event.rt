@@ -1,4 +1,4 @@
-//! A line of a script after the first, and the event that it says.
+//! A line of a script after the first, and its event.
 ghost use Rattle.std.specs.Prelude.{◌≡◌, ℕ, ◌≤◌, Ok, IfOk, IfSome, option_map};
 ghost use Rattle.crawl_limits.specs.Limits.{worker_limit};
 ghost use Rattle.crawl_keys.specs.Outcome.{Gives};
@@ -14,7 +14,7 @@ use crawl_keys::{KeyError, canonical};
 use std::alloc::Global;
 use text_lines::{split_space, text_of};
 
-/// The event that the line with this number says, to a frontier with this number of workers, or nothing for an empty line.
+/// Returns the event on the line with this number, for a frontier with this number of workers, or `None` if the line is empty.
 ///
 /// # Errors
 /// `LineTooLong`, `NotText`, `BadLine`, `BadUrl`, in this order, each with the number; `NoMemory`.
@@ -36,7 +36,7 @@ pub fn said_by(
     Ok(Some(event_of(alloc, workers, number, text)?))
 }
 
-/// Reads the event of the line with this number, by its first word. A line that is no event is a `BadLine`.
+/// Reads the event on the line with this number, by its first word. A line that is not an event is a `BadLine`.
 fn event_of(alloc: Global, workers: u32, number: u64, text: &str) -> Result<Event, ScriptError>
     requires some_worker { 1 ≤ workers }
     requires few_workers { workers ≤ worker_limit }
@@ -54,7 +54,7 @@ fn event_of(alloc: Global, workers: u32, number: u64, text: &str) -> Result<Even
     }
 }
 
-/// Returns the event of a line that is only this word: `endseeds` or `close`.
+/// Returns the event of a line that only has this word: `endseeds` or `close`.
 fn plain_event(word: &str) -> Option<Event>
     ensures exact { result ≡ plain_event word.now }
     ensures addressed { (workers : ℕ) → IfSome result (IsAddressed workers) }
@@ -66,8 +66,8 @@ fn plain_event(word: &str) -> Option<Event>
     }
 }
 
-/// Returns the event of a line with a word and a number. The number is a sender's after `look`, `enter` and `back`, and a
-/// queue's after `take` and `done`.
+/// Returns the event of a line with a word and a number. After `look`, `enter` and `back` the number is that of a sender, and after
+/// `take` and `done` that of a queue.
 fn numbered_event(word: &str, number: &str) -> Option<Event>
     ensures exact { result ≡ numbered_event word.now number.now }
     ensures addressed { (workers : ℕ) → IfSome result (IsAddressed workers) }
@@ -92,7 +92,7 @@ fn numbered_event(word: &str, number: &str) -> Option<Event>
     }
 }
 
-/// The event of an `admit` line, by what follows its first space: a sender, a space and a URL.
+/// Returns the event of an `admit` line, from the text after its first space: a sender, a space and a URL.
 fn admit_of(alloc: Global, workers: u32, number: u64, rest: &str) -> Result<Event, ScriptError>
     requires some_worker { 1 ≤ workers }
     requires few_workers { workers ≤ worker_limit }
@@ -114,7 +114,7 @@ fn admit_parts(rest: &str) -> Option<(u64, &str)>
     Some((number64(sender)?, url))
 }
 
-/// The canonical URL of a text, and the subqueue that its host key is assigned to.
+/// Returns the canonical URL of a text, and the subqueue to which its host key is assigned.
 fn address_of(
     alloc: Global,
     workers: u32,

@@ -6,16 +6,16 @@ use crate::numbers::{number32, number64};
 use crawl_limits::{PENDING_LIMIT, WORKER_LIMIT};
 use text_lines::split_space;
 
-/// What the first line says.
+/// The content of the first line.
 #[derive(Clone, Copy, Debug, PartialEq, Eq)]
 pub struct Header {
-    /// How many workers, and so subqueues, the frontier has.
+    /// The number of workers, and so of subqueues.
     pub workers: u32,
     /// The frontier's maximum of pending URLs.
     pub max: u64,
 }
 
-/// The header `workers N max M`, if the text is one and both numbers are within the frontier's limits.
+/// Returns the header `workers N max M`, if the text is one and both numbers are within the frontier's limits.
 pub fn header_of(text: &str) -> Option<Header>
     ensures { result ≡ header_of text.now }
 {
