@@ -1,4 +1,4 @@
--- The run of which a crawl's error is, and all that was lost in it, by cause.
+-- The run to which a crawl's error belongs, and all that was lost in it, by cause.
 use Rattle.std.specs.Prelude.{◌≡◌, ◌↔◌, ℕ, Bool, false, List, [], ◌∷◌, ◌++◌, map, Option, Some, None, Result}
 use Rattle.crawl_certificate.specs.AccountEntries.{entries_in}
 use Rattle.crawl_certificate.specs.CertFaults.{first_fault}
@@ -25,28 +25,28 @@ use Rattle.crawl_run.specs.LosslessRuns.{all_closed, all_found, all_lost}
 use Rattle.crawl_run.specs.declared.error.CrawlError.{CrawlError}
 use Rattle.crawl_run.specs.declared.error.CrawlError.TheVariants as wrong
 
--- The seeder offers a seed, with no hops, and gets this result: its books and the words that it met are those of the result, which
--- is a refusal by the filter exactly if the URL is not allowed.
+-- The seeder offers a seed, with no hops, and gets this result. Its books and the words that it met are those of the result, which
+-- is that the seed is filtered if and only if the URL is not allowed.
 pub record IsSeedOffer (workers : ℕ) (allowed : List ℕ → Bool) (s s' : SeederId) (url : List ℕ) (answer : Result Offer OfferError) : Type 0 where
   pub books : OfferBooks workers s.book s'.book url 0 answer
   pub words : OfferWordsBeside s.opening s'.opening s.seat s'.seat answer
   pub filtered : IsFiltered answer ↔ (allowed url ≡ false)
 
--- it offers these seeds, one after another
+-- the seeder offers these seeds, one after the other
 abbrev pub AllOffered : ℕ → (List ℕ → Bool) → SeederId → SeederId → List (List ℕ) → List (Result Offer OfferError) → Type 0
 AllOffered workers allowed s s' [] [] = s' ≡ s
 AllOffered workers allowed s s' (url ∷ seeds) (answer ∷ answers) = (m : SeederId) × IsSeedOffer workers allowed s m url answer × AllOffered workers allowed m s' seeds answers
 AllOffered workers allowed s s' seeds answers = ⊥
 
--- from `s` to `s'` each seed was offered, and so much was lost with them
+-- from `s` to `s'` each seed was offered, and these are the losses
 pub record AreOffered (workers : ℕ) (allowed : List ℕ → Bool) (s s' : SeederId) (seeds : List (List ℕ)) (losses : Losses) : Type 0 where
   pub answers : List (Result Offer OfferError)
   pub each : AllOffered workers allowed s s' seeds answers
   pub lost : losses ≡ together (map lost_seed answers)
 
--- All workers of a new frontier ran to their ends; its seeder offered the seeds, and the sender that it became has its books. The
--- run has an account with these entries, and these results; and what the seeds and the workers lost is together so much. The type
--- in `ends` names the frontier, which is any.
+-- All workers of a new frontier ran to their ends. Its seeder offered the seeds, and the sender that it became has its books. The
+-- run has an account with these entries, and these results, and these are the losses of seeds and workers together. The type in
+-- `ends` identifies the frontier, which may be any.
 pub record IsRun (workers : ℕ) (allowed : List ℕ → Bool) (meaning : List ℕ → Page) (seeds : List (List ℕ)) (entries : List Entry) (results : List PageResult) (losses : Losses) : Type 0 where
   pub gate : GateId
   pub starts : List WorkerId
@@ -66,7 +66,7 @@ pub record IsRun (workers : ℕ) (allowed : List ℕ → Bool) (meaning : List �
   pub found : results ≡ all_found ends
   pub lost : losses ≡ together (map lost_seed answers ++ all_lost ends)
 
--- such a run lost so much, and its certificate has this error; no URL below this one has it
+-- such a run has these losses, its certificate has this error, and no lesser URL has it
 pub record IsLossAt (workers : ℕ) (allowed : List ℕ → Bool) (meaning : List ℕ → Page) (seeds : List (List ℕ)) (error : CertError) (url : List ℕ) (losses : Losses) : Type 0 where
   pub entries : List Entry
   pub results : List PageResult
@@ -74,7 +74,7 @@ pub record IsLossAt (workers : ℕ) (allowed : List ℕ → Bool) (meaning : Lis
   pub first : first_fault allowed seeds entries results ≡ Some error
   pub least : IsLeast (is_at_fault allowed seeds entries results error) (Some url)
 
--- an error of a certificate is reported with what its run lost, and another error with no losses
+-- an error of the certificate is reported with the losses of its run, and any other error without losses
 abbrev pub CountsLosses : ℕ → (List ℕ → Bool) → (List ℕ → Page) → List (List ℕ) → CrawlError → Option (List ℕ) → Losses → Type 0
 CountsLosses workers allowed meaning seeds error None losses = losses ≡ no_losses
 CountsLosses workers allowed meaning seeds (wrong.Cert error) (Some url) losses = IsLossAt workers allowed meaning seeds error url losses

@@ -1,4 +1,4 @@
--- What a crawl lost: what its seeds and its workers did, together.
+-- The losses of a crawl: those of its seeds and its workers together.
 use Rattle.std.specs.Prelude.{◌-◌, ◌^◌, ◌≤◌, min, List, [], ◌∷◌, Result, Ok, Err, sum_by}
 use Rattle.crawl_certificate.specs.declared.error.CertError.TheVariants as cert
 use Rattle.crawl_frontier.specs.declared.error.OfferError.{OfferError}
@@ -9,17 +9,17 @@ use Rattle.crawl_workers.specs.declared.worker_end.WorkerEnd.{WorkerEnd}
 use Rattle.crawl_run.specs.declared.error.CrawlError.{CrawlError}
 use Rattle.crawl_run.specs.declared.error.CrawlError.TheVariants as wrong
 
--- these, and what the workers lost that ended so
+-- the losses with those of the workers that have these ends
 abbrev pub losses_with : {K : _} → Losses → List (WorkerEnd K) → Losses
 losses_with before [] = before
 losses_with before (e ∷ es) = losses_with (both_losses before e.losses) es
 
--- what is lost with a seed whose offer had this result
+-- the loss for a seed whose offer had this result
 abbrev pub lost_seed : Result Offer OfferError → Losses
 lost_seed (Ok offer) = no_losses
 lost_seed (Err refusal) = with_refusal refusal no_losses
 
--- all of these together: each count is the sum, up to the greatest
+-- the sum of all of these; each count stops at the greatest u64
 abbrev pub together : List Losses → Losses
 together all = record {
   failed = min (sum_by (λ (l : Losses). l.failed) all) (2 ^ 64 - 1);
@@ -30,7 +30,7 @@ together all = record {
   no_memory = min (sum_by (λ (l : Losses). l.no_memory) all) (2 ^ 64 - 1);
 }
 
--- what is missing was lost: an error of a seed, a page or a link that is missing comes with a loss at least
+-- if a seed, a page or a link is missing, there is at least one loss
 abbrev pub IsLost : CrawlError → Losses → Type 0
 IsLost (wrong.Cert cert.SeedMissing) losses = 1 ≤ all_losses losses
 IsLost (wrong.Cert cert.NotFetched) losses = 1 ≤ all_losses losses

@@ -19,10 +19,10 @@ use crawl_keys::CanonUrl;
 use std::alloc::Global;
 use std::thread::Threads;
 
-/// How many threads share the certificate of a crawl in threads.
+/// The number of threads that share the certificate of a crawl in threads.
 const THREADS: usize = 4;
 
-/// Certifies what a run found. If seeder and workers lost nothing, every seed and link is accepted and fetched.
+/// Certifies what a run found. If neither seeder nor workers lost anything, every seed and link is accepted and fetched.
 pub fn crawled_of<R: Threads + Sync>(
     rt: &R,
     alloc: Global,
@@ -61,7 +61,7 @@ pub fn crawled_of<R: Threads + Sync>(
     }
 }
 
-/// Returns how many threads share the certificate. If no worker had a thread, none is started for it.
+/// Returns the number of threads that share the certificate. If no worker had a thread, none is started for it.
 fn threads_of(settings: &CrawlSettings<'_>) -> usize {
     if settings.has_threads() { THREADS } else { 1 }
 }

@@ -8,16 +8,16 @@ use crawl_frontier::{FinishError, FrontierError};
 use crawl_workers::RunError;
 use std::alloc::{AllocError, AllocFailed};
 
-/// Why a crawl has no certified result. Running out of memory is always `NoMemory`, and no other variant holds that reason.
+/// Why a crawl has no certified result. Out of memory is always `NoMemory`, never the reason in another variant.
 #[derive(Clone, Copy, Debug, PartialEq, Eq)]
 pub enum CrawlError {
     /// The number of workers or the limit of pending URLs is out of range.
     Frontier(FrontierError),
     /// A thread could not be started, and no URL was fetched.
     Run(RunError),
-    /// What the workers left does not agree with what the frontier accepted.
+    /// The queues and the logs do not agree with each other.
     Finish(FinishError),
-    /// Something is missing, or should not be there.
+    /// The certificate found an error: something is missing, or should not be there.
     Cert(CertError),
     /// Out of memory.
     NoMemory,

@@ -12,11 +12,11 @@ use std::alloc::AllocError;
 /// Why a crawl has no certified result, and at which URL.
 #[derive(Drop)]
 pub struct CrawlFailure {
-    /// Why.
+    /// The error.
     pub error: CrawlError,
-    /// If the certificate failed, the first URL in byte order at which it fails; else none.
+    /// If the certificate failed, the first URL in byte order at which it fails; otherwise `None`.
     pub culprit: Option<CanonUrl>,
-    /// If the certificate failed, what seeder and workers lost, by cause; else nothing.
+    /// If the certificate failed, the losses of seeder and workers, by cause; otherwise no losses.
     pub losses: Losses,
 }
 
@@ -33,7 +33,7 @@ impl From<CrawlError> for CrawlFailure {
 }
 
 impl CrawlFailure {
-    /// The failure of a run with these losses, whose certificate names this culprit.
+    /// Makes the failure of a run with these losses, whose certificate names this culprit.
     pub(crate) fn of_culprit(culprit: Culprit, losses: Losses) -> CrawlFailure
         ensures { result ≡ record { error = of_cert culprit.cause; culprit = culprit.url; losses = losses_at culprit.url losses } }
     {

@@ -1,5 +1,5 @@
-//! Theorems that connect the definitions of this crate and of the crates below it. Each is the contract of a function that
-//! does nothing when it is called.
+//! Laws that connect the definitions of this crate and of the crates below it. A law is a function that does nothing; its clauses
+//! are the theorem.
 ghost use Rattle.std.specs.Prelude.{◌≡◌, ℕ, ◌+◌, ◌-◌, ◌^◌, List, length, map, ◌<◌, Bool, false, All, Contains, flat_map};
 ghost use Rattle.crawl_certificate.specs.AccountEntries.{entries_in};
 ghost use Rattle.crawl_certificate.specs.CertFaults.{seed_missing, not_fetched, link_missing};
@@ -14,12 +14,11 @@ ghost use Rattle.link_offers.specs.declared.losses.Losses.{Losses};
 ghost use Rattle.crawl_run.specs.JudgedRuns.{IsRun};
 ghost use Rattle.crawl_run.specs.LosslessRuns.{Share, IsWithoutLoss};
 
-/// A run that loses nothing lacks nothing.
+/// In a run that loses nothing, nothing is missing.
 ///
-/// Suppose that all workers of a frontier began with nothing taken and lost nothing, and that the run has an account.
-/// Suppose also that the sender of the seeds has a line in its log for each seed that the filter allows, as it has if the
-/// offers returned Ok ([`crawl_workers::laws::what_is_logged`]). Then the certificate, given all results, finds none of its
-/// first three errors.
+/// Suppose that all workers of a frontier began with nothing taken and lost nothing, and that the run has an account. Suppose also
+/// that the sender of the seeds has a line in its log for each seed that the filter allows, which is so if the offers returned Ok
+/// ([`crawl_workers::laws::what_is_logged`]). Then the certificate of all results finds none of its first three errors.
 pub fn nothing_lost_lacks_nothing()
     ensures whole { (workers : ℕ) (allowed : List ℕ → Bool) (meaning : List ℕ → Page) (seeds : List (List ℕ)) (shares : List Share) (senders : List SenderId) (queues : List (List Entry))
         → 0 < workers → Accounts workers (map (λ share. share.now) shares) senders queues → All (IsWithoutLoss workers allowed meaning) shares

@@ -1,4 +1,4 @@
-//! A crawl on a frontier that has a name (a brand in its type).
+//! A crawl on a frontier that a type parameter identifies.
 ghost use Rattle.std.specs.Prelude.{◌≡◌, ◌⊎◌, ◌≤◌, true, false, ℕ, List, [], ◌∷◌, ◌++◌, IfOk, IfErr};
 ghost use Rattle.crawl_certificate.specs.AccountEntries.{entries_of};
 ghost use Rattle.crawl_certificate.specs.Certificate.{ArePages, IsCrawl, NothingLost, result_urls};
@@ -28,7 +28,7 @@ use std::alloc::Global;
 use std::sync::Wait;
 use std::thread::Threads;
 
-/// Crawls on the frontier of this setup: seeds, run, account, certificate.
+/// Crawls on the frontier of this setup: offers the seeds, runs the workers, and certifies the account.
 #[tactic(auto, using(std::proofs::lemmas::Result::err_from_is_err_and))]
 pub fn crawl_named<K: Name + Send + Sync, F: SessionFetch + Sync, R: Threads + Wait + Sync>(
     rt: &R,
@@ -54,7 +54,7 @@ pub fn crawl_named<K: Name + Send + Sync, F: SessionFetch + Sync, R: Threads + W
     crawled_of(rt, alloc, settings, seeds, ran)
 }
 
-/// Runs all workers of the frontier of this setup from the seeds.
+/// Offers the seeds to a frontier of this setup, and runs all its workers.
 #[tactic(auto, using(crate::proofs::RunResults::all_pages))]
 fn run_from<K: Name + Send + Sync, F: SessionFetch + Sync, R: Threads + Wait + Sync>(
     rt: &R,
@@ -70,14 +70,14 @@ fn run_from<K: Name + Send + Sync, F: SessionFetch + Sync, R: Threads + Wait + S
     requires filter { settings.now.filter.now ≡ K.filter }
     ensures pages { IfOk result (λ ran. ArePages (F.meaning fetcher.now) ran.results.items) }
     ensures workers { IfOk result (λ ran. ran.account.workers ≡ setup.workers) }
-    // If seeder and workers lost nothing, every seed and link is accepted and fetched.
+    // If neither seeder nor workers lost anything, every seed and link is accepted and fetched.
     ensures lost { IfOk result (λ ran. all_losses ran.losses ≡ 0 → NothingLost (allows settings.now.filter.now) seeds.now (entries_of ran.account) ran.results.items) }
     ensures counted { IfOk result (λ ran. IsRun K.workers (allows K.filter) (F.meaning fetcher.now) seeds.now (entries_of ran.account) ran.results.items ran.losses) }
     ensures errors { IfErr result IsUncertified }
     ensures mode { IfErr result (ComesIn settings.now.mode) }
 {
     let (frontier, workers, mut seeder) = Frontier::<K>::new(alloc, setup, settings.filter)?;
-    // A seed that was refused may still be found by a link, and the certificate looks for it.
+    // A seed whose offer failed may still be found by a link, and the certificate tests that.
     let refused = offer_seeds(rt, &frontier, &mut seeder, seeds);
     let sender = seeder.end(&frontier);
     let ends = run(rt, alloc, &frontier, workers, fetcher, settings)?;
@@ -113,7 +113,7 @@ fn offer_seed<K: Name, R: Wait>(
     ensures grows { Grows seeder.old.book seeder.new.book }
     ensures line { all_losses result ≡ 0 → (all_losses before ≡ 0) × (allows K.filter seed.now ≡ true → HasLine K.workers seeder.new.book.log seed.now) }
     ensures filtered { allows K.filter seed.now ≡ false → result ≡ before }
-    // Whatever seeds were offered before it, it is one more.
+    // This is true whatever seeds were offered before it.
     ensures offered { (first : SeederId) (seeds : List (List ℕ)) → AreOffered K.workers (allows K.filter) first seeder.old seeds before → AreOffered K.workers (allows K.filter) first seeder.new (seeds ++ seed.now ∷ []) result }
 {
     match seeder.offer(rt, frontier, seed) {

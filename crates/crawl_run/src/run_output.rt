@@ -1,4 +1,4 @@
-//! What a run left, collected.
+//! Everything that a run left.
 ghost use Rattle.std.specs.Prelude.{◌≡◌, ◌∷◌, ◌++◌, [], IfErr, IfOk};
 ghost use Rattle.crawl_frontier.specs.Accounts.{Accounts};
 ghost use Rattle.crawl_run.specs.Crawls.{ComesIn, CountedBelow, IsUncertified};
@@ -13,7 +13,7 @@ use crawl_workers::WorkerEnd;
 use link_offers::Losses;
 use std::alloc::{AllocError, Global};
 
-/// What a run left: its account, the results of all workers, and what seeder and workers lost.
+/// Everything that a run left: its account, the results of all workers, and the losses of seeder and workers.
 #[derive(Drop)]
 pub struct RunOutput {
     pub account: Account,
@@ -21,8 +21,8 @@ pub struct RunOutput {
     pub losses: Losses,
 }
 
-/// Collects what a run of this frontier left: closed workers and results in the order of `ends`, and the losses in addition to
-/// those of the seeds. So the results are in the order of an account's entries, which is where the certificate looks for each first.
+/// Collects what a run of this frontier left: closed workers and results in the order of `ends`, and the losses, added to those of
+/// the seeds. So the results are in the order of an account's entries, in which the certificate searches for them.
 #[tactic(auto, using(std::proofs::lemmas::List::append_assoc))]
 pub fn output_of<K: Name>(
     alloc: Global,

@@ -1,4 +1,4 @@
-//! How a crawl runs.
+//! The settings of a crawl.
 ghost use Rattle.std.specs.Prelude.{◌≡◌, ◌<◌, ◌↔◌, IsTrue};
 ghost use Rattle.crawl_run.specs.declared.settings.Mode.TheVariants as modes;
 
@@ -13,7 +13,7 @@ pub enum Mode {
     Threads,
 }
 
-/// How a crawl runs. What it finds depends only on the filter.
+/// The settings of a crawl. What it finds depends only on the filter.
 ///
 /// # Example
 ///
@@ -31,11 +31,11 @@ pub enum Mode {
 pub struct CrawlSettings<'f> {
     /// The number of workers, each with its own queue: 1 to 512.
     pub workers: u32,
-    /// The most URLs that are waiting or in progress at a time: 1 to 2^40. The seeding phase counts as one.
+    /// The greatest number of URLs that are waiting or in progress: 1 to 2^40. The seeding phase counts as one.
     pub max_pending: u64,
     /// Whether workers run in threads. A single worker runs on the calling thread.
     pub mode: Mode,
-    /// Which hosts are crawled.
+    /// The filter, which says which hosts are crawled.
     pub filter: &'f Filter,
 }
 

@@ -31,7 +31,7 @@ pub trait Observe {
     fn fetched(&self, pages: u64);
 }
 
-/// How many fetches a worker reports at a time.
+/// The number of fetches in a report of a worker.
 const FETCHES_PER_REPORT: u32 = 64;
 
 /// A source of the same pages as another, which reports to an observer how many were fetched. Each fetch is a fetch from the
@@ -49,7 +49,7 @@ const FETCHES_PER_REPORT: u32 = 64;
 pub struct Watched<'f, 'o, F: SessionFetch, V: Observe> {
     source: &'f F,
     observer: &'o V,
-    /// How many fetches were reported.
+    /// The number of fetches that were reported.
     reported: AtomicU64,
 }
 
@@ -57,7 +57,7 @@ pub struct Watched<'f, 'o, F: SessionFetch, V: Observe> {
 #[derive(Drop)]
 pub struct WatchedSession<S> {
     inner: S,
-    /// How many of its fetches are not reported yet.
+    /// The number of its fetches that are not reported yet.
     unreported: u32,
 }
 
@@ -84,7 +84,7 @@ impl<'f, 'o, F: SessionFetch, V: Observe> SessionFetch for Watched<'f, 'o, F, V>
 
     fn open_session(&self, alloc: Global, among: u32) -> WatchedSession<F::Session>
         ensures right { F.is_of self.now.source.now result.inner × (result.unreported < fetches_per_report) }
-        // All of its fetches are reported.
+        // All fetches of a new session are reported: there are none.
         ensures fresh { result.unreported ≡ 0 }
     {
         WatchedSession {
@@ -120,7 +120,7 @@ fn report<V: Observe>(reported: &AtomicU64, observer: &V, fetches: u32) {
     observer.fetched(before.saturating_add(more));
 }
 
-/// Counts a fetch. Returns how many are not reported then, and how many to report now.
+/// Counts a fetch. Returns the number that is then not reported, and the number to report now.
 fn counted(unreported: u32) -> (u32, u32)
     requires { unreported < fetches_per_report }
     // Each fetch is reported or not, and none is reported twice.

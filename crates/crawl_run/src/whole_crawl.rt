@@ -21,14 +21,14 @@ use std::marker::Brand;
 use std::sync::Wait;
 use std::thread::Threads;
 
-/// Crawls from the seeds: fetches every URL that the filter allows and that is reachable from them over links between such
-/// URLs.
+/// Crawls from the seeds: fetches every URL that the filter allows and to which links lead from the seeds, over URLs that the
+/// filter allows.
 ///
 /// The frontier has `workers` workers, 1 to 512, each with its own queue. It accepts a URL only while fewer than
 /// `max_pending` URLs (1 to 2^40) are being offered, waiting or in progress. The seeds are offered in order, then the workers
 /// run until nothing is left, and what they leave is certified. A seed that was refused may still be found by a link.
 ///
-/// Nothing bounds the number of pages that a fetcher has, so the call may never return.
+/// A source may have any number of pages, so the call may never return.
 ///
 /// # Errors
 /// Those of [`CrawlError`], in its order. If memory runs out while workers run, a URL is lost, and the certificate decides
