@@ -1,4 +1,4 @@
--- The kinds of atomic step of a frontier, what each does, and histories of such steps.
+-- The kinds of a frontier's atomic steps, what each does, and histories of such steps.
 use Rattle.std.specs.Prelude.{◌≡◌, ◌≢◌, ◌⊎◌, ℕ, ◌+◌, ◌<◌, Bool, true, false, List, [], ◌∷◌, ◌++◌, Option, Some, None, slice_get, slice_set}
 use Rattle.std.specs.List.{list_any}
 use Rattle.std.specs.Ordering.{nat_cmp}
@@ -24,16 +24,16 @@ use Rattle.crawl_queues.specs.History as subqueues
 use Rattle.crawl_queues.specs.History.{ViewAt}
 use Rattle.crawl_tie.specs.Whole.{Lane, Whole, Owner, Seeds, Offer, Sent}
 
--- Which step it is: a kind of step of the gate or of a subqueue, and for whom. A count is the one that the step leaves, or that
--- it finds if it changes nothing.
+-- A step: a kind of step of the gate or of a subqueue, and for whom. A count is the one that the step leaves, or the one that it
+-- finds if it changes nothing.
 pub data Act : Type 0 where
   -- `splits`: a pass of the gate is split off
   Splits : Act
-  -- `looks`: this sender loads this word, in an offer that continues, or as the worker that has just popped a URL; or its offer
-  -- ends with this load, because the gate is closed or full
+  -- `looks`: the sender loads this word, in an offer that continues, or as the worker that has just popped a URL; or its offer ends
+  -- with this load, because the gate is closed or full
   Looks : ℕ → Word → Act
   LooksAway : ℕ → Word → Act
-  -- `enters`, `loses`: the exchange of an offer of this sender wins at this count, or finds this word
+  -- `enters`, `loses`: the exchange of an offer of this sender succeeds at this count, or finds this word
   Enters : ℕ → ℕ → Act
   Loses : ℕ → Word → Act
   -- `leaves`: an offer gives its unit back, or does so because this URL is in this subqueue; the fetch of a subqueue's worker is
@@ -49,13 +49,13 @@ pub data Act : Type 0 where
   -- `pushes`, `pops`: an entry is pushed to this subqueue, or popped from it
   Pushes : ℕ → Entry → Act
   Pops : ℕ → Entry → Act
-  -- a pop that finds nothing, which is no step of a subqueue; and `finds_nothing`, the step that counts it
+  -- a pop that finds nothing, which is not a step of a subqueue; and `finds_nothing`, the step that counts it
   PopsNone : ℕ → Act
   FindsNothing : ℕ → Act
-  -- `takes_in`: the end of the run takes the pass that pops into the one that pushes
+  -- `takes_in`: at the end of the run, the pass that may pop and the one that may push become one
   TakesIn : ℕ → Act
 
--- ## The steps of the parts, each as the arguments of its kind
+-- ## The steps of the gate and the subqueues, each as the arguments of its kind
 
 -- `splits`
 pub record Splitting (gate gate' : gates.Moment) : Type 0 where
@@ -103,7 +103,7 @@ pub record NotClosing (gate gate' : gates.Moment) (x : Word) : Type 0 where
   pub other : x ≢ open_at 0
   pub steps : SeatSteps gate gate' view (view_not_closing view x) x x
 
--- `pushes`: of an entry, with its unit
+-- `pushes`: an entry, with its unit
 pub record Pushing (m m' : subqueues.Moment) (e : Entry) : Type 0 where
   pub pass : ℕ
   pub home : Home
@@ -151,7 +151,7 @@ pub record TakingIn (m m' : subqueues.Moment) : Type 0 where
   pub view' : ViewAt m other (popping home' taken empty_pops)
   pub next : m' ≡ record { items = m.items; views = slice_set (slice_set m.views pass (reunited (pushing home sent) (popping home' taken empty_pops))) other spent }
 
--- the URL is in the list that the pass that pushes has sent
+-- the URL is in the list of what was sent
 pub record StandsIn (m : subqueues.Moment) (url : List ℕ) : Type 0 where
   pub pass : ℕ
   pub home : Home
@@ -159,20 +159,20 @@ pub record StandsIn (m : subqueues.Moment) (url : List ℕ) : Type 0 where
   pub view : ViewAt m pass (pushing home sent)
   pub stands : has_url url sent ≡ true
 
--- ## What else is known at each step, and what it leaves
+-- ## What else is known at each step, and the moment after it
 
 abbrev pub core_word : Word → core.Word
 core_word x = record { count = x.0; closed = x.1 }
 
--- whether an offer of this sender has entered, and has neither given its unit back nor sent it off
+-- whether an offer of this sender has entered, and has neither given its unit back nor passed it to an entry
 abbrev pub is_offering : Whole → ℕ → Bool
 is_offering w s = list_any (is_at (nat_cmp s)) w.offering
 
--- the word that the sender loaded last, if it has not entered since
+-- the word that the sender loaded last, unless it has entered since
 abbrev pub loaded_by : Whole → ℕ → Option core.Word
 loaded_by w s = lookup (is_at (nat_cmp s)) w.loaded
 
--- the unit of the seat is this one's
+-- the unit of the seat belongs to this owner
 abbrev pub IsOwner : Whole → ℕ → Owner → Type 0
 IsOwner w seat owner = slice_get w.owners seat ≡ Some (Some owner)
 
@@ -183,7 +183,7 @@ with_gate w gate = record w { gate = gate }
 abbrev pub with_lane : Whole → ℕ → Lane → Whole
 with_lane w q l = record w { lanes = slice_set w.lanes q l }
 
--- a new pass has no unit
+-- a new pass holds no unit
 abbrev pub after_splitting : Whole → gates.Moment → Whole
 after_splitting w gate = record w { gate = gate; owners = w.owners ++ None ∷ [] }
 
@@ -215,7 +215,7 @@ after_fetching w gate seat q l = record w {
 abbrev pub after_seeding : Whole → gates.Moment → ℕ → Whole
 after_seeding w gate seat = record w { gate = gate; owners = slice_set w.owners seat None; seeding = false }
 
--- the entry goes to the subqueue, and the unit of its sender's offer with it
+-- the entry is pushed to the subqueue, with the unit of its sender's offer
 abbrev pub after_pushing : Whole → ℕ → Lane → subqueues.Moment → ℕ → ℕ → Whole
 after_pushing w q l m seat s = record w {
   lanes = slice_set w.lanes q (record { moment = m; fetching = l.fetching });
@@ -223,12 +223,12 @@ after_pushing w q l m seat s = record w {
   offering = remove_key (is_at (nat_cmp s)) w.offering;
 }
 
--- the unit that goes with the message is the very seat that entered for its sender, with the view that the seat has now
+-- the unit of the message is the seat with which its sender entered, with the view that the seat has now
 pub record IsUnitOf (w : Whole) (s : ℕ) (m : Message) : Type 0 where
   pub owner : IsOwner w m.unit.number (Offer s)
   pub view : get_elem? w.gate.views m.unit.number ≡ some m.unit.view
 
--- the step, from one moment to the next
+-- the step leads from one moment to the next
 abbrev pub Atomic : Whole → Act → Whole → Type 0
 Atomic w Splits w' = (gate : gates.Moment) × Splitting w.gate gate × (w' ≡ after_splitting w gate)
 Atomic w (Looks s x) w' = (gate : gates.Moment) × Looking w.gate gate x × (w' ≡ after_looking w gate s x)
@@ -265,7 +265,7 @@ Atomic w (FindsNothing q) w' =
 Atomic w (TakesIn q) w' =
     (l : Lane) × (m : subqueues.Moment) × TakingIn l.moment m × (slice_get w.lanes q ≡ Some l) × (w' ≡ with_lane w q (record { moment = m; fetching = l.fetching }))
 
--- these steps, one after another, lead from one moment to another
+-- these steps, one after the other, lead from one moment to another
 abbrev pub History : Whole → List Act → Whole → Type 0
 History w [] v = v ≡ w
 History w (act ∷ acts) v = (next : Whole) × Atomic w act next × History next acts v

@@ -1,4 +1,4 @@
--- What is left of a part's own kinds of step: none that the atomic steps do not make.
+-- The steps that the gate and the subqueues can make: each is one of the atomic steps.
 use Rattle.std.specs.Prelude.{◌≡◌, ℕ, Bool, true, false, map, Option, Some, None}
 use Rattle.crawl_gate.specs.declared.rule.View.{View}
 use Rattle.crawl_gate.specs.Word.{Word}
@@ -10,7 +10,7 @@ use Rattle.crawl_queues.specs.History.{ViewAt, SubqueueStep, settles, divides, p
 use Rattle.crawl_tie.specs.Whole.{Whole, Owner, Seeds, Offer}
 use Rattle.crawl_tie.specs.Acts.{Splitting, Looking, Entering, Losing, Leaving, Closing, NotClosing, Pushing, Popping, Counting, TakingIn, IsOwner, is_offering}
 
--- which step a gate made
+-- the step that a gate made
 pub data GateMoves (gate gate' : gates.Moment) : Type 0 where
   splitting_one : Splitting gate gate' → GateMoves gate gate'
   looking_one : (x : Word) → Looking gate gate' x → GateMoves gate gate'
@@ -20,22 +20,22 @@ pub data GateMoves (gate gate' : gates.Moment) : Type 0 where
   closing_one : Closing gate gate' → GateMoves gate gate'
   not_closing_one : (x : Word) → NotClosing gate gate' x → GateMoves gate gate'
 
--- no pass may both push and pop, as in every subqueue of a frontier that was made
+-- no pass may both push and pop, as in every subqueue of a frontier that is complete
 abbrev pub IsDivided : subqueues.Moment → Type 0
 IsDivided m = (pass : ℕ) (v : PassView) → ViewAt m pass v → v.sends ≡ true → v.takes ≡ true → ⊥
 
--- a pass that may do one of the two may do both, as once a pass was taken in
+-- a pass that may push or pop may do both, as after two passes became one
 abbrev pub IsUnited : subqueues.Moment → Type 0
 IsUnited m = (pass : ℕ) (v : PassView) → ViewAt m pass v → v.sends ≡ v.takes
 
--- which step a divided subqueue made, and whether it is divided still
+-- the step that a divided subqueue made, and whether it is still divided
 pub data LaneMoves (m m' : subqueues.Moment) : Type 0 where
   pushing_one : (e : Entry) → Pushing m m' e → IsDivided m' → LaneMoves m m'
   popping_one : (e : Entry) → Popping m m' e → IsDivided m' → LaneMoves m m'
   counting_one : Counting m m' → IsDivided m' → LaneMoves m m'
   taking_in_one : TakingIn m m' → IsUnited m' → LaneMoves m m'
 
--- a step by which a subqueue is made
+-- the step is one of those with which a subqueue is made
 abbrev pub IsMaking : {m m' : subqueues.Moment} → SubqueueStep m m' → Bool
 IsMaking (settles pass h old at is) = true
 IsMaking (divides pass h at is) = true
@@ -44,14 +44,14 @@ IsMaking (pops pass h taken n x rest at items is) = false
 IsMaking (finds_nothing pass h taken n at is) = false
 IsMaking (takes_in pass h sent other home taken n apart at there is) = false
 
--- ## Whose each unit is
+-- ## The owner of each unit
 
 abbrev pub is_owned : Option Owner → Bool
 is_owned None = false
 is_owned (Some owner) = true
 
--- A seat holds a unit exactly if it has an owner. The seeds have one seat at most, and only until they end; so has each
--- sender, and only in an offer.
+-- A seat holds a unit if and only if it has an owner. The seeds own at most one seat's unit, and only until they end. Each sender
+-- owns at most one, and only in an offer.
 pub record UnitsAreOwned (w : Whole) : Type 0 where
   pub held : map (λ (v : View). v.holds_unit) w.gate.views ≡ map is_owned w.owners
   pub seeds : (seat : ℕ) → IsOwner w seat Seeds → w.seeding ≡ true

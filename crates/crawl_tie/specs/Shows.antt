@@ -1,4 +1,4 @@
--- The events of the machine that an atomic step is, and the states that show a moment.
+-- The events of the machine for each atomic step, and the states that represent a moment.
 use Rattle.std.specs.Prelude.{◌≡◌, ℕ, suc, ◌≤◌, Bool, true, take, List, [], ◌∷◌, ◌++◌, length, map, Some, slice_get, if◌then◌else◌}
 use Rattle.crawl_core.specs.declared.event.Event.{Event}
 use Rattle.crawl_core.specs.declared.event.Event.TheVariants.{Look, Enter, Admit, Back, EndSeeds, Take, Done, Close}
@@ -21,7 +21,7 @@ use Rattle.crawl_queues.specs.History as subqueues
 use Rattle.crawl_tie.specs.Whole.{Lane, Whole}
 use Rattle.crawl_tie.specs.Acts.{Act, Splits, Looks, LooksAway, Enters, Loses, LeavesOffer, LeavesSeen, LeavesFetch, LeavesSeeds, Closes, NotClosesClosed, NotClosesPending, Pushes, Pops, PopsNone, FindsNothing, TakesIn}
 
--- the row of the table: the events of a step, with their replies
+-- the row of the table: the events of a step, and their replies
 abbrev pub events_of : Act → List (Event × Reply)
 events_of Splits = []
 events_of (Looks s x) = (Look s, told.Word x.0 x.1) ∷ []
@@ -45,18 +45,18 @@ abbrev pub events : List Act → List (Event × Reply)
 events [] = []
 events (act ∷ acts) = events_of act ++ events acts
 
--- the machine has no hops
+-- the machine's messages have no hops
 abbrev pub message_of : Entry → core.Message
 message_of e = record { url = e.url; sender = e.sender; number = e.number }
 
--- the list sent to a subqueue and the list taken from it
+-- the list of what was sent to a subqueue, and the list of what was taken from it
 pub record HasLists (gate : GateId) (workers q : ℕ) (m : subqueues.Moment) (sent taken : List Entry) : Type 0 where
   pub kept : SubqueueInvariant m.items m.views
   pub here : kept.home ≡ home gate workers q
   pub sent_is : kept.sent ≡ sent
   pub taken_is : kept.taken ≡ taken
 
--- a subqueue of the machine shows this one: what was sent, how much was taken, and whether a fetch is on
+-- a subqueue of the machine represents this one: what was sent, how much of it was taken, and whether a fetch is in progress
 pub record ShowsLane (gate : GateId) (workers q : ℕ) (queue : Subqueue) (lane : Lane) : Type 0 where
   pub sent : List Entry
   pub taken : List Entry
@@ -65,7 +65,7 @@ pub record ShowsLane (gate : GateId) (workers q : ℕ) (queue : Subqueue) (lane 
   pub takes : length taken ≡ queue.taken
   pub busy : queue.busy ≡ lane.fetching
 
--- a state of the machine shows this moment
+-- a state of the machine represents this moment
 pub record ShowsWhole (gate : GateId) (workers : ℕ) (state : State) (w : Whole) : Type 0 where
   pub word : w.gate.words ≡ bits (count_of state, state.gate.closed) ∷ []
   pub holders : state.gate.holders ≡ w.offering
@@ -74,7 +74,7 @@ pub record ShowsWhole (gate : GateId) (workers : ℕ) (state : State) (w : Whole
   pub max : state.gate.max ≡ w.max
   pub lanes : (q : ℕ) (l : Lane) → slice_get w.lanes q ≡ Some l → (queue : Subqueue) × (slice_get state.subqueues q ≡ Some queue) × ShowsLane gate workers q queue l
 
--- ## The invariants of what is shown
+-- ## The invariants, for what is represented
 
 -- the word and the number of units of a state
 pub record ShowsGate (state : State) (gate : gates.Moment) : Type 0 where
@@ -87,18 +87,18 @@ pub record ShowsLists (queue : Subqueue) (sent taken : List Entry) (waits : List
   pub takes : map message_of taken ≡ take queue.taken queue.accepted
   pub leaves : map message_of (map plain waits) ≡ waiting queue
 
--- each URL was admitted to the subqueue of its host
+-- each URL was admitted to the subqueue to which its host is assigned
 abbrev pub IsPlaced : ℕ → ℕ → Subqueue → Type 0
 IsPlaced workers q queue = (k : ℕ) (m : core.Message) → slice_get queue.accepted k ≡ Some m → subqueue_of m.url workers ≡ q
 
--- the count is the number of units held, at most the maximum, and 0 in a closed gate
+-- the count is the number of units held, at most the maximum, and 0 if the gate is closed
 pub record CountsUnits (max : ℕ) (gate : gates.Moment) : Type 0 where
   pub closed : Bool
   pub word : gate.words ≡ bits (units_held gate.views, closed) ∷ []
   pub within : units_held gate.views ≤ max
   pub empty : closed ≡ true → units_held gate.views ≡ 0
 
--- what was sent is what was taken and what waits, and each entry may follow those before it
+-- what was sent is what was taken, followed by what waits; and each entry may come after those before it
 pub record ListsKeep (workers q : ℕ) (sent taken : List Entry) (waits : List Message) : Type 0 where
   pub split : map message_of sent ≡ map message_of taken ++ map message_of (map plain waits)
   pub rule : KeepsRule workers q [] sent
