@@ -1,4 +1,4 @@
--- What `{}` prints of an error.
+-- The text that `{}` prints for an error.
 use Rattle.std.specs.Prelude.{ℕ, List, codes}
 use Rattle.crawl_workers.specs.declared.error.RunError.{RunError}
 use Rattle.crawl_workers.specs.declared.error.RunError.TheVariants.{NoMemory, NoThread}

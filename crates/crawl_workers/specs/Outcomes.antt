@@ -1,4 +1,4 @@
--- What became of each URL that a worker took, and what was lost by it.
+-- The outcome for each URL that a worker took, and what was lost.
 use Rattle.std.specs.Prelude.{◌≡◌, ℕ, Bool, List, [], ◌∷◌, ◌++◌, map, flat_map}
 use Rattle.crawl_pages.specs.declared.page.Page.{Page}
 use Rattle.crawl_pages.specs.declared.page.PageResult.{PageResult}
@@ -12,8 +12,8 @@ use Rattle.link_offers.specs.declared.losses.Losses.{Losses}
 use Rattle.link_offers.specs.Losses.{no_losses}
 use Rattle.link_offers.specs.Offers.{Answer, AllAnswered, losses_by, with_losses}
 
--- what became of a URL that was taken: its fetch failed, or the offers of its page's links had these results, and its result found no room
--- or was kept
+-- the outcome for a URL that was taken: its fetch failed; or the offers of its page's links had these results, and there was or was
+-- not memory for its result
 pub data Outcome : Type 0 where
   failed : Outcome
   unkept : List Answer → Outcome
@@ -24,7 +24,7 @@ losses_at failed = loss.Failed ∷ []
 losses_at (unkept answers) = flat_map losses_by answers ++ loss.Unkept ∷ []
 losses_at (kept answers) = flat_map losses_by answers
 
--- its result, if it has one
+-- the URL's result, if there is one
 abbrev pub found_at : (List ℕ → Page) → List ℕ → Outcome → List PageResult
 found_at meaning url failed = []
 found_at meaning url (unkept answers) = []
@@ -36,7 +36,7 @@ GoesOn workers allowed b b' links failed = b' ≡ b
 GoesOn workers allowed b b' links (unkept answers) = AllAnswered workers allowed b b' links answers
 GoesOn workers allowed b b' links (kept answers) = AllAnswered workers allowed b b' links answers
 
--- between these books the worker was busy with this entry
+-- the worker was busy with this entry, with these books before and after
 pub record IsTurn (workers : ℕ) (allowed : List ℕ → Bool) (meaning : List ℕ → Page) (book book' : BookId) (e : Entry) (outcome : Outcome) : Type 0 where
   pub before : BusyId
   pub after : BusyId
@@ -58,7 +58,7 @@ AreTurns workers allowed meaning b b' (t ∷ ts) =
 abbrev pub entries_in : List Turn → List Entry
 entries_in turns = map (λ (t : Turn). t.0) turns
 
--- From `start` to `now` the worker had these turns, one for each entry that it took; they leave its books, its results and
+-- From `start` to `now` the worker had these turns, one for each entry that it took. They account for its books, its results and
 -- exactly these losses.
 pub record IsTold (workers : ℕ) (allowed : List ℕ → Bool) (meaning : List ℕ → Page) (start now : WorkerId) (results : List PageResult) (losses : Losses) : Type 0 where
   pub turns : List Turn

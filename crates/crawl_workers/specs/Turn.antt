@@ -1,4 +1,4 @@
--- What one turn of a worker does.
+-- What a worker does in one turn.
 use Rattle.std.specs.Prelude.{◌≡◌, ◌⊎◌, ℕ, Bool, List, [], ◌∷◌, ◌++◌}
 use Rattle.crawl_pages.specs.declared.page.Page.{Page}
 use Rattle.crawl_pages.specs.declared.page.PageResult.{PageResult}
@@ -22,7 +22,7 @@ worker_in (Waits w) = w
 worker_in (Closes w) = w
 
 -- From `start` to `now`, with these results and offers: the worker keeps its queue; its turns are those of `IsTold`, each with a
--- URL that is new in the queue and belongs there; and the log has a line of each URL that is remembered.
+-- URL that is new in the queue and belongs there; and the log has a line for each URL that is remembered.
 pub record Progress (workers : ℕ) (allowed : List ℕ → Bool) (meaning : List ℕ → Page) (start now : WorkerId) (results : List PageResult) (offers : LinkOffers) : Type 0 where
   pub queue : now.queue ≡ start.queue
   pub told : IsTold workers allowed meaning start now results offers.losses
@@ -32,7 +32,7 @@ pub record Progress (workers : ℕ) (allowed : List ℕ → Bool) (meaning : Lis
 abbrev pub Goes : ℕ → (List ℕ → Bool) → (List ℕ → Page) → WorkerId → WorkerId → WorkerOutput → Type 0
 Goes workers allowed meaning start now output = Progress workers allowed meaning start now output.results.items output.offers
 
--- what became of the URL that was taken, and exactly what was lost by it; the log has a line of each URL that is then remembered
+-- the outcome for the URL that was taken, and exactly what was lost; the log has a line for each URL that is remembered after it
 pub record UrlOutcome (workers : ℕ) (allowed : List ℕ → Bool) (meaning : List ℕ → Page) (b b' : BusyId) (old new : WorkerOutput) : Type 0 where
   pub outcome : Outcome
   pub links : GoesOn workers allowed b b' (links_of (meaning b.message.entry.url)) outcome
@@ -40,7 +40,7 @@ pub record UrlOutcome (workers : ℕ) (allowed : List ℕ → Bool) (meaning : L
   pub losses : new.offers.losses ≡ with_losses (losses_at outcome) old.offers.losses
   pub known : Knows workers b'.worker.book.log new.offers.recent
 
--- the page is one result more, or there was no room for it
+-- the page was added to the results, or there was no memory for it
 abbrev pub HasRoomOrNot : List ℕ → Page → WorkerOutput → WorkerOutput → Type 0
 HasRoomOrNot url page old new =
     ((new.results.items ≡ old.results.items ++ record { url = url; page = page } ∷ []) × (new.offers ≡ old.offers))

@@ -10,18 +10,18 @@ const AT_ONCE: usize = 16;
 /// How far a worker has looked ahead.
 #[derive(Clone, Copy)]
 pub(crate) struct LookAhead {
-    /// The number of URLs after which it looks again.
+    /// The number of taken URLs after which it looks again.
     until: usize,
 }
 
 impl LookAhead {
-    /// A worker that has not looked yet.
+    /// Makes the state of a worker that has not looked yet.
     pub fn new() -> LookAhead {
         LookAhead { until: 0 }
     }
 
     /// Announces the URLs that a worker takes after the first `taken`, if it has taken those that were announced before. If few
-    /// URLs wait, a look costs more than it saves, so the next one comes later.
+    /// URLs wait, a look costs more than it saves, so the next look comes later.
     pub fn look<K: Name, F: SessionFetch, R: Wait>(
         &mut self,
         rt: &R,
@@ -41,7 +41,7 @@ impl LookAhead {
             AT_ONCE
         };
         let expected = hashes.get(..count).unwrap_or(&[]);
-        // The sum means nothing. It is used only because the compiler would otherwise remove the reads.
+        // The sum has no meaning. It is used only because the compiler would otherwise remove the reads.
         let read = usize::from(fetcher.expect(expected) == 0);
         self.until = taken.saturating_add(next).saturating_add(read);
     }

@@ -1,4 +1,4 @@
-//! Laws: what is in the account of a run that lost nothing. They are theorems, and do nothing when called.
+//! Laws: what is in the account of a run that lost nothing. A law is a function that does nothing; its clauses are the theorem.
 ghost use Rattle.std.specs.Prelude.{◌≡◌, ℕ, ◌<◌, Bool, List, [], Ok, Result, All};
 ghost use Rattle.crawl_pages.specs.declared.page.Page.{Page};
 ghost use Rattle.crawl_pages.specs.declared.page.PageResult.{PageResult};
@@ -14,8 +14,8 @@ ghost use Rattle.link_offers.specs.Logs.{HasLine, Grows};
 ghost use Rattle.crawl_workers.specs.Lossless.{result_urls, entry_urls, IsAccepted, AllAccepted};
 ghost use Rattle.crawl_workers.specs.Ran.{Ran};
 
-/// For each worker that lost nothing, in a run that has an account: if it had taken nothing before, its results have the URLs
-/// that its queue accepted, in order; and each allowed link of each of its results was accepted.
+/// For each worker that lost nothing, in a run that has an account: if it had taken nothing before, its results have exactly the
+/// URLs that its queue accepted, in order; and each allowed link of each of its results was accepted.
 pub fn worker_without_loss()
     ensures fetched { (workers : ℕ) (allowed : List ℕ → Bool) (meaning : List ℕ → Page) (closed : List WorkerId) (senders : List SenderId) (queues : List (List Entry))
         → Accounts workers closed senders queues
@@ -27,8 +27,8 @@ pub fn worker_without_loss()
         → All (λ (r : PageResult). AllAccepted workers allowed queues (links_of r.page)) results }
 {}
 
-/// For each part of a run that has an account: if its log has a line for a URL, this URL was accepted. So a seed whose offer
-/// returned `Ok` was accepted, because the offer adds a line to the log, and the log only grows.
+/// For each worker and sender of a run that has an account: if its log has a line for a URL, this URL was accepted. So a seed whose
+/// offer returned `Ok` was accepted, because the offer adds a line to the log, and the log only grows.
 pub fn what_is_logged()
     ensures accepted { (workers : ℕ) (closed : List WorkerId) (senders : List SenderId) (queues : List (List Entry)) → 0 < workers
         → Accounts workers closed senders queues

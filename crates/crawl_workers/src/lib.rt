@@ -2,7 +2,7 @@
 //! URL is done.
 //!
 //! [`run_worker`] runs one worker on the calling thread, [`run_turns`] runs all of them there in turn, and [`run_threads`] runs
-//! each in its own thread. The contracts of all three promise equally much of a worker's [`WorkerEnd`].
+//! each in its own thread. The contracts of all three make the same promises about a worker's [`WorkerEnd`].
 #![tactic(auto)]
 
 mod ahead;

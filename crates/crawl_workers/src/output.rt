@@ -47,7 +47,7 @@ impl WorkerOutput {
         }
     }
 
-    /// Returns what is left of a worker that has closed: its results and its losses.
+    /// Returns the end of a worker that has found the gate closed: its results and its losses.
     pub fn end<K: Name>(self, closed: ClosedWorker<K>) -> WorkerEnd<K>
         ensures closed { result.closed ≡ closed }
         ensures results { result.results ≡ self.results }

@@ -12,17 +12,17 @@ use crossbeam_utils::Backoff;
 use std::alloc::Global;
 use std::sync::Wait;
 
-// The number of turns in a row that find nothing before a worker sleeps. Each is followed by a longer spin than the one before.
-// Together they last some microseconds, about as long as it takes to be woken. A worker never yields its processor, because
-// under other load that could take a thousand times as long.
+// The number of turns in a row that find nothing before a worker sleeps. After each it spins, longer each time. Together the spins
+// last some microseconds, about as long as it takes to be woken. A worker never yields its processor, because under other load that
+// could take a thousand times as long.
 const SPINS: u32 = 7;
 
 /// Runs a worker until it finds the gate closed.
 ///
 /// It fetches each URL that it takes, offers the page's links in order except those that it remembers, keeps the result, and is
 /// done with the URL. After a turn that finds no URL it pauses, each time longer, and after seven such turns in a row it sleeps
-/// until there may be something to do ([`Worker::rest`]). It does not end while another worker is busy, or before the seeder
-/// has ended. So run the frontier's other workers on other threads.
+/// until there may be something to do ([`Worker::rest`]). It does not end while another worker is busy, or before the seeder has
+/// ended, so the frontier's other workers must run on other threads.
 ///
 /// The worker owns its session of the source.
 pub fn run_worker<K: Name, F: SessionFetch, R: Wait>(

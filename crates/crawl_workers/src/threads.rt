@@ -15,7 +15,7 @@ use std::sync::{OnceLock, Wait};
 use std::thread;
 use std::thread::{Promise, Threads};
 
-// The promise of a thread: the end of this worker, or none if the run was given up.
+// The promise of a thread: the end of its worker, or none if the run was given up.
 #[derive(Drop)]
 struct EndOf<'a, K: Name, F: SessionFetch> {
     worker: Snapshot<Worker<K>>,

@@ -53,7 +53,7 @@ pub(crate) fn turn<K: Name, F: SessionFetch, R: Wait>(
 ) -> Step<K>
     requires { F.is_of fetcher.now session.old }
     ensures right { F.is_of fetcher.now session.new }
-    // This holds for every worker with which the run began.
+    // This is true of every worker with which the run may have begun.
     ensures goes { (start : WorkerId) → Goes K.workers (allows K.filter) (F.meaning fetcher.now) start worker output.old → Goes K.workers (allows K.filter) (F.meaning fetcher.now) start (worker_in result) output.new }
 {
     let taken = output.results.len();
