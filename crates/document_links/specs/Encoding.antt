@@ -40,7 +40,8 @@ abbrev pub text_in : List ℕ → Option (Vec ℕ Global) → List ℕ
 text_in body None = without_mark body
 text_in body (Some text) = text.items
 
--- the links of a document with this text: with those of its styles if the options ask for them, and below the path of the top if the options have one
+-- the links of a document with this text: with those of its styles if the options ask for them, and below the path of the top if
+-- the options have one
 abbrev pub read_links_of : ReadOptions → List ℕ → List (List ℕ)
 read_links_of options text = all_rooted options.root (links_of options.styles options.syntax text)
 

@@ -27,8 +27,8 @@ part_of Rss name = if bytes_eq name (codes "link") then Content else if bytes_eq
 part_of Atom name = if bytes_eq name (codes "link") then Href else if bytes_eq name (codes "content") then Src else Nothing
 part_of Other name = Nothing
 
--- The text from here to the next tag, without comments, instructions and declarations. `skip` bytes are skipped first, and `run` is the text since the last
--- markup.
+-- The text from here to the next tag, without comments, instructions and declarations. `skip` bytes are skipped first, and `run` is
+-- the text since the last markup.
 abbrev pub text_from : ℕ → List ℕ → List ℕ → List ℕ
 text_from skip run [] = unescaped run
 text_from (suc skip) run (b ∷ bytes) = text_from skip run bytes

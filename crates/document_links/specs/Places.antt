@@ -1,4 +1,4 @@
--- Points in a text, each a line and a character of it, from 1; and the locations of links in a file.
+-- Points in a text, by the line and the character in it, each from 1; and the locations of links in a file.
 use Rattle.std.specs.Prelude.{◌≡◌, ◌≤◌, map, ℕ, ◌+◌, ◌==◌, Bool, true, false, not, if◌then◌else◌, List, [], ◌∷◌, take, count_by, bit_and, length, slice_index_or, string_bytes, IsAscii}
 use Rattle.std.specs.List.{list_any}
 use Rattle.std.specs.Str.Lossy.{utf8_lossy}
@@ -54,8 +54,8 @@ point_of_place place = record { line = place.line; column = place.column }
 abbrev pub written_in : TextKind → List ℕ → ℕ → List ℕ
 written_in kind text index = utf8_lossy (clean (slice_index_or (links_in kind text) index []))
 
--- these are the locations of the links with these indices: each link has a position in the text, and in a known encoding the links as written are those of the
--- text
+-- these are the locations of the links with these indices: each link has a position in the text, and in a known encoding the links
+-- as written are those of the text
 pub record ArePlacesIn (kind : TextKind) (charset : Charset) (text indices : List ℕ) (places : List TextPlace) : Type 0 where
   pub position : ℕ → ℕ
   pub placed : map point_of_place places ≡ map (λ index. point_at text (position index)) indices
