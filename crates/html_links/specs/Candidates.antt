@@ -1,4 +1,5 @@
--- The URLs of a `srcset`, by the HTML Standard's rules for parsing a srcset attribute, but including candidates whose descriptors it rejects.
+-- The URLs of a `srcset`, by the HTML Standard's rules for parsing a srcset attribute, but including candidates whose descriptors
+-- it rejects.
 use Rattle.std.specs.Prelude.{ℕ, ◌==◌, ◌||◌, nat_lt, not, Bool, true, false, if◌then◌else◌, List, [], ◌∷◌, ◌++◌, length}
 use Rattle.html_links.specs.Shown.{is_space}
 

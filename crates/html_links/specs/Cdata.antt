@@ -1,5 +1,6 @@
--- The end of what begins with `<![` in foreign content, from the bytes after that: a CDATA section, as the HTML Standard's tokenizer reads it in its states
--- from CDATA section to CDATA section end, or a bogus comment. `Name k` is the state after k bytes of `CDATA[`.
+-- The end of what begins with `<![` in foreign content, from the bytes after that: a CDATA section, as the HTML Standard's
+-- tokenizer reads it in its states from CDATA section to CDATA section end, or a bogus comment. `Name k` is the state after k bytes
+-- of `CDATA[`.
 use Rattle.std.specs.Prelude.{ℕ, ◌+◌, ◌==◌, nat_lt, if◌then◌else◌, List, [], ◌∷◌, Option, None, Some}
 use Rattle.html_links.specs.declared.cdata.State.{State}
 use Rattle.html_links.specs.declared.cdata.State.TheVariants.{Name, Section, Bracket, End, Bogus}

@@ -1,5 +1,5 @@
--- Comments, from the bytes after `<!--`, as the HTML Standard's tokenizer reads them in its states from comment start to comment end bang. Each state is a
--- constructor, and each transition an equation of `step`.
+-- Comments, from the bytes after `<!--`, as the HTML Standard's tokenizer reads them in its states from comment start to comment
+-- end bang. Each state is a constructor, and each transition an equation of `step`.
 use Rattle.std.specs.Prelude.{ℕ, ◌==◌, if◌then◌else◌, List, [], ◌∷◌, Option, None, Some}
 use Rattle.std.specs.Borrow.{Bor}
 

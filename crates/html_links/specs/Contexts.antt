@@ -1,6 +1,7 @@
--- The context of a tag: whether it is in HTML content, in an element of SVG or MathML, or in a document in XML. In the Standard, the namespace of the adjusted
--- current node decides that. There are no nodes here: a context has the number of integration points around the tag, and the number of `svg` and `math`
--- elements that are open in the element of SVG or MathML. Neither number is above 255.
+-- The context of a tag: whether it is in HTML content, in an element of SVG or MathML, or in a document in XML. In the Standard,
+-- the namespace of the adjusted current node decides that. There are no nodes here: a context has the number of integration points
+-- around the tag, and the number of `svg` and `math` elements that are open in the element of SVG or MathML. Neither number is
+-- above 255.
 use Rattle.std.specs.Prelude.{ℕ, ◌+◌, ◌-◌, ◌==◌, ◌||◌, ◌&&◌, not, Bool, true, false, if◌then◌else◌, List, codes, Option, None, Some, bytes_eq}
 use Rattle.html_links.specs.declared.context.Context.{Context}
 use Rattle.html_links.specs.declared.context.Context.TheVariants as context
@@ -142,8 +143,8 @@ around_point points name =
     else if is_text_point name || bytes_eq name (codes "annotation-xml") then context.Math (points - 1) 0
     else context.Html points
 
--- The context after an end tag. The end tag of an element whose start tag ends foreign content ends that too. In the Standard it does so if it is `br` or `p`,
--- or if its element is around the foreign content.
+-- The context after an end tag. The end tag of an element whose start tag ends foreign content ends that too. In the Standard it
+-- does so if it is `br` or `p`, or if its element is around the foreign content.
 abbrev pub outer_context : Context → List ℕ → Context
 outer_context (context.Html points) name = around_point points name
 outer_context (context.Svg points nested) name =

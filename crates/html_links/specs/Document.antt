@@ -1,5 +1,6 @@
--- The tags of a document, as the HTML Standard's tokenizer reads them in its states from the data state to the DOCTYPE state. The name of an element and its
--- context determine how its content is read. A doctype ends at the first `>` in each of its states, as a bogus comment does.
+-- The tags of a document, as the HTML Standard's tokenizer reads them in its states from the data state to the DOCTYPE state. The
+-- name of an element and its context determine how its content is read. A doctype ends at the first `>` in each of its states, as a
+-- bogus comment does.
 use Rattle.std.specs.Prelude.{ℕ, ◌==◌, ◌||◌, ◌&&◌, Bool, true, false, if◌then◌else◌, List, [], ◌∷◌, ◌++◌, reverse, codes, bytes_eq}
 use Rattle.html_links.specs.declared.bytes.Class.{Class}
 use Rattle.html_links.specs.declared.bytes.Class.TheVariants.{Space, Slash, Greater}
@@ -34,13 +35,14 @@ pub record StartTag : Type 0 where
   pub attributes : List Attribute
   pub self_closing : Bool
 
--- What the tokenizer emits: start tags with their context and the bytes after them, and the end tags of templates. Other end tags do not determine whether a
--- tag is part of the page.
+-- What the tokenizer emits: start tags with their context and the bytes after them, and the end tags of templates. Other end tags
+-- do not determine whether a tag is part of the page.
 pub data Token : Type 0 where
   Start : Context → StartTag → List ℕ → Token
   TemplateEnd : Token
 
--- how the content of an element is read, by its name: as text up to its end tag, as a script, as text to the end of the document, or as markup
+-- how the content of an element is read, by its name: as text up to its end tag, as a script, as text to the end of the document,
+-- or as markup
 abbrev pub is_raw : List ℕ → Bool
 is_raw name =
     bytes_eq name (codes "title") || bytes_eq name (codes "textarea") || bytes_eq name (codes "style") || bytes_eq name (codes "xmp")
@@ -163,7 +165,8 @@ declaration_step at c =
     else if is_foreign at && c == 91 then Go (InCdata (section.Name 0))
     else bogus_step c
 
--- a step in raw text; after the name of its end tag comes the state before an attribute's name. The name is left out, since the end tag ends no other element
+-- a step in raw text; after the name of its end tag comes the state before an attribute's name. The name is left out, since the end
+-- tag ends no other element
 abbrev pub raw_step : Context → List ℕ → ℕ → raw.Next → Next
 raw_step at name c (raw.Go state) = Go (InRaw name state)
 raw_step at name c raw.Ends = tag_step at true [] (tags.step BeforeName (class_of c) c [])

@@ -30,8 +30,8 @@ abbrev pub value_links : Form → Option (List ℕ) → List (List ℕ)
 value_links form None = []
 value_links form (Some value) = text_links form (text_of value)
 
--- A keyword of a `rel` makes a link to a document or a resource, unless it is one of the two that name a host. The Standard ignores keywords that are not
--- registered. Here they count too, since the register grows.
+-- A keyword of a `rel` makes a link to a document or a resource, unless it is one of the two that name a host. The Standard ignores
+-- keywords that are not registered. Here they count too, since the register grows.
 abbrev pub is_link_type : List ℕ → Bool
 is_link_type word = not (same_name word [] || same_name word (codes "preconnect") || same_name word (codes "dns-prefetch"))
 
@@ -55,7 +55,8 @@ is_keyword word (Some value) = same_name (text_of value) word
 abbrev pub submits : Option (List ℕ) → Bool
 submits kind = if is_keyword (codes "image") kind then true else is_keyword (codes "submit") kind
 
--- the `type` of a `button` has the Standard's state Reset Button or Button: it does not submit a form, so its `formaction` has no effect
+-- the `type` of a `button` has the Standard's state Reset Button or Button: it does not submit a form, so its `formaction` has no
+-- effect
 abbrev pub submits_nothing : Option (List ℕ) → Bool
 submits_nothing kind = if is_keyword (codes "reset") kind then true else is_keyword (codes "button") kind
 

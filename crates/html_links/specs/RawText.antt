@@ -1,5 +1,5 @@
--- Raw text, as in `style` or `title`, up to its end tag, as the HTML Standard's tokenizer reads it in its RCDATA and RAWTEXT states. They differ only in
--- character references.
+-- Raw text, as in `style` or `title`, up to its end tag, as the HTML Standard's tokenizer reads it in its RCDATA and RAWTEXT
+-- states. They differ only in character references.
 use Rattle.std.specs.Prelude.{ℕ, ◌==◌, Bool, true, false, if◌then◌else◌, List, [], ◌∷◌, ◌++◌, map, Option, None, Some, bytes_eq}
 use Rattle.html_links.specs.declared.bytes.Class.{Class}
 use Rattle.html_links.specs.declared.bytes.Class.TheVariants.{Space, Slash, Greater}

@@ -1,7 +1,7 @@
--- The text of an attribute's value, as the HTML Standard's tokenizer reads it: its character references, in the states from character reference to numeric
--- character reference end, and U+FFFD for each NUL, in the attribute value states. Bytes that are not a reference stay unchanged. In a value, a name without
--- `;` counts only if neither a letter or digit nor `=` follows it, so the longest name that counts is all letters and digits, with a `;` after them if there is
--- one.
+-- The text of an attribute's value, as the HTML Standard's tokenizer reads it: its character references, in the states from
+-- character reference to numeric character reference end, and U+FFFD for each NUL, in the attribute value states. Bytes that are
+-- not a reference stay unchanged. In a value, a name without `;` counts only if neither a letter or digit nor `=` follows it, so
+-- the longest name that counts is all letters and digits, with a `;` after them if there is one.
 use Rattle.std.specs.Prelude.{ℕ, ◌+◌, ◌-◌, ◌*◌, ◌==◌, ◌||◌, nat_lt, Bool, true, false, if◌then◌else◌, List, [], ◌∷◌, ◌++◌, Option, None, Some, slice_index}
 use Rattle.std.specs.Char.{is_ascii_alphanumeric, is_digit, digit_value, encode_utf8}
 use Rattle.std.specs.Int.{is_in_range}

@@ -1,4 +1,5 @@
--- The target of a refresh, by the HTML Standard's shared declarative refresh steps. An empty target names the document itself, and counts as none.
+-- The target of a refresh, by the HTML Standard's shared declarative refresh steps. An empty target names the document itself, and
+-- counts as none.
 use Rattle.std.specs.Prelude.{ℕ, ◌==◌, ◌||◌, ◌&&◌, nat_le, not, Bool, if◌then◌else◌, List, [], ◌∷◌, Option, None, Some}
 use Rattle.std.specs.Char.{to_ascii_lowercase}
 use Rattle.html_links.specs.Shown.{front, behind, is_space}

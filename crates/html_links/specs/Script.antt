@@ -1,5 +1,5 @@
--- The text of a script up to its end tag, as the HTML Standard's tokenizer reads it in its script data states. The temporary buffer is represented by the
--- number of letters of `script` in it, or 7 if it has others.
+-- The text of a script up to its end tag, as the HTML Standard's tokenizer reads it in its script data states. The temporary buffer
+-- is represented by the number of letters of `script` in it, or 7 if it has others.
 use Rattle.std.specs.Prelude.{ℕ, ◌==◌, if◌then◌else◌, List, [], ◌∷◌, Option, None, Some}
 use Rattle.std.specs.Char.{to_ascii_lowercase}
 use Rattle.html_links.specs.declared.script.State.{State}

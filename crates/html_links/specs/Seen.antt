@@ -1,5 +1,6 @@
--- What a reader of links sees of a page: for each start tag its name and element, the values of its attributes that are read, and the style sheet in the
--- element. The contents of a `template` element are in a document fragment that is not part of the page, unless it becomes a shadow root.
+-- What a reader of links sees of a page: for each start tag its name and element, the values of its attributes that are read, and
+-- the style sheet in the element. The contents of a `template` element are in a document fragment that is not part of the page,
+-- unless it becomes a shadow root.
 use Rattle.std.specs.Prelude.{◌<◌, ◌≤◌, ℕ, zero, suc, ◌-◌, ◌==◌, ◌&&◌, not, Bool, if◌then◌else◌, List, [], ◌∷◌, length, map, take, codes, Option, None, Some, bytes_eq}
 use Rattle.std.specs.Borrow.{Bor}
 use Rattle.html_links.specs.declared.context.Context.{Context}
@@ -48,7 +49,8 @@ seen_of at t bytes =
 abbrev pub opened : Context → Seen → ℕ
 opened at seen = if is_inert seen.element seen.values.third && not (closes_itself at seen.values.self_closing) then 1 else 0
 
--- The tags of the page, if n templates are open. As in the Standard's insertion mode "in head", an end tag `template` is ignored if no template is open.
+-- The tags of the page, if n templates are open. As in the Standard's insertion mode "in head", an end tag `template` is ignored if
+-- no template is open.
 abbrev pub seen_within : ℕ → List Token → List Seen
 seen_within zero [] = []
 seen_within (suc n) [] = []

@@ -1,5 +1,5 @@
--- The texts of `url()` and `@import` in a style sheet, found by patterns: `url(` or `@import`, in any case, and then a text in quotes; or `url(` and a text
--- without quotes, parentheses and white space. Comments and other texts in quotes name nothing.
+-- The texts of `url()` and `@import` in a style sheet, found by patterns: `url(` or `@import`, in any case, and then a text in
+-- quotes; or `url(` and a text without quotes, parentheses and white space. Comments and other texts in quotes name nothing.
 use Rattle.std.specs.Prelude.{ℕ, zero, suc, ◌==◌, ◌||◌, ◌&&◌, nat_le, not, Bool, true, false, if◌then◌else◌, List, [], ◌∷◌, length, Option, None, Some}
 use Rattle.html_links.specs.Shown.{front, behind}
 use Rattle.html_links.specs.Refresh.{behind_letter, and_then, is_quote}

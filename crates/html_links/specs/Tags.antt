@@ -1,6 +1,6 @@
--- Start tags, from the bytes after their name, as the HTML Standard's tokenizer reads them in its states from before attribute name to self-closing start tag.
--- Each state is a constructor, and each transition an equation of `step`. Carriage returns count as white space, since the Standard first makes line feeds of
--- them. NUL stays NUL, and character references stay as they are.
+-- Start tags, from the bytes after their name, as the HTML Standard's tokenizer reads them in its states from before attribute name
+-- to self-closing start tag. Each state is a constructor, and each transition an equation of `step`. Carriage returns count as
+-- white space, since the Standard first makes line feeds of them. NUL stays NUL, and character references stay as they are.
 use Rattle.std.specs.Prelude.{ℕ, ◌==◌, ◌||◌, ◌&&◌, nat_le, Bool, true, false, if◌then◌else◌, List, [], ◌∷◌, ◌++◌, reverse, Option, None, Some}
 use Rattle.std.specs.Char.{to_ascii_lowercase}
 use Rattle.html_links.specs.declared.bytes.Class.{Class}

@@ -1,4 +1,5 @@
--- The values of a tag's attributes that are read, including those that any tag may have. If several attributes have the same name, the first counts.
+-- The values of a tag's attributes that are read, including those that any tag may have. If several attributes have the same name,
+-- the first counts.
 use Rattle.std.specs.Prelude.{ℕ, Bool, true, false, if◌then◌else◌, List, [], ◌∷◌, map, codes, Option, None, Some, bytes_eq}
 use Rattle.std.specs.Option.{option_or}
 use Rattle.std.specs.Borrow.{Bor}
