@@ -9,11 +9,11 @@ use Rattle.link_offers.specs.declared.losses.Losses.{Losses}
 abbrev pub no_losses : Losses
 no_losses = record { failed = 0; unkept = 0; full = 0; too_far = 0; crossed = 0; no_memory = 0 }
 
--- one more, up to the greatest count
+-- one more, up to the greatest u64
 abbrev pub one_more : ℕ → ℕ
 one_more n = min (n + 1) (2 ^ 64 - 1)
 
--- one loss more, in the count of its reason
+-- the losses with one more of this cause
 abbrev pub with_loss : Loss → Losses → Losses
 with_loss loss.Failed losses = record losses { failed = one_more losses.failed }
 with_loss loss.Unkept losses = record losses { unkept = one_more losses.unkept }
@@ -25,11 +25,11 @@ with_loss loss.NoMemory losses = record losses { no_memory = one_more losses.no_
 abbrev pub all_losses : Losses → ℕ
 all_losses losses = losses.failed + losses.unkept + losses.full + losses.too_far + losses.crossed + losses.no_memory
 
--- their sum, up to the greatest count
+-- the sum of all counts, up to the greatest u64
 abbrev pub sum_of : Losses → ℕ
 sum_of losses = min (all_losses losses) (2 ^ 64 - 1)
 
--- why a link is lost whose offer was refused
+-- the cause for which a link is lost whose offer failed with this error
 abbrev pub loss_of : OfferError → Option Loss
 loss_of refused.Filtered = None
 loss_of refused.Closed = None
@@ -38,16 +38,16 @@ loss_of (refused.Crossed own found) = Some loss.Crossed
 loss_of refused.TooFar = Some loss.TooFar
 loss_of refused.NoMemory = Some loss.NoMemory
 
--- this loss more, if there is one
+-- the losses with one more, if there is one
 abbrev counted_in : Option Loss → Losses → Losses
 counted_in None losses = losses
 counted_in (Some why) losses = with_loss why losses
 
--- these, and an offer that was refused for this reason; a URL that the filter does not allow is not lost
+-- the losses with an offer that failed with this error. A URL that the filter does not allow is not lost
 abbrev pub with_refusal : OfferError → Losses → Losses
 with_refusal refusal losses = counted_in (loss_of refusal) losses
 
--- both together, up to the greatest count
+-- the sum of both, up to the greatest u64
 abbrev pub sum : ℕ → ℕ → ℕ
 sum a b = min (a + b) (2 ^ 64 - 1)
 

@@ -1,4 +1,4 @@
--- What became of the links of a page, and what was lost by them.
+-- The results for the links of a page, and the links that were lost.
 use Rattle.std.specs.Prelude.{◌≡◌, ◌↔◌, ℕ, ◌+◌, Bool, false, List, [], ◌∷◌, Option, None, Some, Result, Ok, Err, flat_map}
 use Rattle.crawl_frontier.specs.declared.offer.Offer.{Offer}
 use Rattle.crawl_frontier.specs.declared.error.OfferError.{OfferError}
@@ -11,7 +11,7 @@ use Rattle.link_offers.specs.Logs.{HasLine}
 use Rattle.link_offers.specs.Losses.{loss_of, with_loss}
 use Rattle.link_offers.specs.Recent.{Knows}
 
--- what became of a link: the worker remembers it and does not offer it, or its offer had this result
+-- the result for a link: the worker remembers it and does not offer it, or the result of its offer
 abbrev pub Answer : Type 0
 Answer = Option (Result Offer OfferError)
 
@@ -19,13 +19,13 @@ abbrev pub listed : Option Loss → List Loss
 listed None = []
 listed (Some why) = why ∷ []
 
--- what is lost by it: one loss of the refusal's kind, and none if it is remembered, accepted, seen or filtered
+-- the losses for this result: one for an error, and none if the link is remembered, accepted, seen or filtered
 abbrev pub losses_by : Answer → List Loss
 losses_by None = []
 losses_by (Some (Ok offer)) = []
 losses_by (Some (Err refused)) = listed (loss_of refused)
 
--- with these losses more
+-- the losses with these added
 abbrev pub with_losses : List Loss → Losses → Losses
 with_losses [] losses = losses
 with_losses (why ∷ more) losses = with_losses more (with_loss why losses)
@@ -51,7 +51,8 @@ AllAnswered workers allowed b b' (url ∷ urls) [] = ⊥
 AllAnswered workers allowed b b' (url ∷ urls) (answer ∷ answers) =
     (m : BusyId) × Answers workers allowed b m url answer × AllAnswered workers allowed m b' urls answers
 
--- what became of these links, and exactly what was lost by it; the log has a line of each URL that is then remembered
+-- the results for these links, and exactly the losses that they caused; the log has a line for each URL that is remembered after
+-- them
 pub record LinkAnswers (workers : ℕ) (allowed : List ℕ → Bool) (urls : List (List ℕ)) (b b' : BusyId) (old new : LinkOffers) : Type 0 where
   pub answers : List Answer
   pub each : AllAnswered workers allowed b b' urls answers

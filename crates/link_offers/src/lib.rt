@@ -1,4 +1,4 @@
-//! What a worker does with the links of a page: it offers each one that it does not remember, and counts what is lost.
+//! Offers the links of a page: each one that the worker does not remember. Counts those that are lost.
 #![tactic(auto)]
 
 mod losses;

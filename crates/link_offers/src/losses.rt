@@ -1,20 +1,20 @@
-//! What a worker lost, by cause.
+//! The URLs and links that a worker lost, by cause.
 ghost use Rattle.std.specs.Prelude.{◌≡◌, ◌≢◌, Some, true};
 ghost use Rattle.crawl_frontier.specs.declared.error.OfferError.TheVariants as error;
 ghost use Rattle.link_offers.specs.Losses.{all_losses, both_losses, loss_of, no_losses, sum_of, with_loss, with_refusal};
 
 use crawl_frontier::OfferError;
 
-/// How much a worker lost, by cause. Each count stops at the greatest u64.
+/// The numbers of URLs and links that a worker lost, by cause. Each count stops at the greatest u64.
 #[derive(Clone, Copy, Debug, PartialEq, Eq)]
 pub struct Losses {
     /// URLs whose fetch failed.
     pub failed: u64,
-    /// URLs that were fetched, but whose result found no memory.
+    /// URLs that were fetched, but for whose result there was no memory.
     pub unkept: u64,
     /// Links that were refused because the maximum number of URLs was pending.
     pub full: u64,
-    /// Links that are more hops away than an entry holds.
+    /// Links that are more hops away than an entry can store.
     pub too_far: u64,
     /// Links whose offer found another sender with this worker's id.
     pub crossed: u64,
@@ -27,15 +27,15 @@ pub struct Losses {
 pub enum Loss {
     /// The fetch of a URL failed.
     Failed,
-    /// A result found no memory.
+    /// There was no memory for a result.
     Unkept,
-    /// The offer of a link found the maximum number of URLs pending.
+    /// The maximum number of URLs was pending when a link was offered.
     Full,
     /// A link is too many hops away.
     TooFar,
     /// The offer of a link found another sender with this worker's id.
     Crossed,
-    /// The offer of a link found no memory.
+    /// Memory ran out when a link was offered.
     NoMemory,
 }
 
@@ -88,8 +88,8 @@ impl Losses {
         }
     }
 
-    /// Also counts an offer that was refused for this reason. A URL that the filter does not allow is not lost, and no sender that
-    /// holds a unit finds the gate closed.
+    /// Also counts an offer that failed with this error. A URL that the filter does not allow is not lost, and a sender that holds
+    /// a unit never finds the gate closed.
     pub fn with_refusal(self, refused: OfferError) -> Losses
         ensures { result ≡ with_refusal refused self }
     {
@@ -118,8 +118,8 @@ impl Losses {
     }
 }
 
-/// Returns the cause of the loss of a link whose offer by a worker was refused for this reason. A link that the filter does not
-/// allow is not lost, and no worker with a URL finds the gate closed.
+/// Returns the cause for which a link is lost whose offer by a worker failed with this error. A link that the filter does not allow
+/// is not lost, and a worker with a URL never finds the gate closed.
 pub(crate) fn loss_of(refused: OfferError) -> Loss
     requires filter { refused ≢ error.Filtered }
     requires gate { refused ≢ error.Closed }

@@ -82,7 +82,7 @@ impl LinkOffers {
             }
             let marked = marks >> bit & 1 == 1;
             if !marked {
-                // It is offered and remembered, so each link after it is looked up: it may be the same URL.
+                // The link is now remembered, so each link after it is looked up: it may be the same URL.
                 marks = u64::MAX;
             }
             self.offer_link(rt, frontier, busy, marked, &mut links[index]);

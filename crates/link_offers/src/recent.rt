@@ -44,7 +44,7 @@ impl Slot {
         }
     }
 
-    // Whether it has this URL's mark, and its URL has this one's hash and last byte. So both ends of its text are read.
+    // Whether it has this URL's mark, and its URL has this one's hash and last byte. The test reads both ends of its text.
     fn has_ends(&self, of: &CanonUrl) -> bool {
         match self {
             Slot::Taken { mark, url } => {
@@ -57,14 +57,15 @@ impl Slot {
     }
 }
 
-/// A table with two slots for each remainder of a text's hash, for the last two URLs with it. Earlier ones are forgotten, and
-/// such a URL is offered once more. So an attacker who chooses URLs of one hash makes a worker forget them, but nothing worse.
+/// A table with two slots for each remainder of a text's hash, for the last two URLs with that remainder. Earlier ones are
+/// forgotten, and are then offered once more. So an attacker who chooses URLs with the same hash can make a worker forget them, but
+/// nothing worse.
 #[derive(Drop)]
 pub struct RecentUrls {
     slots: Vec<Slot>,
-    /// The number of URLs that were forgotten since the table has its size.
+    /// The number of URLs that were forgotten since the table got its size.
     put_out: usize,
-    /// The number of URLs since then that had been accepted before, so that a larger table might have known them.
+    /// The number of offered URLs since then that had been accepted before, so that a larger table might have remembered them.
     missed: usize,
 }
 
@@ -92,9 +93,9 @@ impl RecentUrls {
         share(&self.slots[slot], url) || share(&self.slots[slot + 1], url)
     }
 
-    /// A bit for each of the 64 URLs from this index on, the lowest for the first: whether one of its slots has a URL of its hash. A
-    /// look-up waits for memory twice, for the slot and for its URL. Here the look-ups of many URLs wait at the same time, so
-    /// that `has` then finds both in the cache.
+    /// A bit for each of the 64 URLs from this index on, the lowest for the first: whether one of its slots has a URL with its
+    /// hash. A look-up waits for memory twice, for the slot and for its URL. Here the look-ups of many URLs wait at the same time,
+    /// so that `has` then finds both in the cache.
     pub(crate) fn marks(&self, urls: &[CanonUrl], from: usize) -> u64
         requires { from ≤ length urls.now }
     {
@@ -107,8 +108,8 @@ impl RecentUrls {
         self.hashed(urls, marked)
     }
 
-    /// Like [`RecentUrls::has`], but a URL that was not marked is not looked up. `marked` is its bit of the marks. If the URL was
-    /// remembered after the marks were read, it is offered once more.
+    /// Like [`RecentUrls::has`], but a URL that was not marked is not looked up. `marked` is its bit of the marks. A URL that was
+    /// first remembered after the marks were read may be offered once more.
     pub(crate) fn has_marked(&self, marked: bool, url: &mut CanonUrl) -> bool
         ensures url { url.new ≡ url.old }
         ensures line { (workers : ℕ) (log : List Logged) → Knows workers log self.now → result ≡ true → HasLine workers log url.old }
@@ -132,7 +133,7 @@ impl RecentUrls {
         marked
     }
 
-    // The bits of those URLs that have a slot with their whole hash.
+    // The bits of those URLs for which a slot has the whole hash.
     fn hashed(&self, urls: &[CanonUrl], marked: u64) -> u64
         requires slots { 2 ≤ length self.now.slots.items }
         requires urls { length urls.now ≤ 64 }
@@ -149,7 +150,7 @@ impl RecentUrls {
     }
 
     /// Remembers the URL, if there is memory for it. The table grows if URLs that it has forgotten are offered again. So it stays
-    /// small for a web whose URLs are each linked once.
+    /// small for a source whose URLs are each linked once.
     pub fn remember(&mut self, alloc: Global, url: &CanonUrl, again: bool)
         ensures { (workers : ℕ) (log : List Logged) → Knows workers log self.old → HasLine workers log url.now → Knows workers log self.new }
     {
@@ -161,7 +162,7 @@ impl RecentUrls {
         }
     }
 
-    // Grows if enough URLs were forgotten, and enough of those since then had been accepted before.
+    // Grows if enough URLs were forgotten, and enough URLs were offered since then that had been accepted before.
     fn grow_where_missed(&mut self, alloc: Global)
         ensures { (workers : ℕ) (log : List Logged) → Knows workers log self.old → Knows workers log self.new }
     {
@@ -172,7 +173,7 @@ impl RecentUrls {
         self.grow(alloc, FEWEST_SLOTS.max(2 * slots));
     }
 
-    // Writes a URL into the first of its slots, and what was there into the second.
+    // Writes a URL into the first of its slots, and moves the URL that was there to the second.
     fn put(&mut self, slot: Slot)
         ensures { (workers : ℕ) (log : List Logged) → Knows workers log self.old → IfSome (url_in slot) (HasLine workers log) → Knows workers log self.new }
     {
