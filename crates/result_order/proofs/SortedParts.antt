@@ -20,7 +20,7 @@ rises : (count : ℕ) (s t : List ℕ) (i j a b : ℕ) → Small (bytes_from s i
 rises zero s t i j a b small less = less
 rises (suc count) s t i j a b small less = grind (arith, nat_tests, rises count, slice_index)
 
--- two texts have the same bytes from one index up to another, where the byte of the first is less
+-- two texts have the same bytes from one index up to another, and there the byte of the first is less
 record FirstLess (s t : List ℕ) (from : ℕ) : Type 0 where
   index : ℕ
   alike : (k : ℕ) → from ≤ k → k < index → slice_index s k ≡ slice_index t k

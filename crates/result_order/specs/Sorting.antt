@@ -30,7 +30,8 @@ pub record IsNumberSet (from : ℕ) (old new : Numbered) : Type 0 where
   pub same : new.page ≡ old.page
   pub numbered : IsNumbered from new
 
--- each number is set to the sixteen bytes of its URL from an index on, before which all URLs are the same; `levels` numbers fit after it
+-- each number is set to the sixteen bytes of its URL from an index on, before which all URLs are the same; `levels` numbers fit
+-- after it
 pub record AreNumbered (levels from : ℕ) (old new : List Numbered) : Type 0 where
   pub same : pages_of new ≡ pages_of old
   pub alike : AllBeginAlike from (pages_of old)
