@@ -1,8 +1,8 @@
 -- The first error in lines: the first check that fails on the first line that fails one.
 use Rattle.std.specs.Prelude.{◌≡◌, ℕ, List, [], ◌∷◌, ◌++◌, Option, Some, None}
 
--- none of these lines fails a check after the earlier lines. `fault_after earlier line` is the first check that a line fails after these earlier lines, if it
--- fails one
+-- none of these lines fails a check after the earlier lines. `fault_after earlier line` is the first check that a line fails after
+-- these earlier lines, if it fails one
 abbrev pub SoundAfter : {E : Type 0} → (List (List ℕ) → List ℕ → Option E) → List (List ℕ) → List (List ℕ) → Type 0
 SoundAfter fault_after earlier [] = Unit {0}
 SoundAfter fault_after earlier (line ∷ more) = (fault_after earlier line ≡ None) × SoundAfter fault_after (earlier ++ line ∷ []) more
