@@ -35,12 +35,14 @@ A document is Markdown with prose, inputs and commands:
   neither do the empty lines above it. If the sentence ends with `(slow)`,
   --quick leaves out the commands below it, up to the next sentence.
 
-Usage: cases.py [--quick] [--seconds N] [FILE]..
+Usage: cases.py [--quick] [--seconds N] [FILE[:LINE]]..
 
 Without FILE it runs tests/cases/*.txt, README.md, and in docs MANUAL.md,
 FORMATS.md, GUIDE.md and SESSION.md. `mercator` is the built program, or the file that
-the environment variable PROGRAM names. It prints a diff for each answer that
-differs, and on the last line `N passed, M failed`. The exit status is 1 if
+the environment variable PROGRAM names. With LINE, only the command on that
+line of FILE is compared; those before it run, too, since it may need them. It
+prints a diff for each answer that differs, with a command that compares only
+this one, and on the last line `N passed, M failed`. The exit status is 1 if
 anything failed or nothing ran.
 """
 
@@ -50,12 +52,13 @@ import argparse
 import difflib
 import os
 import re
+import shlex
 import subprocess
 import sys
 import tempfile
 from concurrent.futures import ThreadPoolExecutor
 from pathlib import Path
-from typing import Iterator, NamedTuple
+from typing import Iterator, NamedTuple, Optional
 
 ROOT = Path(__file__).resolve().parent.parent
 BUILT = ROOT / "crates/mercator_cli/out/mercator_cli"
@@ -76,12 +79,14 @@ AS = re.compile(r"^\[as (\S+)\]\n", re.M)
 
 
 class Case(NamedTuple):
-    """A command, its answer, its location, and whether it is slow."""
+    """A command, its answer, its location, whether it is slow or compared."""
 
-    location: str
+    path: Path
+    line: int
     command: str
     answer: str
     slow: bool
+    compared: bool = True
 
 
 class Document(NamedTuple):
@@ -116,7 +121,24 @@ def cases_of(path: Path, above: int, body: str) -> Iterator[Case]:
         command = re.sub("^> ", "", case["command"], flags=re.M)
         sentences = SENTENCE.findall(body, 0, case.start())
         slow = bool(sentences) and sentences[-1].endswith(SLOW)
-        yield Case(f"{path}:{line}", command, case["answer"], slow)
+        yield Case(path, line, command, case["answer"], slow)
+
+
+def only_line(document: Document, path: Path, line: int) -> Document:
+    """Leave out the cases after the one on this line; compare only that."""
+    cases = [it._replace(compared=it.line == line) for it in document.cases
+             if it.line <= line]
+    if not any(it.compared for it in cases):
+        sys.exit(f"{path}:{line}: no command begins on this line")
+    return document._replace(cases=cases)
+
+
+def read_at(name: str) -> Document:
+    """Read the document FILE, or what FILE:LINE needs of it."""
+    path, _, line = name.rpartition(":")
+    if not line.isdigit() or Path(name).is_file():
+        return read(Path(name))
+    return only_line(read(Path(path)), Path(path), int(line))
 
 
 def shown(output: bytes, mark: str = "") -> str:
@@ -150,7 +172,9 @@ def run(document: Document, commands: str, seconds: int) -> list[str]:
             if done.returncode:
                 answer += f"[status {done.returncode}]\n"
             expected = AS.sub(lambda it: lines_of(folder, it), case.answer)
-            differences.append(difference(case, expected, answer))
+            if case.compared:
+                text = difference(case, expected, answer)
+                differences.append(text and f"{text}\n{again(case, seconds)}")
     return differences
 
 
@@ -166,9 +190,19 @@ def difference(case: Case, expected: str, answer: str) -> str:
         return ""
     lines = difflib.unified_diff(
         expected.splitlines(), answer.splitlines(),
-        case.location, "printed", lineterm="", n=9,
+        f"{case.path}:{case.line}", "printed", lineterm="", n=9,
     )
     return "\n".join(["$ " + case.command, *lines])
+
+
+def again(case: Case, seconds: int) -> str:
+    """Return the command that compares only this case."""
+    words = [sys.argv[0], f"{case.path}:{case.line}"]
+    if seconds != SECONDS:
+        words[1:1] = ["--seconds", str(seconds)]
+    named: Optional[str] = os.environ.get("PROGRAM")
+    program = f"PROGRAM={shlex.quote(named)} " if named else ""
+    return f"to run only this: {program}{shlex.join(words)}"
 
 
 def main() -> None:
@@ -180,16 +214,17 @@ def main() -> None:
                         help="leave out the commands that are marked as slow")
     parser.add_argument("--seconds", metavar="N", type=int, default=SECONDS,
                         help="time limit of a command [default: %(default)s]")
-    parser.add_argument("files", metavar="FILE", nargs="*", type=Path,
-                        help="document to run [default: all]")
+    parser.add_argument("files", metavar="FILE[:LINE]", nargs="*",
+                        help="document to run, or the line of a command in"
+                        " it [default: all]")
     arguments = parser.parse_args()
     program = Path(os.environ.get("PROGRAM", BUILT)).resolve()
     if not program.is_file():
         sys.exit(f"cases.py: there is no {program}: set PROGRAM to the path"
                  " of a program, such as tools/unproved.sh prints")
-    paths = arguments.files or [*sorted(ROOT.glob("tests/cases/*.txt")),
-                                *(ROOT / name for name in DOCUMENTS)]
-    documents = [read(path) for path in paths]
+    every = [*sorted(ROOT.glob("tests/cases/*.txt")),
+             *(ROOT / name for name in DOCUMENTS)]
+    documents = [read_at(name) for name in arguments.files or map(str, every)]
     if arguments.quick:
         slow = sum(case.slow for it in documents for case in it.cases)
         print(f"left out: {slow} slow commands")

@@ -10,7 +10,8 @@ tests/checking/converter.py, with the model's tokenizer. Of each random folder, 
 configuration file. With --model, only the model is tested: with the known results, the pages that the converter finds, the answers of
 Python's static server, and the definitions of a server and of feeds that the proofs cite (tests/checking/twins.py, feed_twins.py).
 
-A random folder depends only on the seed and its number. The first folders that differ are kept, and their paths are printed.
+A random folder depends only on the seed and its number. The first folders that differ are kept, and their paths are printed, with
+the commands that compare only these.
 With at least 1,000 random folders, each kind of row must occur at least 5 times; otherwise the test fails. The environment
 variable PROGRAM names the program to test; the default is the one built in crates/mercator_cli. The last line is
 `N passed, M failed`; the exit status is 1 if any failed.
@@ -22,6 +23,7 @@ import argparse
 import json
 import os
 import re
+import shlex
 import subprocess
 import sys
 import tempfile
@@ -52,6 +54,7 @@ KINDS += "written hint_fallback hint_index_file".split()
 KINDS += [kind + reason for kind in ("invalid", "invalid_place") for reason in ("not_url", "unknown_scheme", "local_file")]
 KINDS += [kind + reason for kind in ("leaving", "leaving_place") for reason in ("above_folder", "outside_base")]
 LEAST = 5
+PARTS = ("known", "folders", "random")
 
 
 def host_options(settings: Settings) -> List[str]:
@@ -149,14 +152,17 @@ class Series:
     def __init__(self, name: str) -> None:
         self.name, self.passed, self.failed, self.skipped = name, 0, 0, 0
 
-    def add(self, what: str, fault: Optional[str]) -> None:
-        """Counts one comparison."""
+    def add(self, what: str, fault: Optional[str], again: Sequence[str] = ()) -> None:
+        """Counts one comparison. `again` are the options that make only this one."""
         if fault is None:
             self.passed += 1
             return
         self.failed += 1
         if self.failed <= SHOWN:
             print(f"{self.name}, {what}: {fault if len(fault) < LONGEST else fault[:LONGEST] + '..'}")
+            if again:
+                named = f"PROGRAM={shlex.quote(os.environ['PROGRAM'])} " if "PROGRAM" in os.environ else ""
+                print(f"to run only this: {named}{shlex.join([sys.argv[0], *again])}")
 
     def end(self) -> None:
         """Prints the counts. A series in which nothing passed has failed."""
@@ -221,13 +227,15 @@ def known_faults(program: Optional[str], number: int) -> Faults:
         return faults
 
 
-def compare_known(program: Optional[str], jobs: int) -> None:
-    """Compares the folders with known results with several processes."""
+def compare_known(program: Optional[str], jobs: int, name: Optional[str]) -> None:
+    """Compares the folders with known results, or only the one with this name, with several processes."""
     series = Series("folders with known results")
+    numbers = [number for number, known in enumerate(KNOWN) if name in (None, known.name)]
     with ProcessPoolExecutor(jobs) as pool:
-        for faults in pool.map(partial(known_faults, program), range(len(KNOWN))):
+        for number, faults in zip(numbers, pool.map(partial(known_faults, program), numbers)):
+            again = ["--part", "known", "--known", KNOWN[number].name, *([] if program else ["--model"])]
             for what, fault in faults:
-                series.add(what, fault)
+                series.add(what, fault, again)
     series.end()
 
 
@@ -480,7 +488,8 @@ def compare_random(program: Optional[str], numbers: range, seed: int, jobs: int)
             series.skipped += outcome.is_skipped
             for what, fault in outcome.faults:
                 kept = f", {keep(seed, outcome.number)}" if fault and series.failed < SHOWN else ""
-                series.add(f"number {outcome.number}, {what}{kept}", fault)
+                again = ["--part", "random", "--seed", str(seed), "--first", str(outcome.number), "--drawn", "1"]
+                series.add(f"number {outcome.number}, {what}{kept}", fault, again if program else [*again, "--model"])
     if program:
         print("rows of random folders:", dict(sorted(kinds.items())))
     if program and len(numbers) >= 1000:
@@ -555,6 +564,8 @@ def main() -> int:
     option = parser.add_argument
     option("folders", nargs="*", metavar="FOLDER", help="folder to compare")
     option("--drawn", type=int, default=1000, metavar="COUNT", help="number of random folders (default: 1000)")
+    option("--part", action="append", choices=PARTS, help="make only these comparisons; repeatable")
+    option("--known", metavar="NAME", help="compare only this folder with known results")
     option("--first", type=int, default=0, metavar="NUMBER", help="number of the first random folder (default: 0)")
     option("--changed", type=int, default=100, metavar="COUNT", help="number of changed copies of the shipped site (default: 100)")
     option("--large", type=int, default=0, metavar="PAGES", help="also compare a folder with this number of pages")
@@ -566,9 +577,11 @@ def main() -> int:
     )
     option("--model", action="store_true", help="test only the model, without the program: with known results, the converter, and Python's static server")
     options = parser.parse_args()
+    parts = options.part or PARTS
     program = None if options.model else loading.program()
-    compare_known(program, options.jobs)
-    if program:
+    if "known" in parts:
+        compare_known(program, options.jobs, options.known)
+    if program and "folders" in parts:
         shipped = str(loading.ROOT / "examples/site")
         folders = options.folders or [folder for folder in loading.DOCUMENTATION if os.path.isdir(folder)]
         compare_folders(program, [shipped, *folders])
@@ -577,7 +590,7 @@ def main() -> int:
             compare_changed(program, options.changed, options.seed)
         if options.large:
             compare_large(program, options.large)
-    if options.drawn:
+    if options.drawn and "random" in parts:
         compare_random(program, range(options.first, options.first + options.drawn), options.seed, options.jobs)
     if options.tags:
         compare_tags(options.tags, options.seed)

@@ -21,8 +21,9 @@ occur at least 5 times in its kind; otherwise the test fails.
 
 The inputs depend only on the seed, and those of the kind "command line" also on the options in the
 program's help. The first differences are printed, each with a command that shows it, its input in a
-file that is kept, and a diff. The environment variable PROGRAM is the path of the program [default:
-the built one]. The last line is `N passed, M failed`; the exit status is 1 if any failed.
+file that is kept, a diff, and a command that compares only this input. The environment variable
+PROGRAM is the path of the program [default: the built one]. The last line is `N passed, M failed`;
+the exit status is 1 if any failed.
 """
 
 from __future__ import annotations
@@ -1150,8 +1151,16 @@ def run(kind: str, number: int, seed: str, folder: str) -> tuple[Counter[str], l
         came.update(set(made.has))
         found = difference(made)
         if found:
-            differing.append(f"{name}:\n{kept(made, name, folder)}\n{found}\n")
+            differing.append(
+                f"{name}:\n{kept(made, name, folder)}\n{found}\n{again(kind, number, seed)}\n"
+            )
     return came, differing
+
+
+def again(kind: str, number: int, seed: str) -> str:
+    """Return the command that compares only this input."""
+    words = [sys.argv[0], "--seed", seed, "--kind", kind, "--number", str(number)]
+    return f"to run only this: PROGRAM={shlex.quote(PROGRAM)} {shlex.join(words)}"
 
 
 def scratch(folder: str) -> None:
@@ -1175,9 +1184,12 @@ def compare_all(options: argparse.Namespace, folder: str, work: str) -> Totals:
         for name, kind in KINDS.items():
             if options.kind and name not in options.kind:
                 continue
-            count = max(1, options.count * kind.share // 1000)
+            numbers = range(max(1, options.count * kind.share // 1000))
+            if options.number is not None:
+                numbers = range(options.number, options.number + 1)
+            count = len(numbers)
             came: Counter[str] = Counter()
-            rest = ([name] * count, range(count), [options.seed] * count, [folder] * count)
+            rest = ([name] * count, numbers, [options.seed] * count, [folder] * count)
             for some, differing in pool.map(run, *rest, chunksize=max(1, min(20, count // 16))):
                 came += some
                 totals.passed += not differing
@@ -1185,7 +1197,8 @@ def compare_all(options: argparse.Namespace, folder: str, work: str) -> Totals:
                     totals.fail(text)
             for line in kind.ought if options.counts else []:
                 print(f"{name}: {came[line]} times: {line}")
-            for line in kind.ought if options.count >= COUNT else []:
+            has_all = options.count >= COUNT and options.number is None
+            for line in kind.ought if has_all else []:
                 if came[line] < LEAST:
                     totals.fail(f"{name}: {came[line]} times, at least {LEAST} expected: {line}")
     return totals
@@ -1201,6 +1214,8 @@ def main() -> None:
     option("--seed", default="1", help="seed of the random inputs (default: 1)")
     option("--kind", action="append", choices=KINDS, metavar="KIND",
            help="use only this kind of inputs; repeatable")
+    option("--number", type=int, metavar="N",
+           help="use only the input with this number of each kind")
     option("--counts", action="store_true",
            help="print how often each error, reply and line occurred")
     options = parser.parse_args()

@@ -52,7 +52,8 @@ def answers(blocks: Sequence[list[str]]) -> list[list[str]]:
     ran = subprocess.run([*CALLS, "calls"], input=text, capture_output=True, text=True, timeout=2 * SECONDS)
     results = [block.splitlines() for block in ran.stdout.split("\n\n")][: len(blocks)]
     is_whole = ran.returncode == 0 and len(results) == len(blocks)
-    expect(is_whole, f"results of {len(results)} of {len(blocks)} blocks, status {ran.returncode}")
+    counts = f"results of {len(results)} of {len(blocks)} blocks of calls"
+    expect(is_whole, f"{counts}, and status {ran.returncode}, expected 0: {ran.stderr[-500:]}")
     return results
 
 
@@ -480,6 +481,7 @@ def main() -> None:
     parser.add_argument("--count", type=int, default=2, metavar="N", help="number of runs of random calls (default: 2)")
     parser.add_argument("--seed", default="1", help="seed of the random calls (default: 1)")
     parser.add_argument("--jobs", type=int, default=1, metavar="N", help="number of checks at a time (default: 1)")
+    parser.add_argument("--only", metavar="NAME", help="make only the check with this name, which a failure prints")
     given = parser.parse_args()
     checks: list[tuple[str, Callable[..., None], tuple[object, ...]]] = []
     for number in range(given.count):
@@ -488,13 +490,18 @@ def main() -> None:
     checks += [(plan.name, check_ends, (plan,)) for plan in PLANS]
     checks += [(f"leaving {number}", check_left, (leaves,)) for number, leaves in enumerate(LEAVING)]
     checks += [("steps of four threads", check_steps, (2_000, 4))] * given.count
+    checks = [check for check in checks if given.only in (None, check[0])]
+    if not checks:
+        sys.exit(f"frontier.py: no check has the name {given.only}")
 
     def error_of(name: str, check: Callable[..., None], arguments: tuple[object, ...]) -> str:
         """Return what a check finds wrong, or an empty text."""
         try:
             check(*arguments)
         except (Differs, subprocess.TimeoutExpired, IndexError, KeyError, ValueError) as error:
-            return f"{name}: {type(error).__name__}: {error}"
+            words = [sys.argv[0], "--seed", given.seed, "--count", str(given.count), "--only", name]
+            named = "".join(f"{it}={shlex.quote(os.environ[it])} " for it in ("CALLS", "PROGRAM") if it in os.environ)
+            return f"{name}: {type(error).__name__}: {error}\nto run only this: {named}{shlex.join(words)}"
         return ""
 
     with ThreadPoolExecutor(given.jobs) as pool:

@@ -1,10 +1,11 @@
 #!/usr/bin/env python3
 """Compares the manual page, the manual and the completions with `mercator --help`.
 
-Usage: manual_page.py [PROGRAM]
+Usage: manual_page.py [--only NAME] [PROGRAM]
 
 PROGRAM is the program to ask for its help. Without it, the program is the one that the environment
-variable MERCATOR names, or else the built one.
+variable MERCATOR names, or else the built one. With --only, only the comparison with this name is
+made.
 
 - The help lists the commands in one order; the page `docs/mercator.1` and `docs/MANUAL.md` have the
   same order.
@@ -15,16 +16,19 @@ variable MERCATOR names, or else the built one.
   in a terminal, if it is installed.
 - The version of CHANGELOG.md is that of the program, of the page and of the Python clients.
 
-It prints each difference and, at the end, `N passed, M failed`. The exit status is 1 if anything differs.
+It prints each difference, with a command that makes only this comparison, and at the end `N passed,
+M failed`. The exit status is 1 if anything differs.
 """
 
 from __future__ import annotations
 
+import argparse
 import fcntl
 import os
 import pty
 import re
 import select
+import shlex
 import shutil
 import struct
 import subprocess
@@ -284,10 +288,15 @@ class Zsh:
 
 
 class Trial:
-    def __init__(self) -> None:
+    """Counts comparisons, and prints those that fail. With `only`, it ignores all but the one with this name."""
+
+    def __init__(self, program: str, only: Optional[str]) -> None:
         self.passed = self.failed = 0
+        self.program, self.only = program, only
 
     def equal(self, what: str, found: object, wanted: object) -> None:
+        if self.only not in (None, what):
+            return
         self.passed += found == wanted
         if found != wanted:
             self.failed += 1
@@ -297,6 +306,8 @@ class Trial:
                 print(f"    unknown: {sorted(map(str, found - wanted))}")
             else:
                 print(f"    found:    {found}\n    expected: {wanted}")
+            words = [sys.argv[0], "--only", what, self.program]
+            print(f"    to run only this: {shlex.join(words)}")
 
 
 def compare_text(
@@ -369,15 +380,18 @@ def compare_versions(trial: Trial, program: str) -> None:
 
 
 def main() -> None:
-    arguments = sys.argv[1:]
-    named = arguments[0] if arguments else os.environ.get("MERCATOR") or str(BUILT)
+    parser = argparse.ArgumentParser(description=__doc__, formatter_class=argparse.RawDescriptionHelpFormatter)
+    parser.add_argument("--only", metavar="NAME", help="make only the comparison with this name, which a failure prints")
+    parser.add_argument("program", metavar="PROGRAM", nargs="?", help="program to ask for its help")
+    arguments = parser.parse_args()
+    named = arguments.program or os.environ.get("MERCATOR") or str(BUILT)
     found = shutil.which(named)
-    if len(arguments) > 1 or found is None:
-        sys.exit(f"usage: manual_page.py [PROGRAM] (no program {named})")
+    if found is None:
+        sys.exit(f"manual_page.py: there is no program {named}")
     program = str(Path(found).resolve())
     listed = {name: about for name, about in commands_of(program).items() if name != "help"}
     helps = {command: described_by_help(help_of(program, command)) for command in listed}
-    trial = Trial()
+    trial = Trial(program, arguments.only)
     trial.equal("descriptions in the list of commands", {name: one.about for name, one in helps.items()}, listed)
     compare_page(trial, help_of(program).splitlines()[0], helps)
     compare_manual(trial, helps)

@@ -14,7 +14,8 @@ The environment variable SECONDS is the time limit of each wait [default: 120]. 
 `rt try` keeps freed memory for a while, so for the test `memory` it needs the environment variable
 ASAN_OPTIONS=quarantine_size_mb=0:thread_local_quarantine_size_kb=0.
 
-The last line is `N passed, M failed`; the exit status is 1 if a test failed or none ran.
+After a test that fails, the command that runs only this test is printed. The last line is `N passed, M failed`; the exit
+status is 1 if a test failed or none ran.
 """
 
 from __future__ import annotations
@@ -27,7 +28,7 @@ from pathlib import Path
 from typing import Callable, Tuple
 
 from serving import changed_settings, clients, compactions, crawlers, crawls, lists, logs, sessions, used_logs
-from serving.trial import Trial, run_all
+from serving.trial import Trial, command_of, run_all
 
 PARTS: Tuple[Callable[[Trial], None], ...] = (
     sessions.transcript, sessions.drawn_sessions, sessions.drawn_parts, sessions.all_at_once, sessions.byte_by_byte,
@@ -68,7 +69,7 @@ def main() -> int:
     with tempfile.TemporaryDirectory(prefix="serve-") as folder:
         trial = Trial(words, Path(folder))
         chosen = [part for part in PARTS if part.__name__ in (words.part or names)]
-        return run_all((part.__name__, partial(part, trial)) for part in chosen)
+        return run_all(((part.__name__, partial(part, trial)) for part in chosen), command_of)
 
 
 if __name__ == "__main__":

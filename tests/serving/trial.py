@@ -6,6 +6,7 @@ import argparse
 import os
 import re
 import select
+import shlex
 import shutil
 import subprocess
 import sys
@@ -46,8 +47,22 @@ def expect_error(kind: Type[Raised], call: Callable[[], object]) -> Raised:
     raise Differs(f"{kind.__name__} expected: {answer!r}")
 
 
-def run_all(tests: Iterable[Tuple[str, Callable[[], None]]]) -> int:
-    """Run tests by name, print a line for each and a last one, and return the exit status."""
+def command_of(name: str) -> str:
+    """Return the command that runs only the test with this name, in a script with the option --part. It has the other
+    options of this run."""
+    rest = iter(sys.argv[1:])
+    words = [sys.argv[0]]
+    for word in rest:
+        if word == "--part":
+            next(rest)
+        elif not word.startswith("--part="):
+            words.append(word)
+    return shlex.join([*words, "--part", name])
+
+
+def run_all(tests: Iterable[Tuple[str, Callable[[], None]]], command: Optional[Callable[[str], str]] = None) -> int:
+    """Run tests by name, print a line for each and a last one, and return the exit status. `command` returns the command
+    that runs only the test with a name."""
     passed = failed = 0
     for name, test in tests:
         begun = time.monotonic()
@@ -60,6 +75,8 @@ def run_all(tests: Iterable[Tuple[str, Callable[[], None]]]) -> int:
             print(f"{name}: FAILED: {error}", flush=True)
             if not isinstance(error, Differs):
                 traceback.print_exc(file=sys.stdout)
+            if command is not None:
+                print(f"to run only this: {command(name)}", flush=True)
         else:
             passed += 1
             print(f"{name}: passed, {time.monotonic() - begun:.0f} s", flush=True)
