@@ -41,8 +41,8 @@ Without FILE it runs tests/cases/*.txt, README.md, and in docs MANUAL.md,
 FORMATS.md, GUIDE.md and SESSION.md. `mercator` is the built program, or the file that
 the environment variable PROGRAM names. With LINE, only the command on that
 line of FILE is compared; those before it run, too, since it may need them. It
-prints a diff for each answer that differs, with a command that compares only
-this one, and on the last line `N passed, M failed`. The exit status is 1 if
+prints a diff for each answer that differs, with the sentence above it and a
+command that compares only this one, and on the last line `N passed, M failed`. The exit status is 1 if
 anything failed or nothing ran.
 """
 
@@ -79,10 +79,11 @@ AS = re.compile(r"^\[as (\S+)\]\n", re.M)
 
 
 class Case(NamedTuple):
-    """A command, its answer, its location, whether it is slow or compared."""
+    """A command with its location, its answer, and the sentence above it."""
 
     path: Path
     line: int
+    sentence: str
     command: str
     answer: str
     slow: bool
@@ -119,9 +120,9 @@ def cases_of(path: Path, above: int, body: str) -> Iterator[Case]:
     for case in CASE.finditer(body):
         line = above + 1 + body.count("\n", 0, case.start())
         command = re.sub("^> ", "", case["command"], flags=re.M)
-        sentences = SENTENCE.findall(body, 0, case.start())
-        slow = bool(sentences) and sentences[-1].endswith(SLOW)
-        yield Case(path, line, command, case["answer"], slow)
+        sentence = ["", *SENTENCE.findall(body, 0, case.start())][-1]
+        slow = sentence.endswith(SLOW)
+        yield Case(path, line, sentence, command, case["answer"], slow)
 
 
 def only_line(document: Document, path: Path, line: int) -> Document:
@@ -192,7 +193,8 @@ def difference(case: Case, expected: str, answer: str) -> str:
         expected.splitlines(), answer.splitlines(),
         f"{case.path}:{case.line}", "printed", lineterm="", n=9,
     )
-    return "\n".join(["$ " + case.command, *lines])
+    above = [case.sentence] if case.sentence else []
+    return "\n".join([*above, "$ " + case.command, *lines])
 
 
 def again(case: Case, seconds: int) -> str:
