@@ -1,4 +1,4 @@
--- What is said of the pages of a run of an account, from its verdict and its order.
+-- What is true of the pages of a run's account, from its verdict and its order.
 use Rattle.crawl_certificate.proofs.Prelude.{◌≡◌, ℕ, Bool, List, None, subst, take, slice_cmp, nat_cmp, All, IsPermutation, IsSortedByKey, Entry, AccountId, subqueue_of, PageResult, entries_of, DifferByUrl, first_fault, entry_urls, result_urls, IsAscending, AreReachable, CountsOf, AreQueues, WalkOf, page_in}
 use Rattle.crawl_certificate.proofs.Crawls.{pages_reached, own_pages, pages_ascend, one_each, entries_walk}
 use Rattle.crawl_certificate.proofs.KeptRules.{account_counts}
@@ -13,7 +13,7 @@ pub record AreCertified (account : AccountId) (allowed : List ℕ → Bool) (see
   pub reached : AreReachable (page_in results) allowed seeds (result_urls pages)
   pub hops : All (λ e. WalkOf (page_in results) allowed seeds e.hops e.url) (entries_of account)
 
--- the entries that were looked at are those of the account
+-- the entries that were checked are those of the account
 pub certified : (account : AccountId) (allowed : List ℕ → Bool) (seeds : List (List ℕ)) (entries : List Entry) (results pages : List PageResult)
     → entries ≡ entries_of account → DifferByUrl (entries_of account) → AreQueues (λ url. subqueue_of url account.workers) (take account.workers account.queues)
     → first_fault allowed seeds entries results ≡ None → IsPermutation results pages → IsSortedByKey (λ r. r.url) (slice_cmp nat_cmp) pages

@@ -14,7 +14,7 @@ pub record NoFault (allowed : List ℕ → Bool) (seeds : List (List ℕ)) (entr
 pub no_fault : (allowed : List ℕ → Bool) (seeds : List (List ℕ)) (entries : List Entry) (results : List PageResult) → first_fault allowed seeds entries results ≡ None → NoFault allowed seeds entries results
 no_fault allowed seeds entries results h = grind arith
 
--- ---- what the tests say
+-- ---- what the tests mean
 
 pub record EntryWith (entries : List Entry) (url : List ℕ) : Type 0 where
   pub entry : Entry
@@ -97,7 +97,7 @@ pub entry_walk : (page : List ℕ → Page) (allowed : List ℕ → Bool) (seeds
 entry_walk page allowed seeds entries results agrees clear zero e among far = grind (arith, common_steps, and_parts, founded_entry, cond-true, text_stands)
 entry_walk page allowed seeds entries results agrees clear (suc hops) e among far = grind (arith, common_steps, and_parts, founded_entry, ne_eqb, cond-false, linked_walk, entry_walk page allowed seeds entries results agrees clear hops)
 
--- ---- what a walk reaches is accepted, by induction on the walk
+-- ---- what a walk reaches was accepted, by induction on the walk
 
 second_false : (a b : Bool) → a ≡ true → (a && b) ≡ false → b ≡ false
 second_false a b h none = grind arith

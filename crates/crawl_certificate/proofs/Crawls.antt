@@ -1,4 +1,4 @@
--- What a certificate says, derived from its errors and from the order of its pages.
+-- What a certificate states, derived from its errors and from the order of its pages.
 use Rattle.crawl_certificate.proofs.Prelude.{◌≡◌, ℕ, Bool, true, List, None, sym, subst, ◌∙◌, arith, slice_cmp, nat_cmp, All, Contains, IsPermutation, IsSortedByKey, All-contains, All-weaker, All-contains_itself, All-permutation, Contains-permutation, IsPermutation-sym, IsPermutation-map, IsPermutation-trans, Entry, Page, PageResult, first_fault, is_accepted, entry_urls, result_urls, IsAscending, ArePages, AreReachable, IsCrawl, page_in, DifferByUrl, WalkOf}
 use Rattle.crawl_certificate.proofs.Lists.{any_from, text_itself}
 use Rattle.crawl_certificate.proofs.Certified.{no_fault, entry_walk, results_reached, result_accepted, entry_with, accepted_has_result, in_map, from_map, page_at_result}

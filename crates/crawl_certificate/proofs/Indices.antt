@@ -116,7 +116,7 @@ finds_of entries apart url (Some k) found = let there = entry_there entries url 
 has_entry : (entries : List Entry) (url : List ℕ) → is_some (index_of (entry_urls entries) url) ≡ is_accepted entries url
 has_entry entries url = has_index (entry_urls entries) url ∙ any_map (λ text. bytes_eq text url) (λ (e : Entry). e.url) entries
 
--- the index that is found for the URL: it is that of the URL's entry, and there is one exactly if the URL is accepted
+-- the index that is found for the URL is that of the URL's entry, and there is one if and only if the URL is accepted
 pub record IsAnswer (all : List Entry) (url : List ℕ) (o : Option ℕ) : Type 0 where
   pub found : Finds all url o
   pub accepted : is_some o ≡ is_accepted all url

@@ -14,7 +14,7 @@ ranks = ranks_by nat_list_cmp_total (λ t. t)
 not_below_itself : (t : List ℕ) → is_below t t ≡ false
 not_below_itself t = elim (cases_Bool (is_below t t)) [ inl h ↦ ranks.one_way t t h | inr h ↦ h ]
 
--- two texts are equal if neither is below the other
+-- two texts are equal if neither is less than the other
 pub neither_below : (a b : List ℕ) → is_below a b ≡ false → is_below b a ≡ false → a ≡ b
 neither_below a b p q = by (slice_cmp nat_cmp a b) refl
   where
@@ -67,14 +67,14 @@ least_append at bad xs ys told one before now = grind (arith, by_test, or_and, l
 pub least_more : {X : Type 0} (at : X → List ℕ → Bool) (bad : List ℕ → Bool) (xs : List X) (x : X) (told one : Option (List ℕ)) → IsLeast (λ t. list_any (λ y. at y t) xs && bad t) told → IsLeast (λ t. at x t && bad t) one → IsLeast (λ t. list_any (λ y. at y t) (xs ++ x ∷ []) && bad t) (lesser told one)
 least_more at bad xs x told one before now = grind (arith, least_append, by_test, or-false)
 
--- a text is the URL of an element whose URL passes the test exactly if it is the URL of an element and passes the test
+-- a text is the URL of an element whose URL passes the test if and only if it is the URL of an element and passes the test
 pub at_urls : {X : Type 0} (url : X → List ℕ) (test : List ℕ → Bool) (xs : List X) (text : List ℕ) → list_any (λ x. bytes_eq (url x) text && test (url x)) xs ≡ (list_any (λ x. bytes_eq (url x) text) xs && test text)
 at_urls url test [] text = refl
 at_urls url test (x ∷ xs) text = grind (arith, nat_tests, at_urls url test xs, cases_Bool, or_and, same_text)
 
 -- ---- whether there is a least text
 
--- there is a least text exactly if `holds` is true, which it is exactly if some text passes the test
+-- there is a least text if and only if `holds` is true, and that is so if and only if some text passes the test
 pub some_least : (holds : Bool) (test : List ℕ → Bool) (told : Option (List ℕ)) → IsLeast test told → (holds ≡ true → (t : List ℕ) × (test t ≡ true)) → ((t : List ℕ) → test t ≡ true → holds ≡ true) → is_some told ≡ holds
 some_least holds test told is found back = grind arith
 
@@ -131,6 +131,6 @@ entry_more test xs k x bad told one new below at same is put before =
     (subst (IsLeast (λ t. list_any (λ (e : Entry). bytes_eq e.url t && test e) (pointed (take k xs) ++ x.now ∷ []))) (sym put)
     (least_push (λ (e : Entry) t. bytes_eq e.url t && test e) (pointed (take k xs)) x.now told one before now))
 
--- all entries were looked at
+-- all entries were checked
 pub entries_all : (test : Entry → Bool) (xs : List (Bor Entry)) (k : ℕ) (told : Option (List ℕ)) → length xs ≤ k → IsLeast (λ t. list_any (λ e. bytes_eq e.url t && test e) (pointed (take k xs))) told → IsLeast (λ t. list_any (λ e. bytes_eq e.url t && test e) (pointed xs)) told
 entries_all test xs k told past is = subst (λ ys. IsLeast (λ t. list_any (λ (e : Entry). bytes_eq e.url t && test e) (pointed ys)) told) (take_all k xs past) is

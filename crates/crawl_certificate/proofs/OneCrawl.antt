@@ -1,4 +1,4 @@
--- The pages of a whole crawl are one list.
+-- The pages of a whole crawl are always the same list.
 use Rattle.crawl_certificate.proofs.Prelude.{◌≡◌, inl, inr, ℕ, zero, suc, Bool, List, [], ◌∷◌, map, refl, sym, ap, subst, ◌∙◌, suc-le-suc, zero-le, arith, nat_tests, slice_cmp, nat_list_cmp_total, nat_cmp, ordering_reverse, Less, Greater, AllByRecursion, Contains, recursion_from_All, Page, PageResult, result_urls, IsAscending, IsCrawl}
 use Rattle.crawl_certificate.proofs.Lists.{no_element, here, there, first_or_later}
 
@@ -39,7 +39,7 @@ one_ascending (x ∷ xs) (y ∷ ys) p q there' back' =
     (tail_members x ys xs q' (λ z has. back' z (subst (λ w. Contains (w ∷ ys) z) same has))) in
     ap (λ w. w ∷ xs) same ∙ ap (λ zs. y ∷ zs) rest
 
--- a list of results is its URLs with the page of each
+-- a list of results is determined by its URLs and the page of each
 pub results_from_urls : (meaning : List ℕ → Page) (results : List PageResult) → AllByRecursion (λ r. r.page ≡ meaning r.url) results → results ≡ map (λ url. record { url = url; page = meaning url }) (result_urls results)
 results_from_urls meaning [] means = refl
 results_from_urls meaning (r ∷ rs) means = grind (arith, nat_tests, results_from_urls meaning rs)

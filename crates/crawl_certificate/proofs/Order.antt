@@ -1,4 +1,4 @@
--- Lists without repeats: sorted they ascend, and two with the same elements are one in another order.
+-- Lists without repetitions: after sorting they ascend, and if two have the same elements, one is a permutation of the other.
 use Rattle.crawl_certificate.proofs.Prelude.{◌≡◌, ◌≢◌, inl, inr, ℕ, zero, suc, ◌<◌, false, List, [], ◌∷◌, ◌++◌, length, get_or, refl, sym, ap, subst, ◌∙◌, arith, suc-le-suc, zero-le, slice_cmp, nat_list_cmp_total, nat_cmp, is_lt, is_eq, ordering_reverse, Ordering, Less, Equal, Greater, IsPermutation, IsSortedByKey, bytes_eq, or_parts, both_ways, false_from_ne_true, get_or-map, length-map, All-contains, All-from_recursion, sorted_far, ranks_by, IsPermutation-refl, IsPermutation-cons, IsPermutation-trans, IsPermutation-sym, IsPermutation-middle, Contains-permutation, is_eq-slice_cmp, Entry, PageResult, has_result, twice, entry_urls, result_urls, IsAscending, DifferByUrl}
 use Rattle.std.specs.List.{Contains, AllByRecursion, IsDistinct}
 use Rattle.std.proofs.lemmas.Map.Keys.{IsDistinct-IsPermutation}
@@ -41,7 +41,7 @@ distinct_at (x ∷ xs) distinct i zero d before below = absurd (omega arith)
 distinct_at (x ∷ xs) distinct zero (suc j) d before below = All-from_recursion (λ y. bytes_eq x y ≡ false) xs distinct.0 j d (omega (arith, below))
 distinct_at (x ∷ xs) distinct (suc i) (suc j) d before below = distinct_at xs distinct.1 i j d (omega (arith, before)) (omega (arith, below))
 
--- ---- they ascend
+-- ---- sorted lists ascend
 
 below_from : (a b : List ℕ) (o : Ordering) → slice_cmp nat_cmp a b ≡ o → bytes_eq a b ≡ false → is_lt (slice_cmp nat_cmp b a) ≡ false → slice_cmp nat_cmp a b ≡ Less
 below_from a b Less is other least = is

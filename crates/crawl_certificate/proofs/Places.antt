@@ -6,7 +6,7 @@ use Rattle.crawl_certificate.proofs.Lists.{no_element, first_or_later, some_has,
 
 -- ---- lists
 
--- one more element to look at
+-- one more element to check
 pub any_push : {X : Type 0} (p : X → Bool) (xs : List X) (x : X) → list_any p (xs ++ x ∷ []) ≡ (list_any p xs || p x)
 any_push p xs x = list_any-append p xs (x ∷ []) ∙ ap (λ b. list_any p xs || b) (or-false (p x))
 
@@ -25,7 +25,7 @@ place_among (y ∷ ys) x has = elim (first_or_later y x ys has) [
 pub among_at : {X : Type 0} (xs : List X) (k : ℕ) (x : X) → slice_get xs k ≡ Some x → Contains xs x
 among_at xs k x at = (k, slice_get_within xs k x at, get_or_from_slice_get xs k x x at)
 
--- what the reference at an index points to
+-- the value to which the reference at an index points
 pub get_pointed : {X : Type 0} (xs : List (Bor X)) (k : ℕ) (d : Bor X) → get_or (pointed xs) k d.now ≡ (get_or xs k d).now
 get_pointed xs k d = grind (arith, common_steps)
 

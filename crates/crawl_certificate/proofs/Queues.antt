@@ -1,11 +1,11 @@
--- Entries in the subqueues of their URLs differ across subqueues too, and are counted by subqueue.
+-- Entries in the subqueues of their URLs also differ across subqueues, and are counted by subqueue.
 use Rattle.crawl_certificate.proofs.Prelude.{◌≡◌, inl, inr, ℕ, zero, suc, ◌+◌, ◌==◌, ◌≤◌, Bool, true, false, cond, List, [], ◌∷◌, ◌++◌, length, get_or, slice_get, Some, refl, sym, ap, subst, ◌∙◌, arith, IsPermutation, bytes_eq, both_ways, false_from_ne_true, eq-eqb, ne_eqb, get_or-map, length-map, map-append, All-contains, All-contains_itself, All-weaker, All-append, recursion_from_All, All-from_recursion, Contains-append_cases, sum_by-IsPermutation, sum_by-append, sum_by-cons, Entry, entries_in, DifferByUrl, entry_urls, AreQueues}
 use Rattle.std.specs.List.{All, AllByRecursion, Contains, IsDistinct, count_by}
 use Rattle.crawl_certificate.proofs.Lists.{no_element, same_text, text_itself}
 use Rattle.crawl_certificate.proofs.Certified.{from_map}
 use Rattle.crawl_certificate.proofs.Order.{Distinct, distinct_entries, distinct_at}
 
--- the same by recursion, from some number on
+-- likewise by recursion, from some number on
 abbrev pub QueuesFrom : (List ℕ → ℕ) → ℕ → List (List Entry) → Type 0
 QueuesFrom subqueue n [] = Unit {0}
 QueuesFrom subqueue n (es ∷ rest) = All (λ e. subqueue e.url ≡ n) es × DifferByUrl es × QueuesFrom subqueue (suc n) rest

@@ -1,4 +1,4 @@
--- A crawl by pages that agree on what is reached.
+-- Crawls over pages that are the same for each URL that is reached.
 use Rattle.crawl_certificate.proofs.Prelude.{◌≡◌, ℕ, Bool, List, [], ◌∷◌, ◌++◌, refl, sym, subst, ◌∙◌, All-contains, All-contains_itself, All-weaker, Contains, Page, PageResult, links_of, result_urls, IsCrawl}
 use Rattle.std.specs.Prelude.{IsTrue}
 use Rattle.crawl_certificate.specs.Reachable.{AgreeOnReached, GoesOn, IsWalk, Reachable}

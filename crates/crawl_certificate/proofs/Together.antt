@@ -1,4 +1,4 @@
--- What two passes over results found, put together.
+-- What two passes over results find, combined.
 use Rattle.crawl_certificate.proofs.Prelude.{◌≡◌, ℕ, zero, suc, ◌<◌, ◌≤◌, Bool, ◌||◌, ◌&&◌, not, List, [], ◌∷◌, ◌++◌, length, map, set, get_or, refl, sym, ap, subst, ◌∙◌, arith, list_any, bytes_eq, length-map, list_any-append, Entry, PageResult, links_of, is_accepted, has_result, stands_in, is_behind, is_lost, is_a_link, is_a_stray, is_twice, IsLeast, url_of, AreMarks, AreTogether, in_one, Marks}
 use Rattle.crawl_certificate.proofs.LeastUrls.{least_append, lesser_none}
 use Rattle.crawl_certificate.proofs.Twice.{least_twice_of_both}
@@ -11,7 +11,7 @@ in_one_push [] more b d below = absurd (omega (arith, below))
 in_one_push (x ∷ xs) [] b d below = refl
 in_one_push (x ∷ xs) (y ∷ ys) b d below = ap (λ ms. (x || y) ∷ ms) (in_one_push xs ys b d (omega (arith, below)))
 
--- what the second list does not reach
+-- the part of the list that the second list does not reach
 pub in_one_beyond : (marks more : List Bool) (k : ℕ) (d : Bool) → length more ≤ k → get_or (in_one marks more) k d ≡ get_or marks k d
 in_one_beyond marks [] k d past = refl
 in_one_beyond [] (y ∷ ys) k d past = refl
@@ -54,7 +54,7 @@ marks_together allowed entries xs ys first second found p q both =
 pub marks_long : (allowed : List ℕ → Bool) (entries : List Entry) (results : List PageResult) (marks : Marks) → AreMarks allowed entries results marks → (length marks.fetched.items ≡ length entries) × (length marks.linked.items ≡ length entries)
 marks_long allowed entries results marks are = (ap length are.fetched ∙ length-map entries _, ap length are.linked ∙ length-map entries _)
 
--- the halves of a list, each with the entries that its results have
+-- the halves of a list, each with the entries of its results
 pub halves_together : (allowed : List ℕ → Bool) (entries here' there' listed : List Entry) → here' ≡ entries → there' ≡ entries → listed ≡ entries → (xs ys whole : List PageResult) → xs ++ ys ≡ whole → (first second found : Marks) → AreMarks allowed here' xs first → AreMarks allowed there' ys second → AreTogether listed first second found → AreMarks allowed entries whole found
 halves_together allowed entries here' there' listed e f g xs ys whole joined first second found p q both =
     subst (λ rs. AreMarks allowed entries rs found) joined

@@ -28,7 +28,7 @@ any_counts p (x ∷ xs) = grind (arith, nat_tests, any_counts p xs, one_count, s
 
 -- ---- results
 
--- two results of two lists have a URL exactly if two results of one list have it, or one result of each list has it
+-- two results of two lists have a URL if and only if two results of one list have it, or one result of each list has it
 pub twice_of_both : (xs ys : List PageResult) (url : List ℕ) → is_twice (xs ++ ys) url ≡ ((is_twice xs url || is_twice ys url) || (has_result xs url && has_result ys url))
 twice_of_both xs ys url = grind (arith, ltb, count_append, two_of, any_counts)
 
@@ -67,7 +67,7 @@ least_twice_of_both entries xs ys first second both none p q shared =
 
 -- ---- whether there is such a URL
 
--- two results have a URL exactly if the first and a later one have it, or two later ones have it
+-- two results have a URL if and only if the first and a later one have it, or two later ones have it
 more_twice : (r : PageResult) (rest : List PageResult) (url : List ℕ) → is_twice (r ∷ rest) url ≡ (is_twice rest url || (bytes_eq r.url url && has_result rest url))
 more_twice r rest url = grind (arith, common_steps, ltb, count_more, two_of, any_counts)
 
