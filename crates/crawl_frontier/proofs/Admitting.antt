@@ -14,7 +14,7 @@ IsTrueOf es url id hops (Seen there i u) = (e : Entry) × (slice_get es i ≡ So
 IsTrueOf es url id hops (TooFar u) = Unit {0}
 IsTrueOf es url id hops (NoMemory u) = Unit {0}
 
--- what is known of queue q's list has grown, and the index is right for it
+-- more is known of queue q's list, and the index is right for it
 abbrev pub Raises : List KnownList → List KnownList → ℕ → List ℕ → ℕ → ℕ → Admit → Type 0
 Raises before after q url id hops answer =
     (t u : KnownList) × (slice_get before q ≡ Some t) × (u.list ≡ t.list) × Stays t.items u.items × (after ≡ slice_set before q u) × IsTrueOf u.items url id hops answer
@@ -67,7 +67,7 @@ module _ (s t : ShardId) (url : List ℕ) (id own hops : ℕ) (unit : SeatId) wh
 known_of : (lists : List (List Entry)) (es : List Entry) (q : ℕ) (url : List ℕ) (id hops : ℕ) (a : Admit) → slice_get lists q ≡ Some es → IsTrueOf es url id hops a → IsKnown lists q url id hops a
 known_of lists es q url id hops a at is = grind arith
 
--- what holds of books and logs still holds after more of queue q's list became known
+-- what is true of books and logs is still true after more of queue q's list became known
 module _ (before after : List KnownList) (q : ℕ) (url : List ℕ) (id hops : ℕ) (a : Admit) (r : Raises before after q url id hops a) where
   are_raised : AreRaised before after
   are_raised = subst (AreRaised before) (sym r.5) (raised_at before q r.0 r.1 r.2 r.3 r.4)

@@ -1,4 +1,4 @@
--- The parts of a run, taken apart one by one.
+-- The workers and senders of a run, taken apart one by one.
 use Rattle.crawl_frontier.proofs.Prelude.{◌≡◌, ◌⊎◌, ℕ, ◌<◌, List, [], ◌∷◌, ◌++◌, length, Some, sym, ◌∙◌, subst, inl, inr, ⊎_elim, arith, length-append, cases_lt, BookId, IsBook, WorkerId, SenderId, At, HasBook, Gathered}
 use Rattle.crawl_frontier.proofs.Gets.{get_snoc, get_before, get_last, get_within}
 

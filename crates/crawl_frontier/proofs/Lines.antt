@@ -1,4 +1,4 @@
--- One subqueue more.
+-- One more subqueue.
 use Rattle.crawl_frontier.proofs.Prelude.{◌≡◌, ℕ, zero, suc, ◌+◌, List, [], ◌∷◌, ◌++◌, length, Some, refl, subst, arith, length-append, slice_get, QueueId, GateId, PassId, KnownList, ListsAre, pushing, popping, home, WorkerId, fresh_book, Line, AllPush, AllPop, AllFresh}
 use Rattle.crawl_gate.specs.View.{fresh_view}
 use Rattle.crawl_frontier.proofs.Gets.{get_both}

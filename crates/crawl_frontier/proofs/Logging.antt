@@ -1,4 +1,4 @@
--- What the lines of a log say as what is known of the lists grows, and at the end.
+-- The lines of a log stay true while more becomes known of the lists, and at the end.
 use Rattle.crawl_frontier.proofs.Prelude.{◌≡◌, ℕ, zero, suc, Bool, true, List, [], ◌∷◌, map, set, Some, refl, sym, ap, ◌∙◌, subst, arith, if◌then◌else◌, Entry, LogLine, Accepted, Seen, QueueId, has_url, Stays, KnownList, items_of, lists_of, says, line_of, log_of, AreThere, AllStay, ListsAre, AreKnown, queue_of, ShardId, At, Stands, AreRaised, IsHome, AreToldOf, LogIsOf, entry_there, log_stays, there_stays}
 use Rattle.std.proofs.lemmas.Slice.Eq.{bytes_eq-Decides}
 use mathlib.Core.Logic.{dite}
@@ -15,12 +15,12 @@ of_map f [] k y e = absurd (cc (e))
 of_map f (x ∷ xs) zero y e = (x, refl, cc)
 of_map f (x ∷ xs) (suc k) y e = of_map f xs k y e
 
--- ---- what is known of the lists becomes more
+-- ---- more becomes known of the lists
 
 pub raised_on : (start before after : List KnownList) → AreRaised start before → AreRaised before after → AreRaised start after
 raised_on start before after r s = grind arith
 
--- at one queue
+-- for one queue
 pub raised_at : (told : List KnownList) (q : ℕ) (t u : KnownList) → At told q t → u.list ≡ t.list → Stays t.items u.items → AreRaised told (set told q u)
 raised_at told q t u at list stay = (
   get_len_set told q u,
@@ -42,11 +42,11 @@ all_stay before after r q es at =
     let u = r.1 q t.0 t.1 in
     (u.0.items, at_map items_of after q u.0 u.1, subst (λ (l : List Entry). Stays l u.0.items) t.2 u.3)
 
--- the lines say what they said
+-- the lines keep their meaning
 pub raised_log : (before after : List KnownList) (ls : List LogLine) → AreRaised before after → AreThere (lists_of before) ls → log_of (lists_of after) ls ≡ log_of (lists_of before) ls
 raised_log before after ls r there = log_stays (lists_of before) (lists_of after) ls (all_stay before after r) there
 
--- of the same lists
+-- likewise for the same lists
 pub raised_lists : (queues : List QueueId) (before after : List KnownList) → AreRaised before after → ListsAre queues before → ListsAre queues after
 raised_lists queues before after r are q s v there at =
     let lt = get_within after q v at in
@@ -58,7 +58,7 @@ raised_lists queues before after r are q s v there at =
 pub raised_known : (queues : List QueueId) (workers : ℕ) (before after : List KnownList) (ls : List LogLine) → AreRaised before after → AreKnown queues workers before ls → AreKnown queues workers after ls
 raised_known queues workers before after ls r known = grind (arith, raised_lists, there_stays, all_stay)
 
--- ---- what is known is in the shards
+-- ---- what is known is true of the shards
 
 pub has_url_at : (es : List Entry) (k : ℕ) (e : Entry) → At es k e → has_url e.url es ≡ true
 has_url_at [] k e at = absurd (cc (at))

@@ -82,7 +82,7 @@ placed_more gate workers closed m m' n w r alone alone' old at below h view le n
             let p = old.own k v here later (omega (arith, small, le)) in
             (p.0, h v.queue ∙ ((λ i. cond (is i) (Some r) (get nat_cmp m v.queue)) ∙ p.1), p.2)
 
--- two workers meet at the queue at which the bound falls
+-- if the bound falls to a queue, two workers have it
 pub shared_more : (gate : GateId) (workers : ℕ) (closed : List WorkerId) (m : BTreeMap ℕ PassId) (n : ℕ) (w : WorkerId) (limit alone alone' : ℕ)
     → Placed gate workers closed (n + 1) m alone → At closed n w → alone' ≤ alone → (alone' < alone → (alone' ≡ w.queue) × (is_some (get nat_cmp m w.queue) ≡ true))
     → (alone < limit → IsShared closed alone) → alone' < limit → IsShared closed alone'
@@ -126,14 +126,14 @@ ids_more books ids ids' n b old at h = grind (arith, key_is, key_self, same_at, 
 known_some : (o : Option PassId) → is_some o ≡ true → (p : PassId) × (o ≡ Some p)
 known_some o e = grind arith
 
--- if nothing is left to take apart, the book of each part was gathered
+-- if nothing remains to be taken apart, the books of each worker and sender were gathered
 pub has_book : (workers : ℕ) (closed : List WorkerId) (senders : List SenderId) (books : List BookId) → Gathered workers closed senders [] [] books → (b : BookId) → IsPart closed senders b → HasBook books b
 has_book workers closed senders books g b part = ⊎_elim
     (λ (t : (k : ℕ) × (w : WorkerId) × At closed k w × (w.book ≡ b)). subst (HasBook books) t.3 (⊎_elim (λ (lt : t.0 < 0). absurd (omega arith)) (λ h. h) (g.closed_in t.0 t.1 t.2)))
     (λ (t : (k : ℕ) × (s : SenderId) × At senders k s × (s.book ≡ b)). subst (HasBook books) t.3 (⊎_elim (λ (lt : t.0 < 0). absurd (omega arith)) (λ h. h) (g.senders_in t.0 t.1 t.2)))
     part
 
--- if each queue has a right to pop, each has a worker; a queue with no right to pop has no worker
+-- if each queue has a right to pop, each has a worker; a queue without a right to pop has no worker
 pub all_work : (gate : GateId) (workers : ℕ) (queues : List QueueId) (closed : List WorkerId) (rights : BTreeMap ℕ PassId)
     → Slots gate workers queues closed rights → ((q : ℕ) → q < workers → is_some (get nat_cmp rights q) ≡ true) → HasWorkers workers closed
 all_work gate workers queues closed rights slots there q lt =

@@ -1,4 +1,4 @@
--- What each part knows of the lists becomes what the shards have, queue by queue and book by book.
+-- What each sender knows of the lists becomes what the shards have, queue by queue and book by book.
 use Rattle.crawl_frontier.proofs.Prelude.{◌≡◌, ◌≢◌, ℕ, zero, suc, ◌+◌, ◌<◌, ◌≤◌, List, [], ◌∷◌, ◌++◌, length, map, set, Option, None, refl, sym, ap, ◌∙◌, subst, ⊎_elim, arith, cases_lt, BTreeMap, Entry, Book, Doubt, QueueId, PassId, Stays, KnownList, BookId, book_of, ShardId, At, AllAre, AreRaised, IsHome, AreToldOf, LogIsOf, LogsAreOf, LogsStand, AllSettle}
 use Rattle.crawl_frontier.proofs.Gets.{get_set_same, get_set_other, get_snoc, get_within, same_at}
 use Rattle.crawl_frontier.proofs.Logging.{at_map, raised_on, raised_at}
@@ -11,7 +11,7 @@ map_set_same f (z ∷ zs) (suc i) x y e is = ap (λ l. f z ∷ l) (map_set_same 
 pub all_snoc : {X : Type 0} (P : X → Type 0) (xs : List X) (x : X) → AllAre P xs → P x → AllAre P (xs ++ x ∷ [])
 all_snoc P xs x all new j y at = ⊎_elim (λ before. all j y before) (λ now. subst P now.1 new) (get_snoc xs x y j at)
 
--- for each queue below n, what is known of its list holds in its shard's, if that is at home
+-- for each queue below n, what is known of its list is true of its shard, if that is in its place
 abbrev pub ToldBelow : ℕ → List ShardId → List KnownList → Type 0
 ToldBelow n shards told = (q : ℕ) (s : ShardId) (t : KnownList) → q < n → IsHome shards q s → At told q t → Stays t.items s.sent
 
@@ -39,7 +39,7 @@ told_more shards start before after n j s t u raised below at list stay is there
         subst (λ (y : KnownList × ShardId). Stays y.0.items y.1.sent) (λ i. (sym new i, sym shard i)) (told queue))
         (cases_lt q n)
 
--- if n is the number of queues, what is known of each list holds in its shard's
+-- if n is the number of queues, what is known of each list is true of its shard
 pub told_of : (n : ℕ) (shards : List ShardId) (told : List KnownList) → ToldBelow n shards told → length told ≡ n → AreToldOf shards told
 told_of n shards told below len q s t home at = let lt = get_within told q t at in below q s t (omega (arith, lt, len)) home at
 
@@ -47,12 +47,12 @@ told_of n shards told below len q s t home at = let lt = get_within told q t at 
 abbrev pub LogsBelow : ℕ → List ShardId → List BookId → Type 0
 LogsBelow n shards books = (j : ℕ) (b : BookId) → j < n → At books j b → LogIsOf shards b.log
 
--- one more book
+-- the books of one more sender
 pub book_more : (shards : List ShardId) (books : List BookId) (now : List Book) (n : ℕ) (b : Book)
     → map book_of now ≡ books → At now n b → LogsBelow n shards books → LogIsOf shards (book_of b).log → LogsBelow (n + 1) shards books
 book_more shards books now n b are at below new j c lt here = grind (arith, same_at, at_map, cases_lt)
 
--- if no queue below `least` is in doubt, what the logs say of the shards' lists holds of these lists
+-- if no queue below `least` is in doubt, what the logs state about the shards' lists is true of these lists
 pub logs_stand : (workers : ℕ) (queues : List QueueId) (shards : List ShardId) (rights : BTreeMap ℕ PassId) (lists : List (List Entry)) (doubts : List (Option Doubt)) (least : ℕ) (books : List BookId)
     → AllSettle workers queues shards rights lists doubts → ((q : ℕ) → q < least → At doubts q None) → LogsAreOf shards books → LogsStand least lists books
 logs_stand workers queues shards rights lists doubts least books all none are j b at k l here lt es there = grind arith

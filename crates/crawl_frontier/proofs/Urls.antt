@@ -3,7 +3,7 @@ use Rattle.crawl_frontier.proofs.Prelude.{◌≡◌, ℕ, ◌<◌, List, [], ◌
 use Rattle.std.specs.Option.{option_map}
 use Rattle.hash_index.proofs.Listed.{found_at}
 
--- a URL is in the list exactly if it has an index
+-- a URL is in the list if and only if it has an index
 pub has_index : (es : List Entry) (url : List ℕ) → is_some (index_of (map (λ e. e.url) es) url) ≡ has_url url es
 has_index [] url = refl
 has_index (e ∷ es) url = grind (arith, has_index es url)

@@ -2,7 +2,7 @@ use Rattle.crawl_frontier.proofs.Prelude.{◌≡◌, ◌∙◌, length, set, ref
 use Rattle.crawl_frontier.proofs.Admitting.{Raises, raises, told_log, told_known, told_index}
 use Rattle.crawl_frontier.proofs.offer.admit.Goals as goal
 
--- what the book knew, and how much more it knows of the queue's list
+-- what the book knew before, and what it then knows of the queue's list
 module _ (g : _) (c : goal.After-drop-iterator g) where
   known : Knows g.K.Name.queues g.K.Name.workers c.loop.book
   known = subst (Knows g.K.Name.queues g.K.Name.workers) (sym c.loop.invariant.2) c.requires.known

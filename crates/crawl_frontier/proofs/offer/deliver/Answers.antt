@@ -3,7 +3,7 @@ use Rattle.crawl_keys.specs.Assignment.{subqueue_of}
 use Rattle.crawl_frontier.proofs.Gets.{get_set_same, get_set_other, get_len_set}
 use Rattle.crawl_frontier.proofs.offer.deliver.Goals as goal
 
--- books with one line more
+-- books with one more line
 sent_to-append : (q : ℕ) (ls ms : List Logged) → sent_to q (ls ++ ms) ≡ sent_to q ls ++ sent_to q ms
 sent_to-append q [] ms = refl
 sent_to-append q (Accepted e p ∷ ls) ms = grind (arith, sent_to-append q ls ms)

@@ -90,7 +90,7 @@ agrees workers least below lists b is within rule under stands now under' counts
 count_disagrees : (workers q : ℕ) (lists : List (List Entry)) (b : BookId) → IsBook workers b → q < workers → CountFails q lists b → DisagreesAt q lists b
 count_disagrees workers q lists b is lt (es, n, here, counted, differs) = grind (arith, entries_of-length)
 
--- if the bound fell only to queues at which something fails, something fails at the bound
+-- if the bound falls only to queues at which something fails, something fails at the bound
 fails_next : (P : ℕ → Type 0) (first old new : ℕ) → new ≤ old → (old < first → P old) → (new < old → P new) → new < first → P new
 fails_next P first old new le before now lt = ⊎_elim now (λ not. let same : old ≡ new = omega (arith, le, not) in subst P same (before (omega (arith, lt, same)))) (cases_lt new old)
 
@@ -109,12 +109,12 @@ agree_first lists b bs settled old new (within, agree, differ) le one differs =
     later : OneDisagrees old lists bs → OneDisagrees old lists (b ∷ bs)
     later d = (suc d.0, d.1, d.2, d.3)
 
--- what is in the second of two lists is in both together
+-- an element of the second of two lists is in both together
 second_half : {X : Type 0} (xs ys : List X) (j : ℕ) (x : X) → At ys j x → (i : ℕ) × At (xs ++ ys) i x
 second_half [] ys j x at = (j, at)
 second_half (z ∷ zs) ys j x at = let r = second_half zs ys j x at in (suc r.0, r.1)
 
--- the last of the books that are left is one of all
+-- the last of the remaining books is one of all books
 last_one : (all : List BookId) (books left : List Book) (b : Book) (bs : List BookId) → all ≡ map book_of books ++ bs → books ≡ left ++ b ∷ [] → all ≡ map book_of left ++ book_of b ∷ bs
 last_one all books left b bs is last = grind (arith, map-append, append_assoc)
 

@@ -4,7 +4,7 @@ use Rattle.crawl_frontier.proofs.Settling.{Settled, settled, accounts, all_work,
 use Rattle.crawl_frontier.proofs.Gets.{get_within, has_at, same_at, list_of}
 use Rattle.crawl_frontier.proofs.finish.settled.settle_run.Goals as goal
 
--- what was found of queue q is of this list and this doubt
+-- what was found for queue q has this list and this doubt
 record Tied (workers : ℕ) (closed : List WorkerId) (lists : List (List Entry)) (doubts : List (Option Doubt)) (q : ℕ) (f : Found) : Type 0 where
   pub listed : At lists q f.sent
   pub clear : At doubts q None → (f.queue ≡ q) × (f.is_taken ≡ true)

@@ -10,7 +10,7 @@ use Rattle.crawl_frontier.proofs.Undo.{raised}
 use Rattle.crawl_frontier.proofs.Admitting.{answered}
 use Rattle.crawl_frontier.proofs.shard.Shard.send.Goals as goal
 
--- what a shard says of its list still holds after room was made
+-- what is true of a shard's list is still true after room was made
 with_room : (workers queue : ℕ) (index : HashIndex) (old new : List Entry) (counted : ℕ → ℕ)
     → new ≡ old → KeepsRule workers queue [] old → IsIndexOf hash_of (map (λ e. e.url) old) index → ((id : ℕ) → counted id ≡ count_of id old) → length old < 4294967296
     → KeepsRule workers queue [] new × IsIndexOf hash_of (map (λ e. e.url) new) index × ((id : ℕ) → counted id ≡ count_of id new) × (length new < 4294967296)
