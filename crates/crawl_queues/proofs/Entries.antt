@@ -8,7 +8,7 @@ module _ (n q : ℕ) where
   rule-snoc before [] e l m = (subst (λ b. MayFollow n q b e) (append-nil before) m, tt)
   rule-snoc before (x ∷ xs) e l m = (l.0, rule-snoc (before ++ x ∷ []) xs e l.1 (subst (λ b. MayFollow n q b e) (sym (append_assoc before (x ∷ []) xs)) m))
 
-  -- an entry in the middle may follow those before it
+  -- an entry in the middle may come after those before it
   pub rule-at : (before xs : List Entry) (e : Entry) (ys : List Entry) → KeepsRule n q before (xs ++ e ∷ ys) → MayFollow n q (before ++ xs) e
   rule-at before [] e ys l = subst (λ b. MayFollow n q b e) (sym (append-nil before)) l.0
   rule-at before (x ∷ xs) e ys l = subst (λ b. MayFollow n q b e) (append_assoc before (x ∷ []) xs) (rule-at (before ++ x ∷ []) xs e ys l.1)

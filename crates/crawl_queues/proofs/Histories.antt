@@ -6,7 +6,7 @@ use Rattle.crawl_queues.specs.History.{IsAcceptedList, Moment, SubqueueStep, Lis
 use Rattle.crawl_queues.proofs.Entries.{rule-numbered}
 use Rattle.crawl_queues.proofs.Passing as pass
 
--- the k-th entry may follow those before it
+-- the k-th entry may come after those before it
 rule-get : (n q : ℕ) (before es : List Entry) (k : ℕ) (e : Entry) → KeepsRule n q before es → slice_get es k ≡ Some e → MayFollow n q (before ++ take k es) e
 rule-get n q before [] k e rule at = absurd (cc (at))
 rule-get n q before (x ∷ xs) zero e rule at =
@@ -42,7 +42,7 @@ set_apart (z ∷ zs) (suc i) (suc j) w ne = set_apart zs i j w (λ e. ne (ap suc
 abbrev After : List Entry → List Entry → Moment → Type 0
 After sent taken m = (k : SubqueueInvariant m.items m.views) × ((k.sent ≡ sent) × (k.taken ≡ taken))
 
--- each kind of step keeps the invariant, and moves the lists as it should
+-- each kind of step keeps the invariant, and changes the lists as it should
 pub step_moves : (m m' : Moment) (k : SubqueueInvariant m.items m.views) (step : SubqueueStep m m') → (k' : SubqueueInvariant m'.items m'.views) × ListsMove step k.sent k.taken k'.sent k'.taken
 unfolding pass.settles pass.divides pass.sends pass.takes pass.counts pass.unites
 step_moves m m' k (settles p h old at is) =

@@ -1,4 +1,4 @@
--- What the lines of a log state after the known lists have grown, and after one more line.
+-- What the lines of a log mean after the known lists have grown, and with one more line.
 use Rattle.crawl_queues.proofs.Prelude.{common_steps, ◌≡◌, ℕ, zero, suc, List, [], ◌∷◌, ◌++◌, set, Some, slice_get, refl, ap, ◌∙◌, arith, sym, get_or_from_slice_get, Entry, LogLine, entry_at, says, line_of, log_of, Has, AreThere, AllStay, slice_index_or, no_entry}
 
 pub entry_there : (lists : List (List Entry)) (q i : ℕ) (e : Entry) → Has lists q i e → entry_at lists q i ≡ e
@@ -25,7 +25,7 @@ log_snoc : (lists : List (List Entry)) (ls : List LogLine) (l : LogLine) → log
 log_snoc lists [] l = refl
 log_snoc lists (x ∷ xs) l = ap (λ t. line_of lists x ∷ t) (log_snoc lists xs l)
 
--- one more line states what is at its index
+-- one more line is about the entry at its index
 pub line_more : (lists : List (List Entry)) (ls : List LogLine) (l : LogLine) (e : Entry) → Has lists l.queue l.index e → log_of lists (ls ++ l ∷ []) ≡ log_of lists ls ++ says l e ∷ []
 line_more lists ls l e has = log_snoc lists ls l ∙ ap (λ x. log_of lists ls ++ says l x ∷ []) (entry_there lists l.queue l.index e has)
 
@@ -33,7 +33,7 @@ pub there_more : (lists : List (List Entry)) (ls : List LogLine) (l : LogLine) (
 there_more lists [] l e there has = ((e, has), tt)
 there_more lists (x ∷ xs) l e there has = (there.0, there_more lists xs l e there.1 has)
 
--- an element that was written at its own index
+-- an element that is written again, unchanged
 pub set_same : {X : Type 0} (xs : List X) (i : ℕ) (x : X) → slice_get xs i ≡ Some x → set xs i x ≡ xs
 set_same [] i x e = refl
 set_same (z ∷ zs) zero x e = let same : x ≡ z = cc in ap (λ y. y ∷ zs) same
