@@ -1,4 +1,4 @@
--- What the admission at a place names.
+-- The subqueue that the admission at an index names.
 use Rattle.crawl_replay.proofs.Prelude.{◌≡◌, ℕ, zero, suc, List, [], ◌∷◌, slice_get, Some, subst, AllByRecursion, recursion_from_All, Event, IsPlaced, IsAssigned}
 
 pub all_at : {X : Type 0} (P : X → Type 0) (xs : List X) (i : ℕ) (x : X) → AllByRecursion P xs → slice_get xs i ≡ Some x → P x

@@ -1,4 +1,4 @@
--- What a line after the first says, in the words of the format.
+-- The event on a line after the first, as the format defines it.
 use Rattle.crawl_replay.proofs.Prelude.{common_steps, ◌≡◌, ◌⊎◌, ℕ, Bool, true, List, ◌∷◌, ◌++◌, Option, Some, None, Result, Ok, Err, refl, sym, ap, ◌∙◌, codes, inl, arith, ok_or, option_and_then, if◌then◌else◌, bytes_eq, bytes_eq-Decides, Event, Look, Enter, Admit, Back, EndSeeds, Take, Done, Close, at_space, number_of, address_from, admit_at, admit_parts, admit_with, plain_event, numbered_event, event_from, event_of, IsNumber, IsNumbered, IsAdmit, IsBadAdmission, IsEventLine, ScriptError}
 use Rattle.std.specs.Option.{option_map}
 use Rattle.crawl_keys.specs.CanonicalText.{canonical}
@@ -6,7 +6,7 @@ use Rattle.crawl_keys.specs.declared.error.KeyError.{KeyError}
 use Rattle.crawl_replay.specs.declared.script.error.ScriptError.TheVariants.{BadLine, BadUrl}
 use Rattle.crawl_replay.proofs.NumberText.{number_is, number_of_is, at_space-joined, at_space-number, joined-at_space}
 
--- ---- what is said is in the line
+-- ---- if a line has an event, its bytes are those of the event
 
 -- the value that a number gives
 by_number : (build : ℕ → Event) (found : Option ℕ) (event : Event) → option_map build found ≡ Some event → (value : ℕ) × (found ≡ Some value) × (build value ≡ event)
@@ -31,7 +31,7 @@ numbered_sound workers first number line event split e =
 plain_sound : (workers : ℕ) (line : List ℕ) (event : Event) → plain_event line ≡ Some event → IsEventLine workers event line
 plain_sound workers line event e = grind (arith, by_word, bytes_eq-Decides)
 
--- what an admission has after its first space
+-- the text of an admission after its first space
 parts_by_number : (found : Option ℕ) (address : List ℕ) (q : ℕ × List ℕ) → option_map (λ sender. (sender, address)) found ≡ Some q → (found ≡ Some q.0) × (address ≡ q.1)
 parts_by_number found address q e = grind arith
 
@@ -45,7 +45,7 @@ parts_by_space rest line (Some p) q e split found =
       sent = number_is 64 p.0 q.0 both.0;
     }
 
--- ---- what is in the line is said
+-- ---- if the bytes are those of an event, the line has it
 
 admit_parts-is : (rest number address : List ℕ) (sender : ℕ) → IsNumber 64 sender number → rest ≡ number ++ 32 ∷ address → admit_parts rest ≡ Some (sender, address)
 admit_parts-is rest number address sender sent is = rw (at_space-number rest number address sent.digits is, number_of_is 64 number sender sent) refl
@@ -83,9 +83,9 @@ pub bad_url_said : (workers number : ℕ) (line : List ℕ) → IsBadAdmission l
 bad_url_said workers number line is =
     admit_from workers number is.sender is.address line is.admits ∙ ap (λ r. admit_at is.sender (address_from workers number r)) is.refused
 
--- ---- both together: what a line says, in its bytes
+-- ---- both directions together
 
--- what the line says is in it
+-- the bytes of the line are those of its event
 abbrev pub Stands : ℕ → ℕ → List ℕ → Result Event ScriptError → Type 0
 Stands workers number line (Ok event) = IsEventLine workers event line
 Stands workers number line (Err fault) = (fault ≡ BadLine number) ⊎ ((fault ≡ BadUrl number) × IsBadAdmission line)

@@ -1,4 +1,4 @@
--- What the first line of a script says is what the format says of it.
+-- The header on the first line of a script is the one that the format defines.
 use Rattle.crawl_replay.proofs.Prelude.{◌≡◌, ℕ, Bool, true, ◌&&◌, List, ◌∷◌, ◌++◌, Option, Some, None, Result, Ok, Err, refl, sym, ap, subst, ◌∙◌, codes, ok_or, option_and_then, arith, if◌then◌else◌, bytes_eq, le-leb, and_parts, bytes_eq-Decides, AreLimits, worker_limit, pending_limit, text_of, at_space, LineError, number_of, is_within, header_of, header_in, with_text, IsLineText, IsHeaderLine, HeaderSays, Header, ScriptError}
 use Rattle.crawl_replay.specs.declared.script.error.ScriptError.TheVariants as wrong
 use Rattle.crawl_replay.proofs.NumberText.{number_is, number_of_is, at_space-joined, at_space-number, joined-at_space}
@@ -12,7 +12,7 @@ within_limits workers max e = grind arith
 limits_within : (workers max : ℕ) → AreLimits workers max → is_within workers max ≡ true
 limits_within workers max are = rw (le-leb 1 workers are.some_worker, le-leb workers worker_limit are.few_workers, le-leb 1 max are.some_pending, le-leb max pending_limit are.few_pending) refl
 
--- ---- what is said is in the line
+-- ---- if a line has a header, its bytes are those of the header
 
 -- a chain of two steps
 by_step : {A B : Type 0} (f : A → Option B) (o : Option A) (y : B) → option_and_then f o ≡ Some y → (x : A) × (o ≡ Some x) × (f x ≡ Some y)
@@ -50,7 +50,7 @@ header_stands line header e =
       within = within_limits workers.0 max.0 within.0;
     })
 
--- ---- what is in the line is said
+-- ---- if the bytes are those of a header, the line has it
 
 pub header_said : (workers max : ℕ) (line : List ℕ) → IsHeaderLine workers max line → header_of line ≡ Some (record { workers = workers; max = max })
 header_said workers max line is =

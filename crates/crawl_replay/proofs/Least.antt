@@ -1,10 +1,10 @@
--- A script's error is that of the first of its lines that has one.
+-- A script's error is that of its first line that has one.
 use Rattle.crawl_replay.proofs.Prelude.{◌≡◌, ℕ, ◌+◌, List, [], ◌∷◌, ◌++◌, length, Option, Some, Result, Ok, Err, refl, ap, subst, ◌∙◌, arith, append-nil, append_assoc, length-append, result_err, lines, Event, Header, ScriptError, script_in, header_in, said_by, said_from, least_fault, events_in, unless_fault, with_events, with_header}
 use Rattle.text_lines.specs.LeastFault.{SoundAfter, IsLeastFault}
 use Rattle.crawl_replay.specs.declared.script.error.ScriptError.TheVariants as wrong
 use Rattle.crawl_replay.specs.LeastFault.{fault_after, IsScriptFault}
 
--- the least error of lines that follow a header and these earlier lines
+-- the error of lines that follow a header and these earlier lines
 record FoundBehind (header : List ℕ) (earlier more : List (List ℕ)) (fault : ScriptError) : Type 0 where
   front : List (List ℕ)
   line : List ℕ
@@ -13,7 +13,7 @@ record FoundBehind (header : List ℕ) (earlier more : List (List ℕ)) (fault :
   sound : SoundAfter fault_after (header ∷ earlier) front
   fails : fault_after (header ∷ (earlier ++ front)) line ≡ Some fault
 
--- a line after a header that is read, by what it says
+-- a line after a good header, by its content
 said_behind : (header : List ℕ) (read : Header) (earlier : List (List ℕ)) (number : ℕ) (line : List ℕ) (said : Result (Option Event) ScriptError) → header_in header ≡ Ok read → number ≡ length earlier + 2 → said_by read.workers number line ≡ said → fault_after (header ∷ earlier) line ≡ result_err said
 said_behind header read earlier number line said is_header place says = rw (is_header, ← place, says) refl
 

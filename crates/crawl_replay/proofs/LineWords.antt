@@ -1,4 +1,4 @@
--- What a line of a script says is what the format says of it.
+-- The content of a line of a script is the one that the format defines.
 use Rattle.crawl_replay.proofs.Prelude.{◌≡◌, ◌≢◌, ℕ, ◌<◌, ◌≤◌, Bool, false, List, [], length, nat_eq, nat_lt, Option, Some, None, Result, Ok, Err, refl, sym, ap, subst, ◌∙◌, arith, lt-ltb, ltb-true, ◌+◌, ◌∷◌, ◌++◌, append_assoc, if◌then◌else◌, IsUtf8, is_utf8, nat_tests, Event, line_limit, text_of, LineError, event_of, said_by, some_event, with_text, events_of, unless_fault, IsLineText, IsEventLine, IsBadAdmission, LineSays, ScriptError}
 use Rattle.std.proofs.lemmas.Str.{IsUtf8-from_is_utf8, is_utf8-from_IsUtf8, IsUtf8-nil}
 use Rattle.text_lines.specs.declared.lines.LineError.TheVariants as without
@@ -7,7 +7,7 @@ use Rattle.crawl_replay.proofs.EventLines.{Stands, stands, event_said, bad_url_s
 
 -- ---- the text of a line
 
--- what is there of a line's text
+-- the text of a line, if it has one
 abbrev pub TextStands : ℕ → List ℕ → Result (List ℕ) LineError → Type 0
 TextStands number line (Ok text) = (text ≡ line) × IsLineText line
 TextStands number line (Err (without.TooLong n)) = (n ≡ number) × (line_limit < length line)
@@ -36,7 +36,7 @@ text_of-text number line is = rw (not_below line_limit (length line) is.short, i
 
 -- ---- a line after the first
 
--- what a text says that is no empty one
+-- the content of a text that is not empty
 abbrev some_said : ℕ → ℕ → List ℕ → Result (Option Event) ScriptError
 some_said workers number text = if nat_eq (length text) 0 then Ok None else some_event (event_of workers number text)
 
@@ -80,9 +80,9 @@ line_said workers number line (Err wrong.NoMemory) there = absurd there
 pub line_means : (workers number : ℕ) (line : List ℕ) (said : Result (Option Event) ScriptError) → (said_by workers number line ≡ said → LineSays workers number line said) × (LineSays workers number line said → said_by workers number line ≡ said)
 line_means workers number line said = (λ is. subst (LineSays workers number line) is (line_stands workers number line), line_said workers number line said)
 
--- What the lines of a script say, when they are read one by one
+-- The content of a script's lines, when they are read one by one
 
--- the events read so far, and after them those of the lines that are left
+-- the events that were read so far, followed by those of the lines that remain
 abbrev pub behind : List Event → Result (List Event) ScriptError → Result (List Event) ScriptError
 behind front (Ok events) = Ok (front ++ events)
 behind front (Err fault) = Err fault
@@ -90,6 +90,6 @@ behind front (Err fault) = Err fault
 put : (front events : List Event) (event : Event) (fault : Option ScriptError) → behind front (unless_fault fault (event ∷ events)) ≡ behind (front ++ event ∷ []) (unless_fault fault events)
 put front events event fault = grind (arith, append_assoc)
 
--- the first line that is left says an event
+-- the first line that remains has an event
 pub read_event : (workers : ℕ) (front : List Event) (number : ℕ) (left : List (List ℕ)) (line : List ℕ) (more : List (List ℕ)) (event : Event) (all : Result (List Event) ScriptError) → left ≡ line ∷ more → said_by workers number line ≡ Ok (Some event) → behind front (events_of workers number left) ≡ all → behind (front ++ event ∷ []) (events_of workers (number + 1) more) ≡ all
 read_event workers front number left line more event all cut said before = grind (arith, put)

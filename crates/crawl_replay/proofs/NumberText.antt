@@ -1,4 +1,4 @@
--- Which texts are numbers, and the position of the first space of a text.
+-- The texts that are numbers, and the position of the first space of a text.
 use Rattle.crawl_replay.proofs.Prelude.{◌≡◌, ℕ, suc, ◌+◌, ◌<◌, ◌≤◌, Bool, true, false, not, ◌&&◌, List, [], ◌∷◌, ◌++◌, length, take, drop, get_or, nat_lt, nat_eq, Option, Some, None, refl, sym, ap, ◌∙◌, arith, lt-ltb, ltb-true, append_assoc, Result, rules, if◌then◌else◌, Decides, All, list_all, position_or_len, prefix_len, before_first, after_first, le-leb, leb-true, and_parts, Decides-by_and, nat_tests, is_space, at_space, is_number, number_of, IsNumber, common_steps, OkIff, result_ok}
 use Rattle.std.specs.Char.{is_ascii_digit}
 use Rattle.std.specs.Str.Parse.{digits_value, ParsesUnsigned}
@@ -44,7 +44,7 @@ first_space : (a b : List ℕ) → list_all no_space a ≡ true → prefix_len n
 first_space [] b e = refl
 first_space (x ∷ xs) b e = grind (arith, nat_tests, first_space xs, and_parts)
 
--- what is before a position and what is after it, if it is one
+-- the texts before and after a position, if there is one
 abbrev cut_at : ℕ → List ℕ → Option (List ℕ × List ℕ)
 cut_at n text = if nat_lt n (length text) then Some (take n text, drop (n + 1) text) else None
 
@@ -74,11 +74,11 @@ by_test true text p within e =
     let same : (before_first is_space text, after_first is_space text) ≡ p = cc in
     split ∙ ap (λ b. before_first is_space text ++ b ∷ after_first is_space text) space ∙ ap (λ (q : List ℕ × List ℕ). q.0 ++ 32 ∷ q.1) same
 
--- what a space parts
+-- the parts of a text that a space separates
 pub joined-at_space : (text : List ℕ) (p : List ℕ × List ℕ) → at_space text ≡ Some p → text ≡ p.0 ++ 32 ∷ p.1
 joined-at_space text p e = by_test (nat_lt (position_or_len is_space text) (length text)) text p refl e
 
--- What parsing a text that has only digits gives
+-- The result of parsing a text that has only digits
 
 own : IsNumeralModel (λ text. list_all is_ascii_digit text ≡ true) (digits_value 10)
 own = numerals_by_value _ (search rules)

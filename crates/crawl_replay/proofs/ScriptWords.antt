@@ -1,9 +1,9 @@
--- What the lines of a script say together is what the format says of them.
+-- The content of all lines of a script together is the one that the format defines.
 use Rattle.crawl_replay.proofs.Prelude.{◌≡◌, ℕ, ◌+◌, List, [], ◌∷◌, Option, Some, None, Result, Ok, Err, refl, sym, ap, subst, ◌∙◌, inl, inr, arith, Event, Said, script_in, header_in, with_header, with_events, unless_fault, least_fault, events_in, said_from, said_by, HeaderSays, LinesSay, IsScript, Header, ScriptError}
 use Rattle.crawl_replay.proofs.HeaderWords.{header_means}
 use Rattle.crawl_replay.proofs.LineWords.{line_means}
 
--- ---- what is said is in the line
+-- ---- if the lines have a content, their bytes are those of the content
 
 by_line : (workers number : ℕ) (line : List ℕ) (more : List (List ℕ)) (said : Result (Option Event) ScriptError) → said_by workers number line ≡ said → least_fault (said ∷ said_from workers (number + 1) more) ≡ None → (least_fault (said_from workers (number + 1) more) ≡ None → LinesSay workers (number + 1) more (events_in (said_from workers (number + 1) more))) → LinesSay workers number (line ∷ more) (events_in (said ∷ said_from workers (number + 1) more))
 by_line workers number line more (Err fault) is none later = absurd (cc)
@@ -41,7 +41,7 @@ by_header line more script (Ok header) is e =
 script_stands : (lines : List (List ℕ)) (script : Said) → script_in lines ≡ Ok script → IsScript lines script
 script_stands lines script e = grind (arith, by_header)
 
--- ---- what is in the line is said
+-- ---- if the bytes are those of a content, the lines have it
 
 record AllSaid (workers number : ℕ) (more : List (List ℕ)) (events : List Event) : Type 0 where
   pub none : least_fault (said_from workers number more) ≡ None
