@@ -1,4 +1,4 @@
--- From the ends of a run's workers to what the run left: its workers, its results, and what it lost.
+-- From the ends of a run's workers to what the run left: its workers, its results and its losses.
 use Rattle.crawl_run.proofs.Prelude.{◌≡◌, ◌⊎◌, ℕ, ◌+◌, ◌-◌, ◌^◌, ◌<◌, ◌≤◌, min, Bool, true, false, List, [], ◌∷◌, ◌++◌, map, refl, sym, ap, subst, ◌∙◌, arith, Option, Some, Result, Ok, Err, IfOk, cases_lt, All-nil, All-cons, All-head, All-tail, All, flat_map, here, NothingLost, first_fault, link_missing, not_fetched, seed_missing, IsCulprit, is_at_fault, no_memory, Culprit, CertError, entries_in, entries_of, Accounts, AccountId, AllFresh, WorkerId, SenderId, Entry, GateId, Page, PageResult, AllLogged, all_losses, both_losses, AllRan, Losses, WorkerEnd, losses_at, of_cert, IsLost, losses_with, IsWithoutLoss, Share, all_closed, all_found, take_all}
 use Rattle.crawl_certificate.specs.declared.error.CertError.TheVariants as cert
 use Rattle.crawl_frontier.specs.declared.error.OfferError.TheVariants as refused
@@ -91,7 +91,7 @@ pub culprit_lost : (allowed : List ℕ → Bool) (seeds : List (List ℕ)) (entr
     → IsCulprit (first_fault allowed seeds entries results) (is_at_fault allowed seeds entries results) culprit ⊎ (culprit ≡ no_memory) → IsLost (of_cert culprit.cause) (losses_at culprit.url losses)
 culprit_lost allowed seeds entries results culprit losses lacks told = grind (arith, cause_lost)
 
--- ---- a seed that is refused
+-- ---- a seed whose offer failed
 
 -- ---- what a run returns
 

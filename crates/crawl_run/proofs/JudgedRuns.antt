@@ -1,4 +1,4 @@
--- What the seeds and the workers of a run lost together, and the run that lost it.
+-- The losses of the seeds and the workers of a run together, and the run in which they occurred.
 use Rattle.crawl_run.proofs.Prelude.{◌≡◌, ◌⊎◌, ℕ, ◌+◌, ◌-◌, ◌^◌, min, Bool, List, [], ◌∷◌, ◌++◌, map, append-nil, append_assoc, refl, sym, ap, subst, ◌∙◌, arith, Result, Ok, Err, IfOk, map-append, take_all, sum_by_push, sum_by, entries_in, entries_of, first_fault, IsCulprit, is_at_fault, no_memory, Culprit, Accounts, AllFresh, SeederId, SenderId, WorkerId, Entry, OfferError, Offer, GateId, Page, PageResult, both_losses, no_losses, with_refusal, AllRan, Losses, WorkerEnd, losses_at, of_cert, AllOffered, AreOffered, CountsLosses, IsRun, IsSeedOffer, losses_with, lost_seed, together, all_closed, all_found, all_lost}
 use Rattle.crawl_certificate.specs.declared.error.CertError.TheVariants as cert
 use Rattle.crawl_queues.specs.Books.{fresh_book}
@@ -26,7 +26,7 @@ abbrev with_offer : Answer → Losses → Losses
 with_offer (Ok offer) losses = losses
 with_offer (Err refusal) losses = with_refusal refusal losses
 
--- a count that no seed is added to
+-- a count to which no seed adds
 unchanged : (kind : Losses → ℕ) (all : List Losses) → min (sum_by kind all) (2 ^ 64 - 1) ≡ min (min (sum_by kind all) (2 ^ 64 - 1) + 0) (2 ^ 64 - 1)
 unchanged kind all = grind arith
 
@@ -39,7 +39,7 @@ both_offer all offer = grind (arith, none_lost, unchanged)
 offer_more : (offers : List Answer) (offer : Answer) → with_offer offer (together (map lost_seed offers)) ≡ together (map lost_seed (offers ++ offer ∷ []))
 offer_more offers offer = both_offer (map lost_seed offers) offer ∙ together_more (map lost_seed offers) (lost_seed offer) ∙ ap together (sym (map-append lost_seed offers (offer ∷ [])))
 
--- the seeder has offered one seed more
+-- the seeder has offered one more seed
 all_more : (workers : ℕ) (allowed : List ℕ → Bool) (s m s' : SeederId) (seeds : List (List ℕ)) (answers : List Answer) (seed : List ℕ) (answer : Answer)
     → AllOffered workers allowed s m seeds answers → IsSeedOffer workers allowed m s' seed answer → AllOffered workers allowed s s' (seeds ++ seed ∷ []) (answers ++ answer ∷ [])
 all_more workers allowed s m s' [] [] seed answer each own = (s', subst (λ (x : SeederId). IsSeedOffer workers allowed x s' seed answer) each own, refl)
@@ -50,7 +50,7 @@ pub offered_more : (workers : ℕ) (allowed : List ℕ → Bool) (s m s' : Seede
     → AreOffered workers allowed s m seeds before → AreOffered workers allowed s s' (seeds ++ seed ∷ []) after
 offered_more workers allowed s m s' seeds seed answer before after own counted so_far = grind (arith, all_more, offer_more)
 
--- ---- the ends of a run, whatever names its frontier
+-- ---- the ends of a run, whatever identifies its frontier
 
 abbrev renamed : {K : _} → WorkerEnd K → WorkerEnd (Unit {0})
 renamed e = record { closed = e.closed; results = e.results; lost = e.lost; losses = e.losses }

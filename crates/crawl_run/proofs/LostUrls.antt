@@ -1,4 +1,4 @@
--- In a run a URL that was taken has a result, or is counted as lost.
+-- In a run, each URL that was taken has a result, or is counted as lost.
 use Rattle.crawl_run.proofs.Prelude.{◌≡◌, inl, inr, ℕ, zero, suc, ◌+◌, ◌-◌, ◌^◌, ◌<◌, ◌≤◌, min, Bool, List, [], ◌∷◌, ◌++◌, length, map, slice_get, length-append, zero-add, refl, sym, ap, subst, ◌∙◌, arith, Result, sum_by-append, sum_by-cons, slice_get_cases, slice_get_within, sum_by, entries_in, At, HasWorkers, AllFresh, WorkerId, Entry, OfferError, Offer, GateId, Page, PageResult, AllRan, Losses, WorkerEnd, IsRun, lost_seed, all_closed, all_found, all_lost}
 use Rattle.crawl_frontier.specs.declared.error.OfferError.TheVariants as refused
 
@@ -14,7 +14,7 @@ failed_of losses = losses.failed
 abbrev unkept_of : Losses → ℕ
 unkept_of losses = losses.unkept
 
--- the lists that the workers took, in their order
+-- the lists that the workers took, in order
 abbrev all_taken : List End → List (List Entry)
 all_taken [] = []
 all_taken (e ∷ es) = e.closed.taken ∷ all_taken es

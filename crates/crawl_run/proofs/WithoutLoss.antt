@@ -1,4 +1,4 @@
--- What a run without loss leaves for the certificate.
+-- What a run without losses leaves for the certificate.
 use Rattle.crawl_run.proofs.Prelude.{◌≡◌, inl, inr, ℕ, ◌<◌, Bool, true, List, [], ◌∷◌, map, slice_get, Some, IsTrue, refl, sym, ap, subst, ◌∙◌, or_cases, All-weaker, All-contains, All-contains_itself, Contains-append_left, Contains-append_right, Contains-append_cases, slice_get_within, All, Contains, flat_map, no_element, here, there, first_or_later, same_text, place_among, among_at, entries_in, entry_urls, result_urls, AllowedAreIn, NothingLost, Accounts, WorkerId, SenderId, Entry, Page, PageResult, HasLine, AllLogged, Share, IsWithoutLoss}
 use Rattle.std.specs.Str.{bytes_eq}
 use Rattle.crawl_certificate.proofs.Certified.{in_map, from_map}
@@ -8,7 +8,7 @@ use Rattle.crawl_pages.specs.Pages.{links_of}
 use Rattle.crawl_workers.proofs.Lossless.{all_taken_found, logged_accepted, links_accepted}
 use Rattle.crawl_workers.specs.Lossless.{IsAccepted, AllAccepted}
 
--- ---- elements of lists in a row
+-- ---- elements of concatenated lists
 
 in_flat : {X Y : Type 0} (f : X → List Y) (xs : List X) (x : X) (y : Y) → Contains xs x → Contains (f x) y → Contains (flat_map f xs) y
 in_flat f [] x y has own = absurd (no_element x has)
@@ -32,7 +32,7 @@ of_each P xs each = All-weaker (Contains xs) P each xs (All-contains_itself xs)
 same_list : (a b : List Entry) → Some a ≡ Some b → a ≡ b
 same_list a b same = cc
 
--- ---- what is accepted is an entry
+-- ---- an accepted URL is that of an entry
 
 has_listed : (es : List Entry) (url : List ℕ) → has_url url es ≡ true → (e : Entry) × Contains es e × (e.url ≡ url)
 has_listed [] url has = absurd (cc)
