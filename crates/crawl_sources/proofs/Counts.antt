@@ -1,4 +1,4 @@
--- What is kept of a URL while the links to it are counted.
+-- What is counted for a URL while the links to it are counted.
 use Rattle.crawl_sources.proofs.Prelude.{◌≡◌, ℕ, zero, suc, ◌+◌, ◌<◌, Bool, true, false, ◌||◌, cond, List, [], ◌∷◌, ◌++◌, length, take, get_or, Option, Some, None, refl, sym, ap, ◌∙◌, arith, append-nil, length-append, le-ltb, if◌then◌else◌, cases_Bool, cond-true, cond-false, lt-ltb, map_more, map-append, filter-append, list_any, option_map, bytes_eq, PageResult, pointed, Count, none_counted, counted, Tallies, count_of, IsTally}
 use Rattle.std.proofs.lemmas.Grind.{common_steps}
 use Rattle.std.proofs.Math.Bool.{or-false}
@@ -17,7 +17,7 @@ use Rattle.crawl_pages.proofs.StableSort.{filter-kept, filter-dropped}
 pub any_push : {X : Type 0} (p : X → Bool) (xs : List X) (x : X) → list_any p (xs ++ x ∷ []) ≡ (list_any p xs || p x)
 any_push p xs x = list_any-append p xs (x ∷ []) ∙ ap (λ b. list_any p xs || b) (or-false (p x))
 
--- the elements up to an index, and the one at it
+-- the elements up to an index, and the one at that index
 pub pointed_more : {X : Type 0} (xs : List (Bor X)) (i : ℕ) (x : Bor X) → i < length xs → x ≡ get_or xs i x → pointed (take (i + 1) xs) ≡ pointed (take i xs) ++ x.now ∷ []
 pointed_more xs i x below at = grind (arith, common_steps, map_more)
 
@@ -33,13 +33,13 @@ pub length_pointed : {X : Type 0} (xs : List (Bor X)) → length (pointed xs) �
 length_pointed [] = refl
 length_pointed (x ∷ xs) = ap suc (length_pointed xs)
 
--- the URL of a result that is referred to is among theirs
+-- the URL of a result to which a reference points is among theirs
 pub url_among : (all : List (Bor PageResult)) (i : ℕ) (x : Bor PageResult) → i < length all → x ≡ get_or all i x → list_any (λ (r : PageResult). bytes_eq r.url x.now.url) (pointed all) ≡ true
 url_among all i x below is =
     let p : PageResult → Bool = λ r. bytes_eq r.url x.now.url in
     list_any_at p (pointed all) i x.now (omega (arith, length_pointed all, below)) (ap p (read_pointed all i x is) ∙ (bytes_eq-Decides x.now.url x.now.url).1 refl)
 
--- ---- what a set has after one URL was put in
+-- ---- a set after one URL was inserted
 
 pub set_put : (old new : sets.BTreeSet (List ℕ)) (key : List ℕ) → sets.Updates by_hash old new key true → (url : List ℕ) → sets.contains by_hash new url ≡ (sets.contains by_hash old url || bytes_eq key url)
 set_put old new key updates url =
@@ -48,7 +48,7 @@ set_put old new key updates url =
     or_by_cond : (b o : Bool) → cond b true o ≡ (o || b)
     or_by_cond b o = grind arith
 
--- ---- what a map has after one count was written
+-- ---- a map after one count was written
 
 put_at : (old new : Tallies) (key : List ℕ) (w : Option Count) → tree.Updates by_hash old new key w → (url : List ℕ) → count_of new url ≡ cond (bytes_eq key url) w (count_of old url)
 put_at old new key w updates url = updates.0 url ∙ ap (λ b. cond b w (count_of old url)) (sym (by_hash_ties key url))

@@ -13,7 +13,7 @@ sound_lines earlier (line ∷ more) n numbered is =
     let both = none_first (line_fault n line) (first_fault (n + 1) more) is in
     (ap (λ k. line_fault k line) (sym numbered) ∙ both.0, sound_lines (earlier ++ line ∷ []) more (n + 1) (omega (arith, length-append earlier (line ∷ []))) both.1)
 
--- the error is that of the first of these lines that has one, after the earlier lines
+-- the error of the first of these lines that has one, if they come after the earlier lines
 record IsLeastBehind (earlier lines : List (List ℕ)) (fault : SeedsFault) : Type 0 where
   front : List (List ℕ)
   line : List ℕ

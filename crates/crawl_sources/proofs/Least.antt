@@ -1,4 +1,4 @@
--- The least of texts.
+-- The least of several texts.
 use Rattle.crawl_sources.proofs.Prelude.{◌≡◌, ◌⊎◌, inl, inr, ℕ, zero, suc, Bool, true, false, List, [], ◌∷◌, fold, Some, None, refl, sym, ap, ◌∙◌, subst, suc-le-suc, zero-le, cases_Bool, cond-true, cond-false, All-nil, All-cons, All, Contains}
 use Rattle.std.proofs.lemmas.Cmp.{nat_list_cmp_total}
 use Rattle.std.proofs.lemmas.List.Sorted.{ranks_by}
@@ -22,7 +22,7 @@ here x xs = (zero, suc-le-suc zero-le, refl)
 there : (y x : List ℕ) (xs : List (List ℕ)) → Contains xs x → Contains (y ∷ xs) x
 there y x xs has = (suc has.0, suc-le-suc has.1, has.2)
 
--- what the least from a text on is
+-- the least of a text and of those after it
 record IsLeastFrom (a : List ℕ) (texts : List (List ℕ)) (text : List ℕ) : Type 0 where
   first : less a text ≡ false
   among : (a ≡ text) ⊎ Contains texts text
