@@ -1,4 +1,4 @@
--- From the closing on.
+-- A history from the step that closes the gate.
 use Rattle.crawl_tie.proofs.Prelude.{◌≡◌, ℕ, ◌<◌, true, List, [], ◌∷◌, ◌++◌, length, map, Option, None, refl, sym, ap, ◌∙◌, subst, arith, append_assoc, filter_map, list_all, append-nil, filter_map-append, Event, Close, Reply, one_if, State, start, count_of, Run, Sound, gate_effect, closed_means_finished, bits, closed_at, IsMaximum, GateId, Entry, Message, plain, Whole, IsFirst, Act, Atomic, History, events_of, events, ShowsWhole, pushed_to, popped_from, fetched_at, accepted, delivered, fetches_done, is_closing, is_quiet, Delivers, Finished}
 use Rattle.crawl_core.specs.declared.reply.Reply.TheVariants as told
 use Rattle.crawl_core.specs.History as cores
@@ -21,7 +21,7 @@ last_step : (w v : Whole) (xs : List Act) (act : Act) → History w (xs ++ act �
 last_step w v [] act h = (w, refl, subst (λ z. Atomic w act z) (sym h.2) h.1)
 last_step w v (x ∷ xs) act h = let rest = last_step h.0 v xs act h.2 in (rest.0, (h.0, h.1, rest.1), rest.2)
 
--- what the two closing acts have in common
+-- what the two closing steps have in common
 pub record Ends (act : Act) : Type 0 where
   pub event : events_of act ≡ (Close, told.Closed) ∷ []
   pub pushed : (q : ℕ) → pushed_to q act ≡ None
@@ -35,7 +35,7 @@ ends act e = grind arith
 unchanged : {B : Type 0} (h : Act → Option B) (xs : List Act) (act : Act) → h act ≡ None → filter_map h (xs ++ act ∷ []) ≡ filter_map h xs
 unchanged h xs act none = filter_map-append h xs (act ∷ []) ∙ rw none (append-nil (filter_map h xs))
 
--- ## Nothing after it
+-- ## After the closing step
 
 abbrev AllQuiet : List (Event × Reply) → Type 0
 AllQuiet es = list_all (λ x. cores.is_quiet x.1) es ≡ true
@@ -54,7 +54,7 @@ quiet_history gate workers w v s (act ∷ acts) ties closed h =
     let q = quiet_run s n.state (events_of act) ties.sound closed n.run in
     rw (act_quiet act q.0) (quiet_history gate workers h.0 v n.state acts n.ties q.1 h.2)
 
--- ## At it
+-- ## At the closing step
 
 pub at_closing : (gate : GateId) (workers : ℕ) (first mid last : Whole) (before later : List Act) (act : Act) → IsMaximum gate.max_pending → IsFirst gate workers first → History first (before ++ act ∷ []) mid → is_closing act ≡ true → History mid later last → Finished workers before mid × (list_all is_quiet later ≡ true)
 at_closing gate workers first mid last before later act fits is_first h is_closing_act rest =

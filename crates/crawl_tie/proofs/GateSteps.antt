@@ -1,4 +1,4 @@
--- What each step of the gate does to its word, and which steps a gate makes.
+-- What each step of the gate does to its word, and which steps a gate can make.
 use Rattle.crawl_tie.proofs.Prelude.{◌≡◌, ℕ, ◌+◌, ◌<◌, ◌^◌, [], ◌∷◌, ap, arith, View, Word, bits, open_at, closed_at, Moment, GateInvariant, SeatSteps, GateStep, Splitting, Looking, Entering, Losing, Leaving, Closing, NotClosing, GateMoves, splitting_one, looking_one, entering_one, losing_one, leaving_one, closing_one, not_closing_one}
 use Rattle.crawl_gate.specs.History.GateStep.{splits, looks, enters, loses, leaves, closes, not_closes}
 
@@ -33,7 +33,7 @@ not_closed gate gate' x s = goes gate gate' _ _ x x s.steps (not_closes s.view x
 pub split_off : (gate gate' : Moment) → Splitting gate gate' → GateStep gate gate'
 split_off gate gate' s = splits s.view s.seat s.at s.next
 
--- who enters is below the maximum
+-- if a step enters, the count was below the maximum
 pub entered_below : (max : ℕ) (gate gate' : Moment) (n : ℕ) → GateInvariant max gate → Entering gate gate' n → n < max
 entered_below max gate gate' n k s = let same = (k.seats s.steps.seat s.view s.steps.view).0 in let room = s.room in omega (arith, same, room)
 

@@ -7,7 +7,7 @@ use Rattle.crawl_core.specs.Messages as core
 use Rattle.crawl_queues.specs.History.{Moment, SubqueueStep, ViewAt, settles, divides, pushes, pops, finds_nothing, takes_in, first_moment}
 use Rattle.crawl_queues.proofs.Passing as pass
 
--- ## The machine's messages for a list sent
+-- ## The machine's messages for a list that was sent
 
 pub same_urls : (es : List Entry) (url : List ℕ) → core.has_url (map message_of es) url ≡ has_url url es
 same_urls [] url = refl
@@ -125,7 +125,7 @@ made_has gate workers q =
     let t = (k.passes 2 (popping h [] 0) refl).takes refl in
     record { kept = k; here = sym s.2; sent_is = sym s.1; taken_is = sym t.1 }
 
--- ## Shown by the machine's
+-- ## What the machine's subqueues represent
 
 -- the list of a pass that pushes is the list sent
 pub sent_is : (gate : GateId) (workers q : ℕ) (s : Subqueue) (l : Lane) → (shows : ShowsLane gate workers q s l) → (p : ℕ) (h : Home) (sent : List Entry) → ViewAt l.moment p (pushing h sent) → sent ≡ shows.sent
@@ -141,7 +141,7 @@ pushed_lane gate workers q s l m e shows p = record {
   busy = shows.busy;
 }
 
--- what was sent is what was taken, and then what waits
+-- what was sent is what was taken, followed by what waits
 pub lists_split : (gate : GateId) (workers q : ℕ) (m : Moment) (sent taken : List Entry) → HasLists gate workers q m sent taken → sent ≡ taken ++ map plain m.items
 lists_split gate workers q m sent taken has = sym has.sent_is ∙ (has.kept.split ∙ ap (λ es. es ++ map plain m.items) has.taken_is)
 
@@ -159,7 +159,7 @@ popped_lane gate workers q s l m e shows p = record {
   busy = refl;
 }
 
--- the lists are as they were
+-- the lists do not change
 pub same_lane : (gate : GateId) (workers q : ℕ) (s : Subqueue) (l : Lane) (m : Moment) → (shows : ShowsLane gate workers q s l) → HasLists gate workers q m shows.sent shows.taken → ShowsLane gate workers q s (record { moment = m; fetching = l.fetching })
 same_lane gate workers q s l m shows has = record { sent = shows.sent; taken = shows.taken; lists = has; accepts = shows.accepts; takes = shows.takes; busy = shows.busy }
 
@@ -174,14 +174,14 @@ AllLanes gate workers queues lanes = (q : ℕ) (l : Lane) → slice_get lanes q 
 pub lanes_set : (gate : GateId) (workers : ℕ) (queues : List Subqueue) (lanes : List Lane) → AllLanes gate workers queues lanes → (q : ℕ) (s s' : Subqueue) (l l' : Lane) → slice_get queues q ≡ Some s → slice_get lanes q ≡ Some l → ShowsLane gate workers q s' l' → AllLanes gate workers (slice_set queues q s') (slice_set lanes q l')
 lanes_set gate workers queues lanes all q s s' l l' at_s at_l shows there x = grind (arith, set_cases, eqb-true, get_set_same, some_is, get_set_other)
 
--- how many the machine has accepted: those taken, and those that the queue holds
+-- the number that the machine accepted is that of those taken and those in the queue
 lens_of : (gate : GateId) (workers q : ℕ) (s : Subqueue) (l : Lane) → ShowsLane gate workers q s l → length s.accepted ≡ s.taken + length l.moment.items
 lens_of gate workers q s l shows = grind (arith, lists_split, length-append, length-map)
 
--- if the queue holds nothing, the machine has taken all
+-- if the queue is empty, the machine has taken all
 pub none_waits : (gate : GateId) (workers q : ℕ) (s : Subqueue) (l : Lane) → ShowsLane gate workers q s l → l.moment.items ≡ [] → slice_get s.accepted s.taken ≡ None
 none_waits gate workers q s l shows none = grind (arith, common_steps, lens_of, slice_get_past)
 
--- if the machine has taken all, the queue holds nothing
+-- if the machine has taken all, the queue is empty
 pub all_taken : (gate : GateId) (workers q : ℕ) (s : Subqueue) (l : Lane) → ShowsLane gate workers q s l → s.taken ≡ length s.accepted → l.moment.items ≡ []
 all_taken gate workers q s l shows all_are = let lens = lens_of gate workers q s l shows in nil_from_length l.moment.items (omega (arith, lens, all_are))

@@ -1,9 +1,10 @@
--- What a history says of each subqueue: its list sent is what was accepted, its list taken what was delivered.
+-- What a history states about each subqueue: the list that was sent is what was accepted, and the list that was taken what was
+-- delivered.
 use Rattle.crawl_tie.proofs.Prelude.{◌≡◌, ℕ, zero, suc, ◌+◌, ◌<◌, ◌≤◌, true, false, List, [], ◌∷◌, ◌++◌, length, map, nat_eq, slice_get, slice_set, Option, Some, None, refl, sym, ap, ◌∙◌, subst, arith, eqb-true, append_assoc, filter_map, ne_eqb, option_to_list, append-nil, length_push, filter_map-append, slice_get_within, one_if, set_cases, length-slice_set, some_is, GateId, Entry, KeepsRule, plain, accepted_lists, Lane, Whole, IsFirst, Act, Splits, Looks, LooksAway, Enters, Loses, LeavesOffer, LeavesSeen, LeavesFetch, LeavesSeeds, Closes, NotClosesClosed, NotClosesPending, Pushes, Pops, PopsNone, FindsNothing, TakesIn, Pushing, Popping, Atomic, History, HasLists, pushed_to, popped_from, fetched_at, accepted, delivered, fetches_done, Delivers, eqb_same}
 use Rattle.crawl_queues.specs.History.{Moment}
 use Rattle.crawl_tie.proofs.Lanes.{pushed_has, popped_has, counted_has, taken_in_has, made_has, lists_split}
 
--- of one subqueue after these steps; finished: how many fetches of it
+-- one subqueue after these steps; `finished` is the number of its fetches that are done
 pub record LaneHas (gate : GateId) (workers q : ℕ) (l : Lane) (sent taken : List Entry) (finished : ℕ) : Type 0 where
   pub has : HasLists gate workers q l.moment sent taken
   pub fetches : length taken ≡ finished + one_if l.fetching
@@ -11,7 +12,7 @@ pub record LaneHas (gate : GateId) (workers q : ℕ) (l : Lane) (sent taken : Li
 abbrev pub AllHave : GateId → ℕ → List Lane → List Act → Type 0
 AllHave gate workers lanes acts = (q : ℕ) (l : Lane) → slice_get lanes q ≡ Some l → LaneHas gate workers q l (accepted q acts) (delivered q acts) (fetches_done q acts)
 
--- one more step is one more at the end of the three lists
+-- one more step may add to each of the three lists, at the end
 abbrev Grown : GateId → ℕ → ℕ → Lane → List Act → Act → Type 0
 Grown gate workers q l acts act =
     LaneHas gate workers q l (accepted q acts ++ option_to_list (pushed_to q act)) (delivered q acts ++ option_to_list (popped_from q act)) (length (filter_map (fetched_at q) acts ++ option_to_list (fetched_at q act)))
@@ -28,14 +29,14 @@ grown gate workers q l acts act g =
     (subst (λ es. LaneHas gate workers q l (accepted q acts ++ option_to_list (pushed_to q act)) es (fetches_done q (acts ++ act ∷ []))) (pushed_more (popped_from q) acts act)
     (subst (λ ns. LaneHas gate workers q l (accepted q acts ++ option_to_list (pushed_to q act)) (delivered q acts ++ option_to_list (popped_from q act)) (length ns)) (pushed_more (fetched_at q) acts act) g))
 
--- nothing of this subqueue
+-- the step does nothing to this subqueue
 still : (gate : GateId) (workers q : ℕ) (l : Lane) (acts : List Act) → LaneHas gate workers q l (accepted q acts) (delivered q acts) (fetches_done q acts) → LaneHas gate workers q l (accepted q acts ++ []) (delivered q acts ++ []) (length (filter_map (fetched_at q) acts ++ []))
 still gate workers q l acts h = rw (append-nil (accepted q acts), append-nil (delivered q acts), append-nil (filter_map (fetched_at q) acts)) h
 
 abbrev AllGrown : GateId → ℕ → List Lane → List Act → Act → Type 0
 AllGrown gate workers lanes acts act = (q : ℕ) (l : Lane) → slice_get lanes q ≡ Some l → Grown gate workers q l acts act
 
--- how the subqueue of a step, and another one, is after it
+-- the subqueue of a step, and another subqueue, after the step
 at_queue : (gate : GateId) (workers : ℕ) (lanes : List Lane) (acts : List Act) (act : Act) (q : ℕ) (l l' : Lane) → AllHave gate workers lanes acts → slice_get lanes q ≡ Some l → ((there : ℕ) → nat_eq q there ≡ true → Grown gate workers q l' acts act) → ((there : ℕ) (x : Lane) → nat_eq q there ≡ false → LaneHas gate workers there x (accepted there acts) (delivered there acts) (fetches_done there acts) → Grown gate workers there x acts act) → AllGrown gate workers (slice_set lanes q l') acts act
 at_queue gate workers lanes acts act q l l' all at mine others there x =
     set_cases (λ o. o ≡ Some x → Grown gate workers there x acts act) lanes q there l l' at
@@ -78,7 +79,7 @@ fetched_grown gate workers lanes acts q n l all at busy =
     (λ there here. rw (eqb_same q, append-nil (accepted q acts), append-nil (delivered q acts)) (record { has = old.has; fetches = fetches }))
     (λ there x apart h. rw apart (still gate workers there x acts h))
 
--- what a history has said so far
+-- what a history has stated so far
 pub record Reached (gate : GateId) (workers : ℕ) (w : Whole) (acts : List Act) : Type 0 where
   pub len : length w.lanes ≡ workers
   pub all : AllHave gate workers w.lanes acts
@@ -94,7 +95,7 @@ reach gate workers w v lanes acts act r is len more outside = record {
       (sym (pushed_more (pushed_to q) acts act) ∙ rw (o.0, before.0) refl, sym (pushed_more (popped_from q) acts act) ∙ rw (o.1, before.1) refl);
 }
 
--- a step that leaves the subqueues
+-- a step that does not change the subqueues
 leaves : (gate : GateId) (workers : ℕ) (w v : Whole) (acts : List Act) (act : Act) → Reached gate workers w acts → v.lanes ≡ w.lanes → ((q : ℕ) → (pushed_to q act ≡ None) × (popped_from q act ≡ None) × (fetched_at q act ≡ None)) → Reached gate workers v (acts ++ act ∷ [])
 leaves gate workers w v acts act r is quiet =
     reach gate workers w v w.lanes acts act r is refl (λ q l at. let n = quiet q in rw (n.0, n.1, n.2) (still gate workers q l acts (r.all q l at))) (λ q beyond. ((quiet q).0, (quiet q).1))

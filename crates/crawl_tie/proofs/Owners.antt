@@ -1,4 +1,4 @@
--- Whose each unit is, over each kind of step.
+-- The owner of each unit, for each kind of step.
 use Rattle.crawl_tie.proofs.Prelude.{◌≡◌, ◌≢◌, ◌⊎◌, inl, inr, ⊎_elim, ℕ, zero, suc, ◌+◌, Bool, true, false, List, [], ◌∷◌, ◌++◌, drop, map, set, slice_get, slice_set, Option, Some, None, refl, sym, ap, ◌∙◌, subst, arith, true≢false, list_any, nat_cmp, is_at, insert_key, remove_key, nat_cmp_total, tied_itself, map-append, map-set, some, some-injective, some-ne-none, get_elem?, list_any-insert_key, some_is, View, Word, open_at, view_entering, view_leaving, Moment, SeatSteps, GateId, Message, Lane, Whole, Owner, Seeds, Offer, Sent, IsFirst, Splitting, Entering, Leaving, IsOwner, IsUnitOf, is_offering, with_gate, after_splitting, after_entering, after_leaving, after_fetching, after_seeding, after_pushing, UnitsAreOwned, is_owned, or_left, or_right, get_or_from_slice_get}
 use Rattle.crawl_core.proofs.GateHistory.{others_stay}
 use Rattle.crawl_queues.specs.History as subqueues
@@ -14,7 +14,7 @@ view_set f [] i v w at same = refl
 view_set f (x ∷ xs) zero v w at same = ap (λ b. b ∷ map f xs) (same ∙ ap f (sym (some-injective x v at)))
 view_set f (x ∷ xs) (suc i) v w at same = ap (λ bs. f x ∷ bs) (view_set f xs i v w at same)
 
--- what an index has after a write
+-- the element at an index after a write
 after_set : (xs : List (Option Owner)) (i j : ℕ) (y z : Option Owner) → slice_get (slice_set xs i y) j ≡ Some z → ((i ≡ j) × (y ≡ z)) ⊎ ((i ≢ j) × (slice_get xs j ≡ Some z))
 after_set [] i j y z at = absurd (cc (at))
 after_set (x ∷ xs) zero zero y z at = let here : Some y ≡ Some z = at in inl (refl, some_is here)
@@ -28,7 +28,7 @@ in_front [] (suc j) owner at = absurd (cc (at))
 in_front (x ∷ xs) zero owner at = at
 in_front (x ∷ xs) (suc j) owner at = in_front xs j owner at
 
--- if a write has left an owner: it was one before, at another index; or it was written
+-- an owner after a write was one before, at another index; or it was written
 abbrev Before : Whole → ℕ → ℕ → Option Owner → Owner → Type 0
 Before w seat other written owner = ((seat ≡ other) × (written ≡ Some owner)) ⊎ ((seat ≢ other) × IsOwner w other owner)
 
@@ -45,14 +45,14 @@ offers_same s other e = grind arith
 
 -- ## Each kind of step
 
--- a step that changes no unit
+-- a step that changes no owner
 pub still_owned : (w : Whole) (gate : Moment) (v u : View) (x y : Word) → UnitsAreOwned w → SeatSteps w.gate gate v u x y → u.holds_unit ≡ v.holds_unit → UnitsAreOwned (with_gate w gate)
 still_owned w gate v u x y o s same = grind (arith, view_set)
 
 pub split_owned : (w : Whole) (gate : Moment) → UnitsAreOwned w → Splitting w.gate gate → UnitsAreOwned (after_splitting w gate)
 split_owned w gate o s = grind (arith, map-append, in_front)
 
--- the views and the owners after a step of a seat that holds a unit from now on, or no more
+-- the views and the owners after a step of a seat, which then holds a unit, or no longer holds one
 held_after : (w : Whole) (gate : Moment) (v u : View) (x y : Word) (owner : Option Owner) → UnitsAreOwned w → (s : SeatSteps w.gate gate v u x y) → u.holds_unit ≡ is_owned owner
     → map (λ (z : View). z.holds_unit) gate.views ≡ map is_owned (slice_set w.owners s.seat owner)
 held_after w gate v u x y owner o s same = grind (arith, set_both)
@@ -75,7 +75,7 @@ entered_owned w gate n s o e free = record {
     new : (j k : ℕ) → s ≡ k → IsOwner w j (Offer k) → ⊥
     new j k same at = true≢false (sym (o.offers j k at) ∙ (ap (λ i. is_offering w i) (sym same) ∙ free))
 
--- the seat of the sender's offer has another owner, or none, that is no offer and not the seeds
+-- the seat of the sender's offer has another owner, or none; the owner is neither an offer nor the seeds
 pub record Given (w : Whole) (seat s : ℕ) (owner : Option Owner) : Type 0 where
   pub was : IsOwner w seat (Offer s)
   pub no_seeds : owner ≡ Some Seeds → ⊥
@@ -84,7 +84,7 @@ pub record Given (w : Whole) (seat s : ℕ) (owner : Option Owner) : Type 0 wher
 abbrev pub given : Whole → ℕ → ℕ → Option Owner → Whole
 given w seat s owner = record w { owners = slice_set w.owners seat owner; offering = remove_key (is_at (nat_cmp s)) w.offering }
 
--- the ids and the seats, once the unit of an offer is not its any more
+-- the ids and the seats, after the unit of an offer no longer belongs to it
 given_owned : (w : Whole) (seat s : ℕ) (owner : Option Owner) (gate : Moment) → UnitsAreOwned w → Given w seat s owner → map (λ (z : View). z.holds_unit) gate.views ≡ map is_owned (slice_set w.owners seat owner)
     → UnitsAreOwned (record (given w seat s owner) { gate = gate })
 given_owned w seat s owner gate o g held = grind (arith, others_stay, after_set)

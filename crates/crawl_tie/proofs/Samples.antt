@@ -8,7 +8,7 @@ use Rattle.crawl_gate.specs.GateInvariant as gates
 use Rattle.crawl_queues.specs.History as subqueues
 use Rattle.crawl_tie.specs.Sample.{offers_made, turns_made}
 
--- ## Which of two subqueues
+-- ## One of two subqueues
 
 abbrev queue : Bool → ℕ
 queue true = 0

@@ -1,4 +1,4 @@
--- What the machine's invariants say of what a state shows, and the rows of the table.
+-- What the machine's invariants mean for what a state represents, and the rows of the table.
 use Rattle.crawl_tie.proofs.Prelude.{◌≡◌, ℕ, zero, suc, ◌<◌, Bool, true, false, ◌||◌, List, [], ◌∷◌, ◌++◌, take, drop, map, slice_get, Some, refl, sym, ap, ◌∙◌, subst, arith, true≢false, append_assoc, bytes_eq, option_map, append-nil, Subqueue, State, start, count_of, Run, slice_get-map, slice_get-take, Event, Reply, run_sound, gate_invariant, Moment, GateInvariant, IsMaximum, GateId, Entry, Message, MayFollow, KeepsRule, has_url, Whole, Act, Atomic, UnitsAreOwned, events_of, message_of, ShowsWhole, ShowsGate, ShowsLists, IsPlaced, CountsUnits, ListsKeep}
 use Rattle.std.proofs.lemmas.Slice.Eq.{bytes_eq-Decides}
 use Rattle.crawl_core.specs.Messages.{count_from}
@@ -10,7 +10,7 @@ use Rattle.crawl_tie.proofs.Closing.{run_same}
 pub counts_units : (state : State) (gate : Moment) → machine.GateInvariant state.gate (count_of state) → ShowsGate state gate → CountsUnits state.gate.max gate
 counts_units state gate inv shows = grind arith
 
--- the k-th entry may follow those before it
+-- the k-th entry may come after those before it
 rule_from : (n q : ℕ) (before es : List Entry) → ((k : ℕ) (e : Entry) → slice_get es k ≡ Some e → MayFollow n q (before ++ take k es) e) → KeepsRule n q before es
 rule_from n q before [] f = tt
 rule_from n q before (x ∷ xs) f = (

@@ -1,4 +1,4 @@
--- Each atomic step is the machine's events, and so each history is shown by a run.
+-- Each atomic step is the machine's events, so the machine has a run for each history.
 use Rattle.crawl_tie.proofs.Prelude.{◌≡◌, ◌≢◌, ◌⊎◌, inl, inr, ⊎_elim, ℕ, suc, ◌+◌, ◌<◌, ◌≤◌, ◌^◌, Bool, true, false, not, ◌&&◌, ◌||◌, List, [], ◌∷◌, ◌++◌, length, map, replicate, nat_eq, slice_get, slice_set, Option, Some, refl, sym, ap, ◌∙◌, subst, arith, ne_eqb, eq-eqb, list_any, nat_cmp, is_at, insert_entry, insert_key, remove_key, length_push, get_or-replicate, length-replicate, slice_get_within, slice_get-get_or, nat_cmp_total, tied_itself, Event, Look, Enter, Admit, Back, EndSeeds, Take, Done, Close, Reply, one_if, Subqueue, empty_subqueue, unfinished, after_accepting, after_taking, after_finishing, State, start, count_of, word_of, unfinished_in, Run, sum_at, lookup-insert_entry, Sound, GateEffect, gate_effect, length-insert_key, holder_counts, run_sound, start_count, eqb_same, Word, bits, open_at, closed_at, GateInvariant, IsMaximum, GateId, Entry, Lane, Whole, IsFirst, Seeds, Offer, Act, Splits, Looks, LooksAway, Enters, Loses, LeavesOffer, LeavesSeen, LeavesFetch, LeavesSeeds, Closes, NotClosesClosed, NotClosesPending, Pushes, Pops, PopsNone, FindsNothing, TakesIn, Looking, Entering, Losing, Leaving, Pushing, Popping, StandsIn, IsUnitOf, IsOwner, core_word, is_offering, loaded_by, with_gate, with_lane, after_splitting, after_looking, after_entering, after_leaving, after_fetching, after_seeding, after_pushing, Atomic, History, events_of, events, message_of, HasLists, ShowsLane, ShowsWhole, UnitsAreOwned, or_left, or_right}
 use Rattle.std.specs.Bool.{if◌then◌else◌}
 use Rattle.std.specs.Map.{lookup, remove_entry}
@@ -18,7 +18,7 @@ use Rattle.crawl_tie.proofs.Owners.{still_owned, split_owned, entered_owned, lef
 use Rattle.crawl_tie.proofs.Lanes.{lanes_set, pushed_lane, popped_lane, same_lane, counted_has, taken_in_has, made_lane, oldest_is, sent_is, same_urls, same_counts, none_waits}
 use Rattle.crawl_queues.proofs.LogLines.{set_same}
 
--- what also holds, so that the next step can be shown
+-- what must also be true, so that the next step can be represented
 pub record Ties (gate : GateId) (workers : ℕ) (w : Whole) (s : State) : Type 0 where
   pub shows : ShowsWhole gate workers s w
   pub owned : UnitsAreOwned w
@@ -28,7 +28,7 @@ pub record Ties (gate : GateId) (workers : ℕ) (w : Whole) (s : State) : Type 0
   pub max : w.max ≡ gate.max_pending
   pub fits : IsMaximum gate.max_pending
 
--- a run of these events to a state that shows this moment
+-- a run of these events to a state that represents this moment
 pub record Next (gate : GateId) (workers : ℕ) (w : Whole) (s : State) (es : List (Event × Reply)) : Type 0 where
   pub state : State
   pub run : Run s es state
@@ -41,7 +41,7 @@ run_append a b c (x ∷ xs) ys first second = (first.0, first.1, run_append firs
 then_next : (gate : GateId) (workers : ℕ) (w w' : Whole) (s : State) (xs ys : List (Event × Reply)) → (n : Next gate workers w s xs) → Next gate workers w' n.state ys → Next gate workers w' s (xs ++ ys)
 then_next gate workers w w' s xs ys n m = record { state = m.state; run = run_append s n.state m.state xs ys n.run m.run; ties = m.ties }
 
--- what a step leaves in the parts: the owners of the units, and the gate's invariant
+-- what is true after a step: the owners of the units, and the gate's invariant
 pub record Parts (gate : GateId) (w w' : Whole) : Type 0 where
   pub owned : UnitsAreOwned w'
   pub keeps : GateInvariant gate.max_pending w'.gate
@@ -131,7 +131,7 @@ enters gate workers w s ties id n m step free loaded =
     one gate workers w w' s ties (Enter id) (record { reply = told.Entered (suc n); state = granted s id })
     (enter_turn s id n free' (is_loaded gate workers w s shows id (Some (core_word (open_at n))) loaded) count opened below) parts (assumption (go.to ∙ (ap (λ k. bits (k, false) ∷ []) more ∙ ap (λ b. bits (count_of (granted s id), b) ∷ []) (sym opened)), ap (λ ids. insert_key nat_cmp ids id) shows.holders, ap (λ r. remove_entry (is_at (nat_cmp id)) r) shows.remembered))
 
--- the same state and another moment of the gate, whose word is the same
+-- the same state represents another moment of the gate, whose word is the same
 shows_still : (gate : GateId) (workers : ℕ) (w : Whole) (s : State) → ShowsWhole gate workers s w → (m : gates.Moment) → m.words ≡ bits (count_of s, s.gate.closed) ∷ [] → ShowsWhole gate workers s (with_gate w m)
 shows_still gate workers w s shows m word = grind arith
 
@@ -212,7 +212,7 @@ pops_none gate workers w s ties q l at empty idle =
     let turned : turn s (Take q) ≡ record { reply = told.Empty; state = s } = rw (there.1, idle', nothing) refl in
     one gate workers w w s ties (Take q) (record { reply = told.Empty; state = s }) turned (record { owned = ties.owned; keeps = ties.keeps; max = refl }) ties.shows
 
--- a step of a subqueue that leaves its lists as they were
+-- a step of a subqueue that does not change its lists
 keeps_lists : (gate : GateId) (workers : ℕ) (w : Whole) (s : State) → Ties gate workers w s → (q : ℕ) (l : Lane) (m : subqueues.Moment) → slice_get w.lanes q ≡ Some l
     → ((sent taken : List Entry) → HasLists gate workers q l.moment sent taken → HasLists gate workers q m sent taken) → Next gate workers (with_lane w q (record { moment = m; fetching = l.fetching })) s []
 keeps_lists gate workers w s ties q l m at same =

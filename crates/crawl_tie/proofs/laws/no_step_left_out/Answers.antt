@@ -6,18 +6,18 @@ use Rattle.crawl_queues.specs.History.{Moment, SubqueueStep, settles, divides, p
 use Rattle.crawl_queues.proofs.Passing as pass
 use Rattle.crawl_tie.proofs.laws.no_step_left_out.Goals as goal
 
--- a pass that may not do both
+-- a pass that does not have both rights
 abbrev One : ℕ → PassView → Type 0
 One j v = v.sends ≡ true → v.takes ≡ true → ⊥
 
--- a pass that may do both, or none
+-- a pass that has both rights, or none
 abbrev Both : ℕ → PassView → Type 0
 Both j v = v.sends ≡ v.takes
 
 made_divided : (gate : GateId) (workers q : ℕ) → IsDivided (made (home gate workers q))
 made_divided gate workers q = grind arith
 
--- a pass of a divided subqueue gets another view with at most one right
+-- a pass of a divided subqueue gets another view, with at most one right
 still_one : (m : Moment) (pass_id : ℕ) (w : PassView) → IsDivided m → One pass_id w → (j : ℕ) (u : PassView) → get_elem? (set m.views pass_id w) j ≡ some u → One j u
 still_one m pass_id w one mine = pass.all_set One m.views pass_id w mine (λ j u apart at. one j u at)
 
@@ -53,7 +53,7 @@ lane_moves m next k one (takes_in p h sent other h' taken n apart at there is) =
         by_rights false true no_s no_t = absurd (no_t refl)
         by_rights false false no_s no_t = refl
 
--- after a pass was taken in, no pass may do one of the two by itself
+-- after two passes became one, no pass has only one of the two rights
 only_making : (m next : Moment) → IsUnited m → (step : SubqueueStep m next) → IsMaking step ≡ true
 only_making m next both step = grind arith
 
