@@ -8,12 +8,12 @@ use Rattle.link_offers.specs.declared.losses.Losses.{Losses}
 use Rattle.link_offers.proofs.Logs.{grows_same, grows_on, all_logged_on}
 use Rattle.crawl_workers.proofs.Outcomes.{goes_on_same}
 
--- ## How many are lost
+-- ## The number of losses
 
 sum_with : (why : Loss) (losses : Losses) (lost : ℕ) → lost ≡ sum_of losses → min (lost + 1) (2 ^ 64 - 1) ≡ sum_of (with_loss why losses)
 sum_with why losses lost is = grind arith
 
--- the sum of losses is their number, up to the greatest count
+-- the sum of losses is their number, up to the greatest u64
 number_of : (why : List Loss) (losses : Losses) (lost : ℕ) → lost ≡ sum_of losses → min (lost + length why) (2 ^ 64 - 1) ≡ sum_of (with_losses why losses)
 number_of [] losses lost is = is_least (2 ^ 64 - 1) (all_losses losses) lost is
   where
@@ -25,7 +25,7 @@ number_of (why ∷ more) losses lost is =
 
 -- ## URLs and links
 
--- the loss of a URL that was taken, and not of a link
+-- a loss of a URL that was taken, and not of a link
 abbrev is_of_url : Loss → Bool
 is_of_url loss.Failed = true
 is_of_url loss.Unkept = true
@@ -53,7 +53,7 @@ answers_no_url : (answers : List Answer) → count_by is_of_url (flat_map losses
 answers_no_url [] = refl
 answers_no_url (a ∷ answers) = grind (arith, counted_append, answers_no_url answers)
 
--- a URL has a result, or is lost as one
+-- a URL has a result, or counts as lost
 one_of_each : (meaning : List ℕ → Page) (url : List ℕ) (outcome : Outcome) → count_by is_of_url (losses_at outcome) + length (found_at meaning url outcome) ≡ 1
 one_of_each meaning url failed = refl
 one_of_each meaning url (unkept answers) =
@@ -74,7 +74,7 @@ turns_counted : (meaning : List ℕ → Page) (turns : List Turn) → count_by i
 turns_counted meaning [] = refl
 turns_counted meaning (t ∷ ts) = grind (arith, one_of_each, counted_append, length-append, turns_counted meaning ts)
 
--- what became of a URL, as `Ran` says it
+-- the outcome for a URL, as `Ran` states it
 abbrev page_at : (List ℕ → Page) → List ℕ → Outcome → Option Page
 page_at meaning url (kept answers) = Some (meaning url)
 page_at meaning url _ = None

@@ -1,4 +1,4 @@
--- What a run without loss leaves.
+-- What a run without losses leaves.
 use Rattle.crawl_workers.proofs.Prelude.{◌≡◌, inl, ℕ, zero, suc, ◌<◌, ◌≤◌, Bool, true, List, [], ◌∷◌, length, map, None, Some, refl, sym, ap, subst, arith, slice_get, slice_index_or, IsTrue, All, All-weaker, Page, PageResult, links_of, Entry, has_url, entries_of, BookId, sent_to, WorkerId, SenderId, has_at, get_within, line_of, HasLine, AllLogged, Fate, results_of, taken_in, Ran}
 use Rattle.std.proofs.Math.Nat.{mod-lt}
 use Rattle.std.proofs.lemmas.Bool.{or_left, or_right}
@@ -41,7 +41,7 @@ find_line (l ∷ ls) p (suc k) less is =
     let rest = find_line ls p k (omega (arith, less)) is in
     record { index = suc rest.index; line = rest.line; at = rest.at; is = rest.is }
 
--- an accepted line of the log is in what was sent to its subqueue
+-- an accepted line of the log is in the list of what was sent to its subqueue
 sent_has : (q : ℕ) (log : List Logged) (k : ℕ) (e : Entry) → At log k (Accepted e q) → has_url e.url (sent_to q log) ≡ true
 sent_has q [] k e at = absurd (cc (at))
 sent_has q (Seen u p ∷ ls) zero e at = absurd (cc (at))
@@ -49,7 +49,7 @@ sent_has q (Seen u p ∷ ls) (suc k) e at = sent_has q ls k e at
 sent_has q (Accepted x p ∷ ls) zero e at = grind (arith, or_left, bytes_eq-Decides)
 sent_has q (Accepted x p ∷ ls) (suc k) e at = grind (arith, or_right, sent_has q ls k e at)
 
--- the entries of one sender are among all
+-- the entries of one sender are among all entries
 entries_has : (id : ℕ) (url : List ℕ) (es : List Entry) → has_url url (entries_of id es) ≡ true → has_url url es ≡ true
 entries_has id url [] is = is
 entries_has id url (e ∷ es) is = grind (arith, or_right, entries_has id url es)
@@ -64,7 +64,7 @@ line_stands q es b url k (Accepted e p) agrees at is =
     let sent : has_url e.url (entries_of b.id es) ≡ true = subst (λ (xs : List Entry). has_url e.url xs ≡ true) agrees.sent (sent_has q b.log k e here) in
     subst (λ (u : List ℕ). has_url u es ≡ true) same (entries_has b.id e.url es sent)
 
--- a URL with a line in the log of a part is accepted
+-- a URL with a line in the log of a worker or sender was accepted
 pub logged_accepted : (workers : ℕ) (closed : List WorkerId) (senders : List SenderId) (queues : List (List Entry)) → 0 < workers → Accounts workers closed senders queues
     → (b : BookId) → IsPart closed senders b → (url : List ℕ) → HasLine workers b.log url → IsAccepted workers queues url
 logged_accepted workers closed senders queues some account b part url has =

@@ -1,4 +1,4 @@
--- What becomes of URLs that a worker takes.
+-- The outcomes for the URLs that a worker takes.
 use Rattle.crawl_workers.proofs.Prelude.{◌≡◌, inl, inr, ℕ, ◌+◌, Bool, List, [], ◌∷◌, ◌++◌, refl, sym, ap, subst, ◌∙◌, arith, flat_map, append-nil, append_assoc, map-append, flat_map_more, Page, PageResult, links_of, Entry, MayFollow, KeepsRule, BookId, WorkerId, BusyId, worker, Loss, LinkOffers, no_losses, AllAnswered, LinkAnswers, losses_by, with_losses, Outcome, GoesOn, Turn, IsTurn, AreTurns, losses_at, found_at, entries_in, unkept, kept, Progress, UrlOutcome, HasRoomOrNot, SameBusy, busy_same, answers_same, losses_on}
 use Rattle.link_offers.specs.declared.losses.Loss.TheVariants as loss
 use Rattle.crawl_workers.specs.declared.output.WorkerOutput.{WorkerOutput}
@@ -9,7 +9,7 @@ use Rattle.link_offers.specs.Recent.{Knows}
 pub goes_on_same : (workers : ℕ) (allowed : List ℕ → Bool) (b b' : BusyId) (links : List (List ℕ)) (outcome : Outcome) → GoesOn workers allowed b b' links outcome → SameBusy b b'
 goes_on_same workers allowed b b' links outcome goes = grind (arith, busy_same, answers_same)
 
--- its page was fetched, its links were offered, and its result kept or lost
+-- its page was fetched, its links were offered, and its result was kept or lost
 pub page_fetched : (workers : ℕ) (allowed : List ℕ → Bool) (meaning : List ℕ → Page) (b b' : BusyId) (page : Page) (old mid new : WorkerOutput)
     → page ≡ meaning b.message.entry.url → mid.results.items ≡ old.results.items → LinkAnswers workers allowed (links_of page) b b' old.offers mid.offers
     → HasRoomOrNot b.message.entry.url page mid new → UrlOutcome workers allowed meaning b b' old new

@@ -25,7 +25,7 @@ all_ran_push {K} workers allowed meaning starts ends w e all ran = grind (arith,
 pub all_ran_length : {K : _} (workers : ℕ) (allowed : List ℕ → Bool) (meaning : List ℕ → Page) (starts : List WorkerId) (ends : List (WorkerEnd K)) → AllRan workers allowed meaning starts ends → length ends ≡ length starts
 all_ran_length {K} workers allowed meaning starts ends all = grind (arith, all_zip_length)
 
--- an element is changed
+-- an element is overwritten
 all_zip_set : {A B : Type 0} (R : A → B → Type 0) (xs : List A) (ys : List B) (i : ℕ) (y y' : B) → slice_get ys i ≡ Some y → ((x : A) → R x y → R x y') → AllZip R xs ys → AllZip R xs (slice_set ys i y')
 all_zip_set R [] [] i y y' at goes all = absurd (cc)
 all_zip_set R [] (b ∷ ys) i y y' at goes all = absurd all
@@ -61,7 +61,7 @@ pub all_go_set : {K : _} (workers : ℕ) (allowed : List ℕ → Bool) (meaning 
     → ((start : WorkerId) → RunnerRan workers allowed meaning start r → RunnerRan workers allowed meaning start r') → AllGo workers allowed meaning starts rs → AllGo workers allowed meaning starts (slice_set rs i r')
 all_go_set {K} workers allowed meaning starts rs i r r' at goes all = all_zip_set (λ (w : WorkerId) (x : Runner K). RunnerRan workers allowed meaning w x) starts rs i r r' at goes all
 
--- the first i + 1 have ended, if those before i had, and now the one at i has
+-- the first i + 1 have ended, if those before i had, and the one at i has ended now
 pub ended_set : {K : _} (rs : List (Runner K)) (i : ℕ) (r' : Runner K) → IsEnded r' → EndedBelow i rs → EndedBelow (i + 1) (slice_set rs i r')
 ended_set {K} [] i r' is below k y less at = absurd (cc)
 ended_set {K} (r ∷ rs) zero r' is below zero y less at = let same : r' ≡ y = cc in subst (λ (z : Runner K). IsEnded z) same is
@@ -75,7 +75,7 @@ go_ran {K} workers allowed meaning starts rs i r at all = all_zip_at (λ (w : Wo
 pub all_go_push : {K : _} (workers : ℕ) (allowed : List ℕ → Bool) (meaning : List ℕ → Page) (starts : List WorkerId) (rs : List (Runner K)) (w : WorkerId) (r : Runner K) → AllGo workers allowed meaning starts rs → RunnerRan workers allowed meaning w r → AllGo workers allowed meaning (starts ++ w ∷ []) (rs ++ r ∷ [])
 all_go_push {K} workers allowed meaning starts rs w r all ran = all_zip_push (λ (v : WorkerId) (x : Runner K). RunnerRan workers allowed meaning v x) starts rs w r all ran
 
--- what `ends_of` owes of the rest, and of the whole
+-- what `ends_of` must return for the rest, and for the whole
 pub ended_front : {K : _} (rs : List (Runner K)) (r : Runner K) (all : List (Runner K)) → all ≡ rs ++ r ∷ [] → EndedBelow (length all) all → EndedBelow (length rs) rs
 ended_front {K} rs r all is ended k x less at = ended k x (rw (is, length_push) (omega (arith, less))) (rw is (get_before rs r x k at))
 
