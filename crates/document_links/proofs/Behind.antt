@@ -1,4 +1,4 @@
--- The point after a text that is made longer.
+-- The point after a text to which bytes are added.
 use Rattle.document_links.proofs.Prelude.{◌≡◌, ◌∙◌, ℕ, ◌+◌, ◌-◌, ◌<◌, ◌≤◌, Bool, true, false, ◌||◌, List, [], ◌∷◌, ◌++◌, length, take, drop, get_or, cond, refl, sym, ap, arith, length-drop, length-take, cases_Bool, cond-true, cond-false, or_parts, list_any-append, list_any_none, list_any_at, sum_by-append, sum_by-cons, count_by-le-length, NoneAfter, Nowhere, Passes, is_byte, begins_character, is_lf, last_line, point_of}
 use Rattle.std.specs.List.{list_any, count_by}
 use Rattle.std.proofs.lemmas.List.{drop-take, take-take, take_more, take-append-drop, get_or-drop, get_or_default}
@@ -16,7 +16,7 @@ count-append p xs ys = sum_by-append (λ x. cond (p x) 1 0) xs ys
 or_false : (x y : Bool) → y ≡ false → (x || y) ≡ x
 or_false x y e = grind arith
 
--- what comes before a line feed does not count
+-- the bytes before a line feed do not count
 feed_behind : (xs ys : List ℕ) → list_any is_lf ys ≡ true → last_line (xs ++ ys) ≡ last_line ys
 feed_behind [] ys has = refl
 feed_behind (x ∷ xs) ys has = grind (arith, cond-true, list_any-append, feed_behind xs ys has)
@@ -30,13 +30,13 @@ no_feed_behind : (xs ys : List ℕ) → list_any is_lf ys ≡ false → last_lin
 no_feed_behind [] ys none = whole_line ys none
 no_feed_behind (x ∷ xs) ys none = grind (arith, list_any-append, or_false, cases_Bool, cond-true, cond-false, no_feed_behind xs ys none)
 
--- ---- how far a point goes
+-- ---- points do not overflow
 
 line_within : (xs : List ℕ) → length (last_line xs) ≤ length xs
 line_within [] = omega arith
 line_within (x ∷ xs) = grind (arith, cases_Bool, cond-true, cond-false, line_within xs)
 
--- a column and the bytes from there on are few
+-- a column, together with the bytes from there on, is small
 pub column_below : (text : List ℕ) (known index : ℕ) → known ≤ index → index ≤ length text →
     count_by begins_character (last_line (take known text)) + length (take (index - known) (drop known text)) ≤ length text
 column_below text known index order within = grind (arith, count_by-le-length, line_within, length-take, length-drop)
@@ -48,7 +48,7 @@ taken_on text known index order =
     ∙ ap (λ xs. xs ++ drop known (take index text)) (sym (take-take known index text order))
     ∙ take-append-drop known (take index text)
 
--- ---- what a search for the last line feed says
+-- ---- what a search for the last line feed finds
 
 not_byte : (ys : List ℕ) (k : ℕ) (d : ℕ) → k < length ys → (Passes (is_byte 10) ys k → ⊥) → is_lf (get_or ys k d) ≡ false
 not_byte ys k d within fails = grind (arith, cases_Bool, get_or_default)

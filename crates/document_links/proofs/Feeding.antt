@@ -14,12 +14,12 @@ use Rattle.document_links.proofs.Runs.{collects_run, fails}
 
 -- ---- links
 
--- to the next `<`
+-- the bytes up to the next `<`
 to_markup : (kind : Option FeedKind) (bytes : List ℕ) → links_from kind 0 bytes ≡ links_from kind 0 (behind (λ b. not (b == 60)) bytes)
 to_markup kind [] = refl
 to_markup kind (b ∷ bytes) = grind (arith, cases_Bool, cond-true, cond-false, to_markup kind bytes)
 
--- bytes that are passed over
+-- bytes that are skipped
 past : (kind : Option FeedKind) (n : ℕ) (bytes : List ℕ) → links_from kind n bytes ≡ links_from kind 0 (drop n bytes)
 past kind zero bytes = refl
 past kind (suc n) [] = refl
@@ -36,7 +36,7 @@ next_markup kind bytes opened here =
     to_markup kind bytes ∙ ap (links_from kind 0) (sym here)
     ∙ ap (λ more. markup_links (markup_of opened) next (take (markup_len opened) opened) (drop (markup_len opened) opened) ++ more) (past next (markup_len opened) opened)
 
--- the same with other names for what is read
+-- likewise, with other names for what is read
 pub found_links : (kind next : Option FeedKind) (bytes opened tag more : List ℕ) (markup : Markup) (len : ℕ) → 60 ∷ opened ≡ behind (λ b. not (b == 60)) bytes →
     markup ≡ markup_of opened → len ≡ markup_len opened → tag ≡ take len opened → more ≡ drop len opened → next ≡ kind_after markup kind tag →
     links_from kind 0 bytes ≡ markup_links markup next tag more ++ links_from next 0 more
@@ -71,7 +71,7 @@ text_at_other bytes run opened before here other =
     run_text [] bytes ∙ ap (λ r. text_from 0 r (behind (λ b. not (b == 60)) bytes)) (sym before) ∙ ap (text_from 0 run) (sym here)
     ∙ ap (λ l. unescaped run ++ l) (cond-false (is_tag (markup_of opened)) [] _ other ∙ ap (λ l. section_of (markup_of opened) opened ++ l) (text_past (markup_len opened) opened))
 
--- the same with other names for what is read
+-- likewise, with other names for what is read
 pub more_text : (bytes run opened section more : List ℕ) (markup : Markup) (len : ℕ) → run ≡ front (λ b. not (b == 60)) bytes → 60 ∷ opened ≡ behind (λ b. not (b == 60)) bytes →
     markup ≡ markup_of opened → is_tag markup ≡ false → section ≡ section_of markup opened → len ≡ markup_len opened → more ≡ drop len opened →
     text_of bytes ≡ (unescaped run ++ section) ++ text_of more

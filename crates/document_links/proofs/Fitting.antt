@@ -12,7 +12,7 @@ fits_inner front text fit = grind (arith, and_parts)
 pub fits_utf8 : (front : ℕ) (text : List ℕ) → fits front text ≡ true → is_utf8 text ≡ true
 fits_utf8 front text fit = grind (arith, and_parts)
 
--- Texts of visible bytes of ASCII fit in a line, and a URL parser drops nothing of them
+-- texts of visible ASCII bytes fit in a line, and a URL parser drops nothing of them
 
 below : (b : ℕ) → is_plain b ≡ true → b < 128
 below b plain = grind (arith, nat_tests)
@@ -57,6 +57,6 @@ pub plain_clean : (text : List ℕ) → list_all is_plain text ≡ true → clea
 unfolding trim_c0_control_and_space strip_tabs_and_new_lines
 plain_clean text plain = ap (filter (λ b. not (is_tab_or_new_line b))) (plain_trim text plain) ∙ all_kept text plain
 
--- such a text is written as it is
+-- such a text is written unchanged
 pub plain_written : (text : List ℕ) → list_all is_plain text ≡ true → fits 5 text ≡ true → written text ≡ text
 plain_written text plain fit = ap shortened (plain_clean text plain) ∙ cond-true (fits 5 text) text (without_fragment text) fit

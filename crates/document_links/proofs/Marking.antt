@@ -21,7 +21,7 @@ match_within word bytes (Some k) found = omega (arith, found.0.high)
 pub since_run : (name since bytes : List ℕ) → value_from name 0 since bytes ≡ value_from name 0 (since ++ front is_unquoted bytes) (behind is_unquoted bytes)
 since_run name = collects_run (value_from name 0) is_unquoted (λ since b bytes inside. fails (is_quote b) _ _ inside)
 
--- and those inside are passed over
+-- and those inside are skipped
 pub quote_run : (name : List ℕ) (quote : ℕ) (bytes : List ℕ) → is_quote quote ≡ true → value_from name quote [] bytes ≡ value_from name 0 [] (drop 1 (behind (λ b. not (b == quote)) bytes))
 quote_run name quote [] is = refl
 quote_run name quote (b ∷ bytes) is = grind (arith, cases_Bool, cond-true, cond-false, quote_run name quote bytes is)

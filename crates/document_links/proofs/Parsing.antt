@@ -1,4 +1,4 @@
--- A URL parser reads a text as it reads what it does not drop of the text.
+-- A URL parser reads a text as it reads the text without what it drops.
 use Rattle.document_links.proofs.Prelude.{◌≡◌, ◌∙◌, ◌⊎◌, ℕ, ◌-◌, Bool, true, false, not, List, [], ◌∷◌, ◌++◌, length, take, drop, filter, refl, sym, ap, subst, arith, length-drop, reverse, take-append-drop, Option, prefix_len, cases_Bool, cond-true, cond-false, length-reverse, reverse-append, reverse-reverse, take_all, StopsAt, StopsAt-drop-prefix_len, fits, clean, written}
 use Rattle.std.proofs.lemmas.Grind.{common_steps}
 use Rattle.url.specs.Input.{is_c0_control_or_space, is_tab_or_new_line, trim_end, trim_start, strip_tabs_and_new_lines, trim_c0_control_and_space}
@@ -19,7 +19,7 @@ stays b = not (is_tab_or_new_line b)
 abbrev EndsVisibly : List ℕ → Type 0
 EndsVisibly l = (l ≡ []) ⊎ ((front : List ℕ) × (last : ℕ) × ((l ≡ front ++ last ∷ []) × (trims last ≡ false)))
 
--- ---- what is trimmed begins and ends visibly
+-- ---- a trimmed text begins and ends with a visible byte
 
 stops_take : (xs : List ℕ) (n : ℕ) → StopsAt trims xs → StopsAt trims (take n xs)
 stops_take xs n stops = grind arith
@@ -39,7 +39,7 @@ ends_trimmed xs =
     ap (λ m. take m xs) long ∙ ap (take (length (reverse rest))) whole ∙ take-append_seam (reverse rest) (reverse (take n r)) in
     subst EndsVisibly (sym is) (ends_reversed rest (StopsAt-drop-prefix_len trims r))
 
--- ---- of such a text nothing is trimmed
+-- ---- nothing is trimmed from such a text
 
 start_stays : (xs : List ℕ) → StopsAt trims xs → trim_start trims xs ≡ xs
 start_stays xs stops = grind (arith, cond-false)
@@ -47,7 +47,7 @@ start_stays xs stops = grind (arith, cond-false)
 end_stays : (l : List ℕ) → EndsVisibly l → trim_end trims l ≡ l
 end_stays l ends = grind (arith, suffix_len-stops, take_all)
 
--- ---- and of what has no tabs and line breaks neither
+-- ---- nor from such a text without its tabs and line breaks
 
 stops_filter : (xs : List ℕ) → StopsAt trims xs → StopsAt trims (filter stays xs)
 stops_filter xs stops = grind (arith, cond-true)

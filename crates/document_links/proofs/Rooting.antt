@@ -1,4 +1,4 @@
--- A path of a rooted link, a segment at a time.
+-- A path of a rooted link, one segment at a time.
 use Rattle.document_links.proofs.Prelude.{◌≡◌, ◌∙◌, ℕ, ◌+◌, ◌-◌, ◌<◌, ◌≤◌, ◌==◌, true, false, cond, List, [], ◌∷◌, ◌++◌, take, drop, prefix_len, refl, sym, ap, subst, arith, length, length-drop, cond-true, cond-false, true≢false, StopsAt, StopsAt-drop-prefix_len, begins_path, below_after, depth_after, in_segment, is_slash, kept}
 use Rattle.std.proofs.Common.{append-nil, append_assoc, one-add}
 use Rattle.std.proofs.lemmas.Bool.{cond_both}
@@ -28,7 +28,7 @@ slash_step depth segment b bytes slash =
     let path : ends_path b ≡ false = grind (arith, nat_tests) in
     cond-false (ends_path b) _ _ path ∙ cond-true (is_slash b) _ _ slash
 
--- and any other byte that is not of a segment ends the path
+-- and any other byte that is not part of a segment ends the path
 end_step : (depth : ℕ) (segment behind : List ℕ) → StopsAt in_segment behind → begins_path behind ≡ false → below_after depth segment behind ≡ kept depth segment [] ++ behind
 end_step depth segment [] stops none = sym (append-nil (kept depth segment []))
 end_step depth segment (b ∷ bytes) stops none =
@@ -43,20 +43,20 @@ pub below_end : (depth : ℕ) (rest : List ℕ) → begins_path (drop (prefix_le
 below_end depth rest none =
     below_cut depth [] rest ∙ end_step depth (take (prefix_len in_segment rest) rest) (drop (prefix_len in_segment rest) rest) (StopsAt-drop-prefix_len in_segment rest) none
 
--- a text that begins with a slash is that and the rest
+-- a text that begins with a slash is the slash and the rest
 pub at_slash : (behind : List ℕ) → begins_path behind ≡ true → (slash : ℕ) × (more : List ℕ) × (behind ≡ slash ∷ more) × (is_slash slash ≡ true)
 at_slash [] begins = absurd (true≢false (sym begins))
 at_slash (b ∷ bytes) begins = (b, bytes, refl, begins)
 
 -- ---- in the loop over the segments
 
--- a text after so far, if the last segment and what follows it are appended
+-- the text so far, after the last segment and the text after it are appended
 pub ended : (depth : ℕ) (rest segment behind old : List ℕ) → segment ≡ take (prefix_len in_segment rest) rest → behind ≡ drop (prefix_len in_segment rest) rest → begins_path behind ≡ false → (old ++ kept depth segment []) ++ behind ≡ old ++ below_after depth [] rest
 ended depth rest segment behind old front back none =
     append_assoc old (kept depth segment []) behind
     ∙ ap (λ l. old ++ l) ((λ i. kept depth (front i) [] ++ back i) ∙ sym (below_end depth rest (subst (λ l. begins_path l ≡ false) back none)))
 
--- and if a segment and its slash are
+-- and after a segment and its slash are appended
 pub stepped : (depth : ℕ) (rest segment behind slash more old : List ℕ) → segment ≡ take (prefix_len in_segment rest) rest → behind ≡ drop (prefix_len in_segment rest) rest → begins_path behind ≡ true → slash ≡ take 1 behind → more ≡ drop 1 behind → (old ++ kept depth segment slash) ++ below_after (depth_after depth segment) [] more ≡ old ++ below_after depth [] rest
 stepped depth rest segment behind slash more old front back begins first others =
     let (b, bytes, is, here) = at_slash behind begins in

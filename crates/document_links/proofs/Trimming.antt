@@ -1,4 +1,4 @@
--- What a URL parser drops of a text, and the text before its fragment.
+-- What a URL parser drops from a text, and the text before its fragment.
 use Rattle.document_links.proofs.Prelude.{◌≡◌, ◌<◌, ℕ, Bool, false, not, List, [], ◌∷◌, length, filter, get_or, Some, None, refl, sym, ap, arith, Option, is_some, list_any, position_or_len, cases_Bool, cond-true, false_from_ne_true, or_parts, get_or_default, list_any_none, list_any_at, IsFirstByte, Passes, is_byte, is_byte3, prefix_len_is, clean}
 use Rattle.url.specs.Input.{is_tab_or_new_line, trim_c0_control_and_space, strip_tabs_and_new_lines}
 use Rattle.crawl_keys.specs.Fragments.{is_number_sign}
@@ -27,7 +27,7 @@ pub none_dropped : (test : ℕ → Bool) (xs : List ℕ) → list_any test xs �
 none_dropped test [] none = refl
 none_dropped test (x ∷ xs) none = grind (arith, or_parts, cond-true, none_dropped test xs)
 
--- without tabs and line breaks only the ends are dropped
+-- without tabs and line breaks, only bytes at the ends are dropped
 pub unbroken_clean : (text : List ℕ) → list_any is_tab_or_new_line (trim_c0_control_and_space text) ≡ false → clean text ≡ trim_c0_control_and_space text
 unfolding strip_tabs_and_new_lines
 unbroken_clean text none = none_dropped is_tab_or_new_line (trim_c0_control_and_space text) none

@@ -1,4 +1,4 @@
--- Bytes are found again by their characters.
+-- Each byte can be found from its character.
 use Rattle.document_links.proofs.Prelude.{◌≡◌, ℕ, ◌<◌, ◌==◌, true, refl, agree_below_at, eqb-true, character_of, likely_byte}
 
 pub likely : (byte : ℕ) → byte < 256 → likely_byte (character_of byte) ≡ byte

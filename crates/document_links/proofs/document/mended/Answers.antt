@@ -4,7 +4,7 @@ use Rattle.document_links.proofs.document.mended.Goals as goal
 pub returns-then-is_utf8-clause-text : goal.returns-then-is_utf8-clause-text
 returns-then-is_utf8-clause-text c = sym (utf8_lossy-IsUtf8 c.args.bytes.now (c.is_utf8.ensures.0 c.if-is_utf8.true))
 
--- what is ASCII is UTF-8 already
+-- ASCII is already UTF-8
 pub returns-clause-ascii : goal.returns-clause-ascii
 returns-clause-ascii c = λ ascii.
     let clash : true ≡ false = sym (c.is_utf8.ensures.1 (IsUtf8-from_ascii c.args.bytes.now ascii)) ∙ c.if-is_utf8.false in
