@@ -1,4 +1,4 @@
--- The runs that the code cuts by a length are `front` and `behind`.
+-- The runs that the code cuts by their length are `front` and `behind`.
 use Rattle.html_links.proofs.Prelude.{common_steps, ◌≡◌, ℕ, zero, suc, ◌+◌, ◌-◌, ◌==◌, ⊎_elim, slice_index, subst, Option, Bool, true, false, not, cond, List, [], ◌∷◌, length, take, drop, get_or, Some, None, refl, ap, sym, ◌∙◌, arith, MatchOption, IfSome, prefix_len, position_or_len, take_while, position_or_len_is, take_rest, drop_all, eqb-true, cases_eq, false_from_ne_true, front, behind, in_name, BeginsName, name_front, name_behind}
 use Rattle.std.proofs.lemmas.List.Folds.{length-prefix_len}
 use Rattle.std.proofs.Math.Seq.{drop-cons}
@@ -33,7 +33,7 @@ tail_front c rest n = let more : 1 + n ≡ suc n = omega arith in rw more refl
 pub tail_behind : (c : ℕ) (rest : List ℕ) (n : ℕ) → drop (1 + n) (c ∷ rest) ≡ drop n rest
 tail_behind c rest n = let more : 1 + n ≡ suc n = omega arith in rw more refl
 
--- a name, by the length of what follows its first byte
+-- a name, by the length of the part after its first byte
 pub name_cut : (bytes : List ℕ) (n : ℕ) → BeginsName bytes → n ≡ length (take_while in_name (take (length bytes - 1) (drop 1 bytes))) →
     (take (1 + n) bytes ≡ name_front bytes) × (drop (1 + n) bytes ≡ name_behind bytes)
 name_cut bytes n begins len = grind (arith, common_steps, take_rest, tail_front, front_cut, tail_behind, behind_cut)
@@ -69,7 +69,7 @@ no_quote quote bytes nowhere =
     position_or_len_is (is_byte quote) bytes (length bytes) 0 (omega arith) (λ k below. false_from_ne_true (is_byte quote (get_or bytes k 0)) (nowhere k (omega arith) below)) (λ inside. absurd (omega (arith, inside))) in
     behind_prefix (λ c. not (c == quote)) bytes ∙ ap (λ n. drop n bytes) none ∙ drop_all (length bytes) bytes (omega arith)
 
--- the first of the positions at which a test holds, by the list of them all
+-- the first of the positions at which a test is true, from the list of all of them
 module _ (test : ℕ → Bool) (hay : List ℕ) where
   none_at : (b : Bool) (i n : ℕ) (later : List ℕ) → test (slice_index hay i) ≡ b → cond b (i ∷ later) later ≡ [] →
       (later ≡ [] → Nowhere (Passes test hay) (i + 1) (i + 1 + n)) → Nowhere (Passes test hay) i (i + suc n)

@@ -1,9 +1,9 @@
--- The comment states: those after `<` do as those without it, and a run without a dash is one jump.
+-- The comment states: those after `<` behave like those without it, and a run without a dash is one jump.
 use Rattle.html_links.proofs.Prelude.{◌≡◌, ℕ, ◌+◌, ◌-◌, ◌<◌, ◌≤◌, ◌==◌, Bool, true, false, not, cond, List, [], ◌∷◌, length, drop, None, Some, refl, ap, sym, ◌∙◌, arith, not-true, behind, Stopped}
 use Rattle.html_links.specs.Comments.{Dash, mark_of, State, Comment, LessThan, LessThanBang, LessThanBangDash, LessThanBangDashDash, EndDash, End, EndBang, Next, step, follow, run}
 use Rattle.html_links.proofs.Jumps.{shorter}
 
--- what the states after `<` do
+-- how the states after `<` behave
 pub record Same (bytes : List ℕ) : Type 0 where
   less : run LessThan bytes ≡ run Comment bytes
   bang : run LessThanBang bytes ≡ run Comment bytes
@@ -50,7 +50,7 @@ no_end bytes dash greater bang = grind arith
 pub no_bang_end : (bytes : List ℕ) → Stopped (λ c. c == 62) bytes → run EndBang bytes ≡ run Comment bytes
 no_bang_end bytes greater = grind arith
 
--- what follows a dash
+-- the bytes after a dash
 
 pub to_end : (bytes dashed more : List ℕ) → bytes ≡ 45 ∷ dashed → more ≡ behind (λ c. c == 45) dashed → run EndDash bytes ≡ run End more
 to_end bytes dashed more is skipped = ap (run EndDash) is ∙ over_dashes dashed ∙ ap (run End) (sym skipped)

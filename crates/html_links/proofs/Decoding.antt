@@ -6,7 +6,7 @@ use Rattle.html_links.proofs.Sources.{front_all}
 abbrev on : List ℕ → Next → List ℕ
 on rest next = follow next (λ s. read s rest)
 
--- bytes of the text before a byte that is read as text
+-- bytes of the text, before a byte that is read as text
 
 abbrev text_if : Bool → Bool → List ℕ → ℕ → Next
 text_if amp nul before c = cond amp (Go before Reference) (cond nul (Go (before ++ encode_utf8 65533) Text) (Go (before ++ c ∷ []) Text))
@@ -29,7 +29,7 @@ plain_text value none = to_mark value ∙ ap (λ more. front is_plain value ++ r
 text_cut : (rest plain marked : List ℕ) → plain ≡ front is_plain rest → marked ≡ behind is_plain rest → read Text rest ≡ plain ++ read Text marked
 text_cut rest plain marked some more = to_mark rest ∙ ap (λ p. p ++ read Text (behind is_plain rest)) (sym some) ∙ ap (λ m. plain ++ read Text m) (sym more)
 
--- what is written, and the text of what is left
+-- the text that was written, and the text of the bytes that remain
 
 pub decoded_all : (old new rest plain marked all : List ℕ) → plain ≡ front is_plain rest → marked ≡ behind is_plain rest → new ≡ old ++ plain → marked ≡ [] →
     old ++ read Text rest ≡ all → new ≡ all
@@ -53,7 +53,7 @@ name_run name (c ∷ rest) =
     name_at (is_ascii_alphanumeric c) name c rest (front is_ascii_alphanumeric rest) (behind is_ascii_alphanumeric rest)
     (cond-true (is_ascii_alphanumeric c) (Go [] (Name (name ++ c ∷ []))) (name_end name c)) (name_run (name ++ c ∷ []) rest)
 
--- and one before anything else
+-- and a reference before anything else
 pub open_name : (name rest : List ℕ) → Stopped is_ascii_alphanumeric rest → Stopped (λ c. c == 59) rest → Stopped (λ c. c == 61) rest →
     read (Name name) rest ≡ name_text name ++ read Text rest
 open_name name rest letter semicolon equals = grind (arith, common_steps, append-nil, cond-false, text_behind)

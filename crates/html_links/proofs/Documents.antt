@@ -33,7 +33,7 @@ led_cut test bytes n some len = grind (arith, common_steps, take_rest, tail_fron
 pub led_shorter : (test : ℕ → Bool) (bytes : List ℕ) → length (led_behind test bytes) ≤ length bytes
 led_shorter test bytes = grind (arith, shorter)
 
--- while it stays in a state, it jumps
+-- if the machine stays in a state over a run, the run is one jump
 
 jump : (at : Context) (here : State) (test : ℕ → Bool) → ((c : ℕ) → test c ≡ true → step at here c ≡ Go here) → (bytes : List ℕ) → read at here bytes ≡ read at here (behind test bytes)
 jump at here test stays [] = refl
@@ -80,7 +80,7 @@ name_jump at ends name [] = refl
 name_jump at ends name (c ∷ rest) =
     name_jump_at at ends (in_tag_name c) name c rest (front in_tag_name rest) (behind in_tag_name rest) (λ e. name_stays at (class_of c) ends name c e) (name_jump at ends (name ++ lower c ∷ []) rest)
 
--- from a state whose step at a letter begins a name
+-- from a state in which a letter begins a name
 pub read_tag_name : (at : Context) (here : State) (ends : Bool) (bytes : List ℕ) (first : ℕ) (more name rest : List ℕ) → bytes ≡ first ∷ more → step at here first ≡ Go (TagName ends (lower first ∷ [])) →
     name ≡ led_front in_tag_name bytes → rest ≡ led_behind in_tag_name bytes → read at here bytes ≡ read at (InTag ends (map lower name) BeforeName []) rest
 read_tag_name at here ends bytes first more name rest is begins front_is behind_is = grind (arith, name_jump, stopped, name_ends)
@@ -91,7 +91,7 @@ letter_opens at first letter = ap (λ k. open_step k first) (sym letter)
 pub letter_opens_end : (at : Context) (first : ℕ) → opening.Letter ≡ opening_of first → step at EndTagOpen first ≡ Go (TagName true (lower first ∷ []))
 letter_opens_end at first letter = ap (λ k. end_open_step k first) (sym letter)
 
--- a `</` before another byte than a letter
+-- a `</` before a byte other than a letter
 
 not_letter : (k : Opening) (c : ℕ) → (k ≡ opening.Letter → ⊥) → end_open_step k c ≡ bogus_step c
 not_letter opening.Bang c other = refl
@@ -172,7 +172,7 @@ cdata_less s [] here e = absurd (cc)
 cdata_less s (c ∷ rest) here e =
     let le : length here ≤ length rest = cdata_less_at (cdata.step s c) rest here (λ s e. cdata_less s rest here e) e in omega arith
 
--- the bytes after it are fewer
+-- there are fewer bytes after it
 
 tag_less_at : (next : tags.Next) (rest : List ℕ) (t : Tag) → ((s : tags.State) (all : List Attribute) → tags.run s all rest ≡ Some t → length t.rest < length rest) →
     tags.follow next (λ s all. tags.run s all rest) rest ≡ Some t → length t.rest < length rest + 1

@@ -1,21 +1,21 @@
--- The machine over runs of bytes: a run on which it stays in a state is one jump.
+-- The machine over runs of bytes: a run over which it stays in a state is one jump.
 use Rattle.html_links.proofs.Prelude.{◌≡◌, ℕ, ◌+◌, ◌<◌, ◌≤◌, ◌==◌, Bool, true, false, not, List, [], ◌∷◌, ◌++◌, length, map, reverse, None, Some, refl, ap, sym, ◌∙◌, arith, append_assoc, append-nil, subst, codes, Class, Space, Slash, Greater, Equals, Quote, Apostrophe, front, behind, is_space, in_name, in_unquoted, begins, BeginsName, name_front, name_behind, Stopped, Leaves}
 use Rattle.html_links.specs.Tags.{Attribute, State, BeforeName, Name, AfterName, BeforeValue, DoubleQuoted, SingleQuoted, Unquoted, AfterQuoted, SelfClosing, Go, step, start, to_name, to_value, lower, class_of, run, follow}
 use Rattle.html_links.specs.declared.tag.Piece.{Piece}
 
--- what each byte of a run does, one after another
+-- the steps at the bytes of a run, one after another
 abbrev written : (ℕ → List Attribute → List Attribute) → List Attribute → List ℕ → List Attribute
 written write all [] = all
 written write all (c ∷ rest) = written write (write c all) rest
 
--- while it stays in s over bytes that pass a test, it jumps over them
+-- if the machine stays in s over bytes that pass a test, they are one jump
 pub jump : (s : State) (test : ℕ → Bool) (write : ℕ → List Attribute → List Attribute) →
     ((c : ℕ) (all : List Attribute) → test c ≡ true → step s (class_of c) c all ≡ Go s (write c all)) →
     (all : List Attribute) (bytes : List ℕ) → run s all bytes ≡ run s (written write all (front test bytes)) (behind test bytes)
 jump s test write stays all [] = refl
 jump s test write stays all (c ∷ rest) = grind (arith, stays, jump s test write stays (write c all) rest)
 
--- two states that do the same at the first byte
+-- two states with the same step at the first byte
 pub same_at : (s t : State) (c : ℕ) (rest : List ℕ) (all : List Attribute) → step s (class_of c) c all ≡ step t (class_of c) c all → run s all (c ∷ rest) ≡ run t all (c ∷ rest)
 same_at s t c rest all same = ap (λ n. follow n (λ state all. run state all rest) rest) same
 
@@ -23,7 +23,7 @@ pub stopped : (test : ℕ → Bool) (bytes : List ℕ) → Stopped test (behind 
 stopped test [] = tt
 stopped test (c ∷ rest) = grind (arith, stopped test rest)
 
--- two states that do the same at each byte that ends a run
+-- two states with the same step at each byte that ends a run
 pub same_stopped : (s t : State) (test : ℕ → Bool) → ((c : ℕ) (all : List Attribute) → test c ≡ false → step s (class_of c) c all ≡ step t (class_of c) c all) →
     (all : List Attribute) (bytes : List ℕ) → Stopped test bytes → run s all bytes ≡ run t all bytes
 same_stopped s t test same all bytes ends = grind (arith, same_at)
@@ -115,7 +115,7 @@ other_apostrophe c other is = grind arith
 at_class : (s : State) (k : Class) (c : ℕ) (rest : List ℕ) (all : List Attribute) → k ≡ class_of c → run s all (c ∷ rest) ≡ follow (step s k c all) (λ state all. run state all rest) rest
 at_class s k c rest all is = ap (λ k. follow (step s k c all) (λ state all. run state all rest) rest) (sym is)
 
--- an attribute without a value: what follows its name is read as before a name
+-- an attribute without a value: the bytes after its name are read as those before a name
 no_value : (k : Class) (c : ℕ) (all : List Attribute) → spaces k ≡ false → (k ≡ Equals → ⊥) → step AfterName k c all ≡ step BeforeName k c all
 no_value k c all space equals = grind arith
 
@@ -236,13 +236,13 @@ pub read_class : (bytes more : List ℕ) → bytes ≡ codes " class=" ++ 34 ∷
     run BeforeName all bytes ≡ run BeforeValue (record { name = map lower (codes "class"); value = [] } ∷ all) (34 ∷ more)
 read_class bytes more is all = ap (run BeforeName all) is
 
--- the same for a `href`
+-- likewise for a `href`
 
 pub read_bare : (bytes zs : List ℕ) → BeginsName bytes → zs ≡ behind is_space (name_behind bytes) → Stopped is_space zs → Stopped (λ c. c == 61) zs → (all : List Attribute) →
     run BeforeName all bytes ≡ run BeforeName (record { name = map lower (name_front bytes); value = [] } ∷ all) zs
 read_bare bytes zs begins skipped space equals all = grind (arith, read_name, read_no_value)
 
--- the pieces at the first byte that is no white space
+-- the pieces that begin at the first byte that is not white space
 
 to_slash : (bytes zs : List ℕ) (first : ℕ) (more : List ℕ) → zs ≡ behind is_space bytes → zs ≡ first ∷ more → Slash ≡ class_of first → (all : List Attribute) →
     run BeforeName all bytes ≡ run SelfClosing all more
@@ -256,7 +256,7 @@ pub read_slash_alone : (bytes zs : List ℕ) (first : ℕ) (more : List ℕ) →
     run BeforeName all bytes ≡ run BeforeName all more
 read_slash_alone bytes zs first more skipped is slash alone all = to_slash bytes zs first more skipped is slash all ∙ read_slash all more alone
 
--- What is left of a tag, and the attributes so far
+-- the rest of a tag, and the attributes so far
 
 pub leaves_less : (p : Piece) (n m : ℕ) → n ≤ m → Leaves p n → Leaves p m
 leaves_less p n m le less = grind arith

@@ -1,4 +1,4 @@
--- A byte among the first, by the mask of one load, and after them.
+-- Finding a byte among the first bytes, by the mask of one load, or after them.
 use Rattle.html_links.proofs.Prelude.{◌≡◌, ℕ, ◌+◌, ◌-◌, ◌%◌, ◌^◌, ◌<◌, ◌≤◌, eqb, Bool, true, false, not, cond, List, [], ◌∷◌, map, length, get_or, take, drop, None, Some, refl, sym, ap, ◌∙◌, subst, arith, inl, inr, bit_or, ◌||◌, ap₂, prefix_len, position_or_len, false≢true, not-true, not-false, cases_eq, cases_lt, eq-eqb, ne_eqb, cond-true, cond-false, eqb-true, map-map, mask_l-mod, leading_from_mask_l, trailing_mask_l, length-map, length-take-le, length-drop, get_or-take, get_or-drop, prefix_len_passes, prefix_len_stops, IsFirstByte, Passes, is_byte, is_mark}
 use Rattle.std.specs.Simd.Lanes.{mask_l, top, zip2}
 use Rattle.html_links.specs.Near.{first_set}
@@ -13,7 +13,7 @@ pub prefix_same : (p q : ℕ → Bool) → ((x : ℕ) → p x ≡ q x) → (xs :
 prefix_same p q same [] = refl
 prefix_same p q same (x ∷ xs) = ap (λ (b : Bool). cond b (1 + prefix_len p xs) 0) (same x) ∙ ap (λ (n : ℕ). cond (q x) (1 + n) 0) (prefix_same p q same xs)
 
--- a lane that is as the byte is all ones
+-- all bits of a lane are 1 if it is equal to the byte
 abbrev pub lane : ℕ → ℕ → ℕ
 lane byte x = cond (eqb x byte) 255 0
 
@@ -31,14 +31,14 @@ near_place byte bytes z r room found lanes =
     found ∙ ap (λ (m : ℕ). first_set m 32) mask ∙ first_is (λ (x : ℕ). top 7 (lane byte x)) (take 32 bytes) 32 long (omega arith)
     ∙ prefix_same (λ (x : ℕ). not (top 7 (lane byte x))) (λ (x : ℕ). not (is_byte byte x)) (λ (x : ℕ). ap not (top_lane (eqb x byte))) (take 32 bytes)
 
--- no byte before the first passes
+-- no byte before the first one that passes does
 pub passes_none : (test : ℕ → Bool) (bytes : List ℕ) (n k : ℕ) → k < position_or_len test (take n bytes) → k < n → test (get_or bytes k 0) ≡ false
 passes_none test bytes n k before inside = grind (arith, get_or-take, not-true, prefix_len_passes)
 
 pub near_first : (test : ℕ → Bool) (bytes : List ℕ) (n r : ℕ) → n ≤ length bytes → r ≡ position_or_len test (take n bytes) → r < n → IsFirstByte test bytes (Some r)
 near_first test bytes n r room is inside = grind (arith, length-take-le, get_or-take, not-false, prefix_len_stops, false≢true, not-true, prefix_len_passes)
 
--- none among the first, and none of those after them
+-- the byte is neither among the first nor among those after them
 module _ (test : ℕ → Bool) (bytes : List ℕ) (n r : ℕ) (is : r ≡ position_or_len test (take n bytes)) (all : n ≤ r) where
   fails_at : (k : ℕ) → (n ≤ k → Passes test (drop n bytes) (k - n) → ⊥) → Passes test bytes k → ⊥
   fails_at k later p =
@@ -72,7 +72,7 @@ zip2-map : (h : ℕ → ℕ → ℕ) (f g : ℕ → ℕ) (xs : List ℕ) → zip
 zip2-map h f g [] = refl
 zip2-map h f g (x ∷ xs) = ap (λ r. h (f x) (g x) ∷ r) (zip2-map h f g xs)
 
--- a byte's lane once both tests are joined
+-- a byte's lane after both tests are combined
 abbrev joint : ℕ → ℕ
 joint x = bit_or (lane 38 x) (lane 0 x)
 

@@ -1,4 +1,4 @@
--- What a reader of links sees, tag by tag, and the tags that it passes because they have no links.
+-- What a reader of links sees, tag by tag, and the tags that it skips because they have no links.
 use Rattle.html_links.proofs.Prelude.{◌≡◌, ◌∙◌, ◌<◌, ◌≤◌, sym, ap, subst, refl, arith, ℕ, Bool, true, false, cond, List, Option, None, [], ◌∷◌, ◌++◌, length, map, Some, not-true, or_from, codes, bytes_eq, bytes_eq-Decides, lower, tag_of, Tag, BeforeName, may_be, element_of, element_at, wanted_of, is_usual, Wanted, Data, InTag, Token, TemplateEnd, ends_template, end_tag, content_of, content_at, read, behind_start, tag_context, inner_context, Context, Html, Values, tag_with, values_in, Seen, seen_with, seen_within, seen_from, opened, links_in, ids_in, base_in, or_later, append_assoc, Element}
 use Rattle.html_links.specs.declared.element.Element.TheVariants as element
 use Rattle.html_links.specs.declared.element.TheConstants.{LENGTHS}
@@ -27,7 +27,7 @@ tag_seen : (at : Context) (name : List ℕ) (o : Option Tag) →
 tag_seen at name None = refl
 tag_seen at name (Some t) = refl
 
--- one whose values were found
+-- a start tag whose values were found
 pub seen_start : (at own : Context) (name bytes : List ℕ) (element : Element) (v : Values) (text : List ℕ) (more : List Token) → own ≡ tag_context at name → element ≡ element_at own name →
     Some (tag_with v text) ≡ values_in (wanted_of element) (tag_of bytes) → read (inner_context own name element v) (behind_start (content_at own name) name) text ≡ more →
     seen_within 0 (read at (InTag false name BeforeName []) bytes) ≡ with_contents own (seen_with name element v (sheet_of own name v.self_closing text)) more
@@ -37,14 +37,14 @@ seen_start at own name bytes element v text more here is found behind =
     ∙ ap (λ element. seen_values own element name (values_in (wanted_of element) (tag_of bytes))) (sym is)
     ∙ ap (seen_values own element name) (sym found) ∙ ap (with_contents own (seen_with name element v (sheet_of own name v.self_closing text))) behind
 
--- one that does not end
+-- a start tag that does not end
 pub open_start : (at : Context) (name bytes : List ℕ) (w : Wanted) → None ≡ values_in w (tag_of bytes) → seen_within 0 (read at (InTag false name BeforeName []) bytes) ≡ []
 open_start at name bytes w found = grind (arith, in_tag)
 
 pub text_less : (w : Wanted) (v : Values) (text bytes : List ℕ) → Some (tag_with v text) ≡ values_in w (tag_of bytes) → length text < length bytes
 text_less w v text bytes found = grind (arith, tag_less)
 
--- names that no element has that names documents or has text
+-- names that are not those of elements that name documents or have text
 
 usual_not : (name : List ℕ) → is_usual name ≡ true → (text : List ℕ) → may_be LENGTHS text ≡ true → bytes_eq (map lower name) text ≡ false
 usual_not name usual text may = other_name LENGTHS name text (not-true (may_be LENGTHS name) usual) may
@@ -55,11 +55,11 @@ usual_element name usual = grind (arith, usual_not, otherwise, or_from)
 pub usual_content : (name : List ℕ) → is_usual name ≡ true → content_of (map lower name) ≡ content.Markup
 usual_content name usual = grind (arith, not-true, other_name, otherwise, or_from)
 
--- and of no element that has text
+-- and not those of elements that have text
 pub text_content : (name : List ℕ) → may_be TEXTS name ≡ false → content_of (map lower name) ≡ content.Markup
 text_content name other = grind (arith, other_name, otherwise, or_from)
 
--- the content of another element than `svg` and `math` is HTML
+-- the content of an element other than `svg` and `math` is HTML
 
 stays : (element : Element) (name text : List ℕ) (v : Values) → ((points : ℕ) → html_content points element ≡ Html points) →
     read (inner_context (Html 0) name element v) (behind_start (content_of name) name) text ≡ read (Html 0) (behind_start (content_of name) name) text
@@ -69,7 +69,7 @@ stays element name text v html = ap (λ at. read at (behind_start (content_of na
     same true = refl
     same false = html 0
 
--- such a tag as it is seen
+-- what is seen of such a tag
 
 pub usual_seen : (name more last : List ℕ) (v : Values) → is_usual name ≡ true → Some (tag_with v last) ≡ values_in (wanted_of element.Other) (tag_of more) →
     seen_within 0 (read (Html 0) (InTag false (map lower name) BeforeName []) more) ≡ seen_with (map lower name) element.Other v (sheet_of (Html 0) (map lower name) v.self_closing last) ∷ seen_from (Html 0) last
@@ -77,7 +77,7 @@ usual_seen name more last v usual found =
     seen_start (Html 0) (Html 0) (map lower name) more element.Other v last (read (Html 0) Data last) refl (sym (usual_element name usual)) found
     (stays element.Other (map lower name) last v (λ points. refl) ∙ to_markup (content_of (map lower name)) (map lower name) last (sym (usual_content name usual)) (Html 0))
 
--- an `a` as it is seen
+-- what is seen of an `a`
 pub anchor_seen : (name more last : List ℕ) (v : Values) → bytes_eq (map lower name) (codes "a") ≡ true → Some (tag_with v last) ≡ values_in (wanted_of element.Anchor) (tag_of more) →
     seen_within 0 (read (Html 0) (InTag false (map lower name) BeforeName []) more) ≡ seen_with (map lower name) element.Anchor v (sheet_of (Html 0) (map lower name) v.self_closing last) ∷ seen_from (Html 0) last
 anchor_seen name more last v is found =
@@ -87,7 +87,7 @@ anchor_seen name more last v is found =
     seen_start (Html 0) (Html 0) (map lower name) more element.Anchor v last (read (Html 0) Data last) refl (sym an_anchor) found
     (stays element.Anchor (map lower name) last v (λ points. refl) ∙ to_markup (content_of (map lower name)) (map lower name) last (sym markup) (Html 0))
 
--- tags that have what some others have
+-- tags that have the same links as others
 
 pub has_same : (all some : List Seen) → all ≡ some → Has all some
 has_same all some same = record { links = ap (links_in false) same; styled = ap (links_in true) same; ids = ap ids_in same; base = ap base_in same }
@@ -109,7 +109,7 @@ pub passed : (name bytes : List ℕ) (v : Values) (rest : List Seen) → is_usua
     Has (seen_with (map lower name) element.Other v (sheet_of (Html 0) (map lower name) v.self_closing bytes) ∷ rest) rest
 passed name bytes v rest usual nothing = subst (λ sheet. Has (seen_with (map lower name) element.Other v sheet ∷ rest) rest) (sym (no_sheet name bytes v.self_closing usual)) (passed_at name v rest usual nothing)
 
--- what is sought in the bytes is in the rest of them
+-- what the bytes have is what the rest of them has
 pub record Sought (at : Context) (bytes : List ℕ) (left_at : Context) (rest : List ℕ) : Type 0 where
   pub has : Has (seen_from at bytes) (seen_from left_at rest)
   pub left : length rest ≤ length bytes
@@ -128,7 +128,7 @@ passes_tag name more last v usual nothing found =
     has_then _ (seen_with (map lower name) element.Other v (sheet_of (Html 0) (map lower name) v.self_closing last) ∷ seen_from (Html 0) last) (seen_from (Html 0) last) (has_same _ _ (usual_seen name more last v usual found))
     (passed name last v (seen_from (Html 0) last) usual nothing)
 
--- the links, ids and base after one tag more
+-- the links, ids and base with one more tag
 
 pub more_links : (styles : Bool) (old new whole : List (List ℕ)) (all rest : List Seen) (seen : Seen) → old ++ links_in styles all ≡ whole → Has all (seen ∷ rest) → new ≡ old ++ links_at styles seen →
     new ++ links_in styles rest ≡ whole

@@ -2,13 +2,13 @@
 use Rattle.html_links.proofs.Prelude.{◌≡◌, ◌∙◌, ◌==◌, sym, ap, refl, ℕ, false, List, [], ◌∷◌, ◌++◌, reverse, Option, None, Some, MatchOption, IfSome, arith, codes, reverse_onto, Bor, Other, Attribute, run, BeforeName, tag_of, front, behind, Stopped, Wanted, wanted_of, Values, values_of, first_named, or_named, with_attribute, values_in, tag_with, no_values}
 use Rattle.html_links.proofs.Jumps.{before, read_class, read_double}
 
--- it has read some attributes, and these are their values
+-- some attributes were read, and these are their values
 pub record Reading (bytes rest : List ℕ) (w : Wanted) (v : Values) : Type 0 where
   pub all : List Attribute
   pub reads : run BeforeName all rest ≡ run BeforeName [] bytes
   pub values : v ≡ values_of w (reverse all) false
 
--- one attribute more at the end
+-- one more attribute at the end
 
 named_last : (name : List ℕ) (all : List Attribute) (a : Attribute) → first_named name (all ++ a ∷ []) ≡ or_named (first_named name all) name a
 named_last name [] a = refl

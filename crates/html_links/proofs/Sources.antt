@@ -6,7 +6,7 @@ use Rattle.html_links.specs.Candidates.{Between, Url, Next, Go, are_commas, with
 abbrev on : List ℕ → Next → List (List ℕ)
 on rest next = follow next (λ s. read s rest)
 
--- a run cut at its first byte that fails
+-- a run is cut at its first byte that fails the test
 
 pub front_shorter : (test : ℕ → Bool) (bytes : List ℕ) → length (front test bytes) + length (behind test bytes) ≡ length bytes
 front_shorter test [] = refl
@@ -40,7 +40,7 @@ url_run url (c ∷ rest) =
     url_at (is_space c) url c rest (front is_unspaced rest) (behind is_unspaced rest)
     (λ e. cond-false (is_space c) (Go (without_commas url ∷ []) (behind_url url)) (Go [] (Url (url ++ c ∷ []))) (not-true (is_space c) e)) (url_run (url ++ c ∷ []) rest)
 
--- a byte of a candidate is no white space
+-- a byte of a candidate is not white space
 
 either : (a b : Bool) → a || b ≡ false → a ≡ false
 either a b e = grind arith

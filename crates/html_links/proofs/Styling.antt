@@ -5,7 +5,7 @@ use Rattle.html_links.specs.Styles.{is_wide_space, in_plain, Found, or_found, cl
 use Rattle.html_links.proofs.Jumps.{shorter}
 use Rattle.html_links.proofs.Sources.{front_all}
 
--- a comment to a `*`
+-- a comment up to a `*`
 
 pub to_star : (bytes : List ℕ) → behind_comment false bytes ≡ behind_comment false (behind (λ c. not (c == 42)) bytes)
 to_star [] = refl
@@ -17,11 +17,11 @@ star_slash bytes starred more cut is = grind (arith, to_star)
 pub star_other : (bytes starred : List ℕ) → 42 ∷ starred ≡ behind (λ c. not (c == 42)) bytes → Stopped (λ c. c == 47) starred → behind_comment false bytes ≡ behind_comment false starred
 star_other bytes starred cut other = grind (arith, to_star)
 
--- without a byte, all bytes are at the front
+-- if the byte is not there, all bytes are in front
 pub no_less : (bytes : List ℕ) → behind (λ c. not (c == 60)) bytes ≡ [] → front (λ c. not (c == 60)) bytes ≡ bytes
 no_less bytes none = front_all (λ c. not (c == 60)) bytes none
 
--- the bytes after a URL are fewer
+-- there are fewer bytes after a URL
 
 two_less : (a b : ℕ) (bytes n : List ℕ) → and_then (behind_letter a bytes) (behind_letter b) ≡ Some n → length n < length bytes
 two_less a b bytes n e = grind arith
@@ -64,7 +64,7 @@ behind_less None false bytes less f e = absurd (cc)
 pub found_less : (imports : Bool) (bytes : List ℕ) (f : Found) → found_at imports bytes ≡ Some f → length f.rest < length bytes
 found_less imports bytes f e = behind_less (behind_url bytes) imports bytes (url_less bytes) f e
 
--- and those after what names no URL
+-- and after bytes that name no URL
 
 comment_less : (starred : Bool) (bytes : List ℕ) → length (behind_comment starred bytes) ≤ length bytes
 comment_less starred [] = omega arith
@@ -85,7 +85,7 @@ pass_less imports more bytes rest left c is passes =
     let all : length bytes ≡ length (c ∷ rest) = ap length is in
     omega (arith, same, all, byte_less imports c rest)
 
--- a larger number of bytes that are looked at gives the same URLs
+-- allowing more bytes gives the same URLs
 
 after_same : (o : Option Found) (left : List ℕ × Bool) (n : ℕ) (on other : Bool → List ℕ → List (List ℕ)) → ((f : Found) → o ≡ Some f → length f.rest < n) → length left.0 < n →
     ((imports : Bool) (bytes : List ℕ) → length bytes < n → on imports bytes ≡ other imports bytes) → urls_after o left on ≡ urls_after o left other

@@ -1,4 +1,4 @@
--- A name's first letter and its length in any case.
+-- Names in any case, by their first letter and length.
 use Rattle.html_links.proofs.Prelude.{◌≡◌, ℕ, Bool, true, false, cond, List, map, arith, Option, None, bytes_eq, false_from_ne_true, false≢true, length-map, bytes_eq-Decides, lower, may_be, Element, has_rare_names, wanted_of, Values, with_attribute, option_or}
 use Rattle.std.proofs.Math.Nat.{add-mod_right}
 use Rattle.html_links.specs.declared.found.TheConstants.{LENGTHS}
@@ -14,7 +14,7 @@ other_name lengths name text other among = grind (arith, false_from_ne_true, byt
 pub otherwise : {A : Type 0} (b : Bool) (x y z : A) → b ≡ false → y ≡ z → cond b x y ≡ z
 otherwise b x y z isnt later = grind arith
 
--- Attributes whose names are not among those that are read
+-- attributes whose names are not among those that are read
 
 pub or_none : (value : Option (List ℕ)) → option_or value None ≡ value
 or_none value = grind arith
