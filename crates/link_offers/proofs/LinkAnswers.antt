@@ -1,4 +1,4 @@
--- What becomes of links that a busy worker offers.
+-- The results for the links that a busy worker offers.
 use Rattle.link_offers.proofs.Prelude.{common_steps, flat_map-append, ◌≡◌, ℕ, ◌+◌, ◌≤◌, Bool, cond, List, [], ◌∷◌, ◌++◌, length, Option, Some, Result, Err, refl, sym, ap, subst, ◌∙◌, arith, IsTrue, slice_set, slice_index_or, length-append, set-get_or, All-nil, All-cons, Offer, OfferError, RecentUrls, HasLine, AllLogged, Grows, Answer, IsOffer, Answers, AllAnswered, LinkAnswers, listed, losses_by, with_losses, Knows}
 use Rattle.std.specs.List.{count_by, flat_map}
 use Rattle.std.proofs.lemmas.List.Sums.{sum_by-cons}
@@ -10,7 +10,7 @@ use Rattle.link_offers.specs.declared.offers.LinkOffers.{LinkOffers}
 use Rattle.link_offers.specs.Losses.{loss_of, with_loss}
 use Rattle.link_offers.proofs.Logs.{grows_same, grows_on, offer_grows, offer_line, has_line_on, knows_on}
 
--- a list with the same element written once more
+-- a list in which an element is written again, unchanged
 pub unchanged_at : {X : Type 0} (xs : List X) (i : ℕ) (x y : X) → y ≡ slice_index_or xs i x → slice_set xs i y ≡ xs
 unchanged_at xs i x y same = ap (slice_set xs i) same ∙ set-get_or xs i x
 
@@ -20,13 +20,13 @@ with_losses_append : (first next : List Loss) (losses : Losses) → with_losses 
 with_losses_append [] next losses = refl
 with_losses_append (why ∷ first) next losses = with_losses_append first next (with_loss why losses)
 
--- what was counted before, and more
+-- what was counted before, and then more
 pub losses_on : (first next : List Loss) (a b c : Losses) → b ≡ with_losses first a → c ≡ with_losses next b → c ≡ with_losses (first ++ next) a
 losses_on first next a b c one two = two ∙ ap (λ (l : Losses). with_losses next l) one ∙ sym (with_losses_append first next a)
 
 -- ## The worker stays the same
 
--- the same worker and entry; the pass may be another, and the books have grown
+-- the same worker and entry; the pass may differ, and the log may have grown
 pub record SameBusy (b b' : BusyId) : Type 0 where
   pub entry : b'.message.entry ≡ b.message.entry
   pub worker : b'.worker ≡ worker b.worker.queue b'.worker.seat b.worker.taken b.worker.empty_pops b'.worker.book
@@ -61,7 +61,7 @@ pub link_answers_on : (workers : ℕ) (allowed : List ℕ → Bool) (urls more :
     → LinkAnswers workers allowed urls b m old mid → LinkAnswers workers allowed more m c mid new → LinkAnswers workers allowed (urls ++ more) b c old new
 link_answers_on workers allowed urls more b m c old mid new first next = grind (arith, answered_on, losses_on, flat_map-append)
 
--- a link that is offered, by the very URL that was looked for
+-- a link that is offered, by the URL that was looked up
 pub link_offered : (workers : ℕ) (allowed : List ℕ → Bool) (b b' : BusyId) (asked url : List ℕ) (answer : Result Offer OfferError) (old new : LinkOffers)
     → asked ≡ url → IsOffer workers allowed b b' asked answer → new.losses ≡ with_losses (losses_by (Some answer) ++ []) old.losses → Knows workers b'.worker.book.log new.recent
     → LinkAnswers workers allowed (url ∷ []) b b' old new
@@ -72,21 +72,21 @@ link_offered workers allowed b b' asked url answer old new is offer losses known
   known = known;
 }
 
--- what is remembered stays known after an offer
+-- what is remembered is still known after an offer
 pub known_after : (workers : ℕ) (allowed : List ℕ → Bool) (b b' : BusyId) (url : List ℕ) (answer : Result Offer OfferError) (recent : RecentUrls)
     → IsOffer workers allowed b b' url answer → Knows workers b.worker.book.log recent → Knows workers b'.worker.book.log recent
 known_after workers allowed b b' url answer recent offer known = grind (arith, knows_on, offer_grows)
 
--- a refusal is counted as what it is
+-- a refusal is counted by its cause
 pub lost_as : (error : OfferError) (why : Loss) (old new : Losses) → Some why ≡ loss_of error → new ≡ with_loss why old → new ≡ with_losses (losses_by (Some (Err error)) ++ []) old
 lost_as error why old new is losses = subst (λ (o : Option Loss). new ≡ with_losses (listed o ++ []) old) is losses
 
--- ## What is lost by links
+-- ## The losses for links
 
 answer_few : (workers : ℕ) (allowed : List ℕ → Bool) (b b' : BusyId) (url : List ℕ) (answer : Answer) → Answers workers allowed b b' url answer → length (losses_by answer) ≤ cond (allowed url) 1 0
 answer_few workers allowed b b' url answer is = grind arith
 
--- no more is lost than links that are allowed
+-- only links that are allowed are lost
 pub answers_few : (workers : ℕ) (allowed : List ℕ → Bool) (b b' : BusyId) (urls : List (List ℕ)) (answers : List Answer) → AllAnswered workers allowed b b' urls answers
     → length (flat_map losses_by answers) ≤ count_by allowed urls
 answers_few workers allowed b b' [] [] all = omega arith
