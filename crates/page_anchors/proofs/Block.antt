@@ -1,4 +1,4 @@
--- Ids in one block, and one more after them.
+-- Ids in one block, and one more id after them.
 use Rattle.page_anchors.proofs.Prelude.{◌≡◌, ◌∙◌, ℕ, zero, suc, ◌+◌, ◌-◌, ◌<◌, ◌≤◌, List, [], ◌∷◌, ◌++◌, length, drop, get_or, length-append, refl, ap, arith, Bor, slice_cmp, flat_map, slice_range, IsSorted, is_lt, nat_cmp, DoBound, pointed, texts_from, DoAscend}
 use Rattle.std.proofs.lemmas.List.{drop-append-le, drop_at, get_or-map, length-drop, length-map, length-take, map-append, take-append-le, take_all}
 
@@ -19,13 +19,13 @@ up_to : (from : ℕ) (ends : List ℕ) (count : ℕ) → DoBound from ends count
 up_to from [] count bound = omega (arith, bound)
 up_to from (end ∷ ends) count bound = omega (arith, bound.0, up_to end ends count bound.1)
 
--- its begin and its end are within the bytes
+-- its start and its end are within the bytes
 pub id_within : (from : ℕ) (ends : List ℕ) (count k : ℕ) → DoBound from ends count → k < length ends → (get_or (from ∷ ends) k 0 ≤ get_or ends k 0) × (get_or ends k 0 ≤ count)
 id_within from [] count k bound below = absurd (omega (arith, below))
 id_within from (end ∷ ends) count zero bound below = (bound.0, up_to end ends count bound.1)
 id_within from (end ∷ ends) count (suc k) bound below = id_within end ends count k bound.1 (omega (arith, below))
 
--- together the ids are the bytes
+-- the ids together are the bytes
 pub bytes_of : (bytes : List ℕ) (from : ℕ) (ends : List ℕ) → DoBound from ends (length bytes) → from + length (flat_map (λ (id : List ℕ). id) (texts_from bytes from ends)) ≡ length bytes
 bytes_of bytes from [] bound = omega (arith, bound)
 bytes_of bytes from (end ∷ ends) bound =
@@ -34,7 +34,7 @@ bytes_of bytes from (end ∷ ends) bound =
     let within : end ≤ length bytes = up_to end ends (length bytes) bound.1 in
     omega (arith, bytes_of bytes end ends bound.1, bound.0, within, length-append first (flat_map (λ (id : List ℕ). id) rest), length-take (end - from) (drop from bytes), length-drop from bytes)
 
--- ---- one more
+-- ---- one more id
 
 pub bound_more : (from : ℕ) (ends : List ℕ) (count more : ℕ) → DoBound from ends count → count ≤ more → DoBound from (ends ++ more ∷ []) more
 bound_more from [] count more bound up = (omega (arith, bound, up), refl)
@@ -48,7 +48,7 @@ ids_more bytes id from (end ∷ ends) bound = grind (arith, up_to, ids_more byte
 pub bound_pushed : (bytes more id : List ℕ) (ends longer : List ℕ) → DoBound 0 ends (length bytes) → more ≡ bytes ++ id → longer ≡ ends ++ length more ∷ [] → DoBound 0 longer (length more)
 bound_pushed bytes more id ends longer bound is ends_are = grind (arith, length-append, bound_more)
 
--- ---- what is pointed to
+-- ---- the ids to which references point
 
 pub pointed_push : (ids : List (Bor (List ℕ))) (id : Bor (List ℕ)) → pointed (ids ++ id ∷ []) ≡ pointed ids ++ id.now ∷ []
 pointed_push ids id = map-append (λ (text : Bor (List ℕ)). text.now) ids (id ∷ [])

@@ -1,4 +1,4 @@
--- A text whose bytes are the same in a URL.
+-- Texts that a URL parser leaves unchanged.
 use Rattle.page_anchors.proofs.Prelude.{◌≡◌, ◌≢◌, ◌∙◌, ℕ, ◌<◌, Bool, true, false, ◌==◌, List, [], ◌∷◌, All, refl, ap, arith, if◌then◌else◌, agree_below_at, eq-eqb, ltb-false, or_parts, list_any, is_escaped, is_odd, before_directive, decoded_of, IN_FRAGMENT}
 use Rattle.std.proofs.lemmas.List.Elements.{All-nil}
 use Rattle.std.proofs.lemmas.Str.{IsUtf8-from_ascii, utf8_lossy-IsUtf8}

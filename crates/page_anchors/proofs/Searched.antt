@@ -1,4 +1,4 @@
--- What a binary search found among ids that ascend.
+-- A binary search among ids that ascend.
 use Rattle.page_anchors.proofs.Prelude.{◌≡◌, ◌∙◌, ℕ, ◌+◌, ◌<◌, ◌≤◌, true, false, List, [], length, get_or, inl, inr, sym, ap, arith, cases_lt, get_or_default, searchable_from_sorted, slice_cmp, nat_list_cmp_total, is_eq, is_lt, nat_cmp, ordering_index, has_id, DoAscend}
 use Rattle.std.proofs.lemmas.List.Folds.{list_any_at, list_any_none}
 use Rattle.std.proofs.lemmas.Map.Text.{is_eq-slice_cmp}
