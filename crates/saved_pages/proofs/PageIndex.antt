@@ -18,7 +18,7 @@ page_there pages url k found = page_at_index pages url ∙ ap (λ o. option_and_
 pub no_page : (pages : List PageRead) (url : List ℕ) → None ≡ index_of (urls pages) url → None ≡ page_with pages url
 no_page pages url none = sym (page_at_index pages url ∙ ap (λ o. option_and_then (λ k. slice_get pages k) o) (sym none))
 
--- what is lent of a list at an index
+-- what is borrowed from a list at an index
 pub item_at : {X : Type 0} (xs : List X) (k : ℕ) (o : Option (Bor X)) → IsItemAt xs k o → option_map (λ x. x.now) o ≡ slice_get xs k
 item_at xs k o is = grind (arith, slice_get_past, slice_get_read)
 

@@ -5,7 +5,7 @@ use Rattle.hash_index.specs.Lists.{index_of}
 use Rattle.hash_index.proofs.Listed.{found_at}
 use Rattle.saved_pages.specs.UrlIndices.{LeadTo, KeepIndices}
 
--- an element of the first list is one of both
+-- an element of the first list is at the same index of both lists together
 pub get_front : {X : Type 0} (xs ys : List X) (k : ℕ) (x : X) → slice_get xs k ≡ Some x → slice_get (xs ++ ys) k ≡ Some x
 get_front [] ys k x at = absurd (cc)
 get_front (y ∷ xs) ys zero x at = at
@@ -28,7 +28,7 @@ pushed_there urls longer url last (Ok short) is at told_is =
 pub keep_pushed : (urls longer : List (List ℕ)) (url : List ℕ) → longer ≡ urls ++ url ∷ [] → KeepIndices urls longer
 keep_pushed urls longer url is index other at = ap (λ l. slice_get l index) is ∙ get_front urls (url ∷ []) index other at
 
--- if URLs keep their indices, the same links are at them
+-- if URLs keep their indices, the same links are at these indices
 pub lead_still : (old new : List (List ℕ)) (indices : List ℕ) (links : List (List ℕ)) → KeepIndices old new → LeadTo old indices links → LeadTo new indices links
 lead_still old new [] [] keep lead = refl
 lead_still old new [] (link ∷ links) keep lead = absurd (cc)

@@ -1,4 +1,4 @@
--- What a line of a saved web says, and the lines under the last page.
+-- The content of a line of a saved web, and the lines under the last page.
 use native.Mathlib.Omega.{arith}
 use Rattle.std.proofs.Common.{◌≡◌, ℕ, Bool, false, ◌||◌, List, [], ◌∷◌, ◌++◌, refl, ap, ◌∙◌, if◌then◌else◌, IsUtf8}
 use Rattle.std.proofs.Math.Bool.{or-false}
@@ -11,7 +11,7 @@ use Rattle.saved_pages.specs.WebLines.{line_of_text, line_of, is_page}
 pub line_of-utf8 : (line : List ℕ) → IsUtf8 line → line_of line ≡ line_of_text line
 line_of-utf8 line utf8 = rw (is_utf8-from_IsUtf8 line utf8) refl
 
--- ---- the lines under the last page, and one line more
+-- ---- the lines under the last page, with one more line
 
 -- one line
 one_under : (page : Bool) (line : List ℕ) → (if page || false then [] else line ∷ []) ≡ (if page then [] else [] ++ line ∷ [])
