@@ -1,4 +1,4 @@
--- The links of pages that are found ahead.
+-- The links of pages that are resolved ahead.
 use Rattle.saved_web.proofs.Prelude.{nat_tests, common_steps, ◌≡◌, ℕ, ◌+◌, ◌<◌, List, [], ◌∷◌, ◌++◌, length, map, take, get_or, slice_get, Option, None, Some, IfSome, refl, sym, subst, ap, ◌∙◌, All, get_or_from_slice_get, option_map, slice_get_within, map_more, map_push, push_cases, with_url, lead_still, LeadTo, KeepIndices, shown_page, IsAhead, AreAhead, known_page, PageRead, page_with, Page, PageAhead}
 use native.Mathlib.Omega.{arith}
 use Rattle.crawl_pages.specs.declared.page.Page.TheVariants.{Found}
@@ -12,11 +12,11 @@ use Rattle.std.specs.Slice.{IsItemAt}
 
 -- ---- links by the indices of their URLs
 
--- one index more, of the next link
+-- one more index, that of the next link
 pub lead_more : (urls : List (List ℕ)) (indices : List ℕ) (links : List (List ℕ)) (i index : ℕ) (link : List ℕ) → i < length links → link ≡ get_or links i link → LeadTo urls indices (take i links) → slice_get urls index ≡ Some link → LeadTo urls (indices ++ index ∷ []) (take (i + 1) links)
 lead_more urls indices links i index link below is lead at = grind (arith, nat_tests, common_steps, map_push, map_more)
 
--- no other links are at the indices
+-- no other links are at these indices
 same_links : (xs ys : List (List ℕ)) → map (λ link. Some link) xs ≡ map (λ link. Some link) ys → xs ≡ ys
 same_links [] [] same = refl
 same_links [] (y ∷ ys) same = absurd (cc)
@@ -35,11 +35,11 @@ still_ahead web pages old new keep are k page at =
     let own = are k page at in
     record { links = own.links; lead = lead_still old new page.links.indices.items own.links keep own.lead; page_is = own.page_is }
 
--- one page more
+-- one more page
 pub more_ahead : (web : List PageRead) (pages longer : List PageAhead) (page : PageAhead) (urls : List (List ℕ)) → longer ≡ pages ++ page ∷ [] → AreAhead web pages urls → IsAhead (shown_page (slice_get web page.index)) urls page.links → AreAhead web longer urls
 more_ahead web pages longer page urls is are own k other at = grind (arith, push_cases)
 
--- the chunk with a number
+-- the chunk with this number
 chunk_at : (web : List PageRead) (chunks : List Chunk) (k : ℕ) (chunk : Chunk) → All (IsChunk web) chunks → slice_get chunks k ≡ Some chunk → IsChunk web chunk
 chunk_at web chunks k chunk all at =
     subst (IsChunk web) (get_or_from_slice_get chunks k chunk chunk at) (All-get_or (IsChunk web) chunks k chunk (slice_get_within chunks k chunk at) all)

@@ -14,7 +14,7 @@ or_some o x is later = grind arith
 at_chunk : (chunks : List (List PageRead)) (i : ℕ) (chunk : List PageRead) (url : List ℕ) → i < length chunks → chunk ≡ get_or chunks i chunk → page_with (flat_map (λ p. p) (drop i chunks)) url ≡ option_or (page_with chunk url) (page_with (flat_map (λ p. p) (drop (i + 1) chunks)) url)
 at_chunk chunks i chunk url below is = grind (arith, drop_more, with_url-append)
 
--- a chunk without the URL is passed over
+-- a chunk without the URL is skipped
 pub passed_chunk : (chunks : List (List PageRead)) (i : ℕ) (chunk : List PageRead) (url : List ℕ) → i < length chunks → chunk ≡ get_or chunks i chunk → page_with chunk url ≡ None → page_with (flat_map (λ p. p) (drop (i + 1) chunks)) url ≡ page_with (flat_map (λ p. p) (drop i chunks)) url
 passed_chunk chunks i chunk url below is none =
     sym (at_chunk chunks i chunk url below is ∙ or_none (page_with chunk url) none (page_with (flat_map (λ p. p) (drop (i + 1) chunks)) url))
@@ -24,7 +24,7 @@ pub found_chunk : (chunks : List (List PageRead)) (i : ℕ) (chunk : List PageRe
 found_chunk chunks i chunk url x below is some =
     at_chunk chunks i chunk url below is ∙ or_some (page_with chunk url) x some (page_with (flat_map (λ p. p) (drop (i + 1) chunks)) url)
 
--- one chunk more
+-- one more chunk
 pages_more : (chunks : List (List PageRead)) (i : ℕ) (chunk : List PageRead) → i < length chunks → chunk ≡ get_or chunks i chunk → flat_map (λ p. p) (take (i + 1) chunks) ≡ flat_map (λ p. p) (take i chunks) ++ chunk
 pages_more chunks i chunk below is = grind (arith, nat_tests, common_steps, take_more, flat_map-append, append-nil)
 
@@ -34,7 +34,7 @@ urls_more chunks i chunk below is = grind (arith, nat_tests, common_steps, pages
 chunk_more : (chunks : List (List PageRead)) (i : ℕ) (chunk : List PageRead) (url : List ℕ) → i < length chunks → chunk ≡ get_or chunks i chunk → has (flat_map (λ p. p) (take (i + 1) chunks)) url ≡ (has (flat_map (λ p. p) (take i chunks)) url || has chunk url)
 chunk_more chunks i chunk url below is = grind (arith, nat_tests, common_steps, pages_more, has-append)
 
--- pages none of which has the URL, and one chunk more
+-- pages of which none has the URL, and one more chunk
 pub none_in_more : (chunks : List (List PageRead)) (i : ℕ) (chunk other : List PageRead) → i < length chunks → chunk ≡ get_or chunks i chunk → ((url : List ℕ) → has other url ≡ true → has (flat_map (λ p. p) (take i chunks)) url ≡ false) → ((url : List ℕ) → has other url ≡ true → has chunk url ≡ false) → (url : List ℕ) → has other url ≡ true → has (flat_map (λ p. p) (take (i + 1) chunks)) url ≡ false
 none_in_more chunks i chunk other below is before here url there =
     chunk_more chunks i chunk url below is ∙ (λ k. before url there k || here url there k)
@@ -48,7 +48,7 @@ none_of_more chunks i chunk others below is before here url there =
     by_chunk false true is_a is_b e = here url is_b
     by_chunk false false is_a is_b e = absurd (cc)
 
--- one page more
+-- one more page
 pub none_with_more : (list : List PageRead) (i : ℕ) (page : PageRead) (others : List PageRead) → i < length list → page ≡ get_or list i page → ((url : List ℕ) → has (take i list) url ≡ true → has others url ≡ false) → has others page.url ≡ false → (url : List ℕ) → has (take (i + 1) list) url ≡ true → has others url ≡ false
 none_with_more list i page others below is before here url there = grind (arith, nat_tests, common_steps, take_more, has-append, bytes_eq-Decides)
 

@@ -1,4 +1,4 @@
--- Pages in chunks, by their indices among all.
+-- Pages in chunks, by their indices among all pages.
 use Rattle.saved_web.proofs.Prelude.{nat_tests, common_steps, ◌≡◌, ℕ, suc, ◌+◌, ◌<◌, List, [], ◌∷◌, ◌++◌, length, drop, get_or, slice_get, Option, Some, IfSome, SomeIff, sym, ap, subst, ◌∙◌, arith, flat_map, option_map, drop_more, length-map, slice_get-get_or, slice_get_within, index_of, found_at, page_there, get_front, PageRead, urls, page_with}
 use Rattle.std.specs.Borrow.{Bor}
 use Rattle.saved_web.proofs.ChunkPages.{found_chunk}
@@ -35,7 +35,7 @@ found_index chunks i chunk url k below is found =
 pub lent_page : (chunk pages : List PageRead) (k : ℕ) (o : Option (Bor PageRead)) → option_map (λ page. page.now) o ≡ slice_get chunk k → ((page : PageRead) → slice_get chunk k ≡ Some page → slice_get pages k ≡ Some page) → (j : ℕ) (all : List PageRead) → slice_get pages k ≡ slice_get all j → IfSome o (λ page. slice_get all j ≡ Some page.now)
 lent_page chunk pages k o at there j all same = grind arith
 
--- the same, counted from all pages
+-- likewise, counted from all pages
 pub passed_index : (chunks : List (List PageRead)) (all : List PageRead) (i before next : ℕ) (chunk : List PageRead) → i < length chunks → chunk ≡ get_or chunks i chunk → next ≡ before + length chunk
     → ((k : ℕ) → slice_get (from_chunk chunks i) k ≡ slice_get all (before + k)) → (k : ℕ) → slice_get (from_chunk chunks (i + 1)) k ≡ slice_get all (next + k)
 passed_index chunks all i before next chunk below is sum at k =

@@ -8,9 +8,9 @@ use Rattle.saved_pages.specs.SavedWeb.{lines_behind, put_link, link_texts, put_m
 use Rattle.saved_pages.specs.declared.error.WebError.TheVariants as wrong
 use Rattle.saved_pages.specs.declared.line.Line.TheVariants as says
 
--- ---- a line that passes after some lines passes after others
+-- ---- a line that passes its checks after some lines also passes them after others
 
--- what is before a line in one position and in another: each check that it passes there, it passes here
+-- what is known before a line in two positions: each check that it passes in the first, it passes in the second
 record Passes (b d : Before) (said : Line (List ℕ)) : Type 0 where
   second : d.second ≡ b.second
   some_page : b.some_page ≡ true → d.some_page ≡ true
@@ -77,7 +77,7 @@ sound_append earlier [] ys first later = subst (λ e. SoundAfter fault_after e y
 sound_append earlier (x ∷ xs) ys first later =
     (first.0, sound_append (earlier ++ x ∷ []) xs ys first.1 (subst (λ e. SoundAfter fault_after e ys) (sym (append_assoc earlier (x ∷ []) xs)) later))
 
--- ---- a chunk begins with no link of the page before
+-- ---- a chunk does not begin with a link of the page before
 
 abbrev Begins : List (List ℕ) → Type 0
 Begins lines = (link_texts lines ≡ []) × (moved_text lines ≡ None)
@@ -156,7 +156,7 @@ joined second header front back ps qs h p q apart =
       found = λ url. found_in_both header front back ps qs url other p q (unlinked (header ∷ []) back (omega arith) none q.sound.1) (lines_behind (header ∷ front) url) refl;
     }
 
--- what is read of two chunks is read of both together
+-- the pages of two chunks are those of both together
 pub both_read : (second : Bool) (all front back : List (List ℕ)) (ps qs : KnownPages) (both : Option KnownPages) → all ≡ front ++ back → AreReadBehind second front ps → AreReadBehind second back qs → IfSome both (λ web. web ≡ ps ++ qs) → IfSome both (λ _. (url : List ℕ) → has qs url ≡ true → has ps url ≡ false) → IfSome both (AreReadBehind second all)
 both_read second all front back ps qs None split first later whole apart = tt
 both_read second all front back ps qs (Some web) split first later whole apart = λ header h.

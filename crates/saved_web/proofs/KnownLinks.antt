@@ -1,4 +1,4 @@
--- The links that are known by their texts, and the indices of these.
+-- The links that are known by their texts, and their indices.
 use Rattle.saved_web.proofs.Prelude.{◌≡◌, ℕ, ◌<◌, true, List, [], ◌∷◌, ◌++◌, length, map, get_or, Some, sym, subst, ◌∙◌, arith, Contains, filter_map, Contains-get_or, slice_get_within, get_or_from_slice_get, index_of, found_at, TextLink, AreLinks, AreOfFolder, link_url}
 use Rattle.std.proofs.lemmas.List.{get_or-map, length-map, append_assoc}
 use Rattle.crawl_keys.specs.CanonicalText.{resolve}
@@ -23,10 +23,10 @@ contains_at known text k d found =
 
 -- ---- links of pages
 
--- what is known of a folder holds on each of its pages
+-- what is known for a folder is true on each of its pages
 pub on_page_beside : (last page : List ℕ) (known : List TextLink) → ((text : List ℕ) → is_of_folder text ≡ true → resolve last text ≡ resolve page text) → AreOfFolder known → AreLinks last known → AreLinks page known
 on_page_beside last page known same folder links = grind arith
 
--- a link that was pushed is the next of those that are left
+-- a link that was pushed is the next of those that remain
 pub pushed_next : (url : List ℕ) (links : List (List ℕ)) (text link : List ℕ) (more all : List (List ℕ)) → Some link ≡ link_url url text → links ++ filter_map (link_url url) (text ∷ more) ≡ all → (links ++ link ∷ []) ++ filter_map (link_url url) more ≡ all
 pushed_next url links text link more all is kept = grind (arith, append_assoc)

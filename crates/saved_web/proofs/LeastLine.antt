@@ -1,8 +1,8 @@
--- Lines that are sound have no error, and lines that are not sound have one.
+-- If lines pass all checks, they have no error; otherwise they have one.
 use Rattle.saved_web.proofs.Prelude.{◌≡◌, ℕ, List, [], ◌∷◌, ◌++◌, Option, Some, None, Ok, Err, refl, sym, ap, subst, ◌∙◌, append_assoc, append-nil, arith, option_or, IsRefusal, SoundAfter, IsLeastFault, fault_after, IsSound, IsWebFault, IsWebRefusal, WebError}
 use Rattle.saved_pages.specs.declared.error.WebError.TheVariants as wrong
 
--- the error of the first of these lines that has one, after the earlier lines
+-- the error of the first of these lines that has one, if they come after the earlier lines
 first_fault : List (List ℕ) → List (List ℕ) → Option WebError
 first_fault earlier [] = None
 first_fault earlier (line ∷ more) = option_or (fault_after earlier line) (first_fault (earlier ++ line ∷ []) more)

@@ -1,4 +1,4 @@
--- The laws of moved pages: in version 1 no page has moved, and under a page are only links, or only one moved line.
+-- The laws about moved pages: in version 1 no page has moved, and under a page there are only links, or only one moved line.
 use Rattle.saved_web.proofs.Prelude.{◌≡◌, ℕ, ◌==◌, Bool, false, List, length, nat_lt, None, Ok, Err, ◌+◌, [], ◌∷◌, ◌++◌, Option, Some, refl, ap, arith, ne_eqb, inl, inr, ◌<◌, true, not, cond, sym, subst, ◌∙◌, length-append, append_assoc, append-nil, if◌then◌else◌, is_utf8, bytes_eq, Before, said_fault, text_fault, line_fault, under_fault, line_of_text, line_of, says_moved, is_moved_line, says_page, url_said, is_page, is_link, is_page_at, TooLong, NotText, or_parts, cases_Bool, cond-true, cond-false, list_any, count_by, SoundAfter, is_second, before, fault_after, IsSound, under_last_page, Line, nat_tests, common_steps, sum_by-append, take_while-cons, under_more, option_map_or}
 use Rattle.crawl_limits.specs.Limits.{line_limit}
 use Rattle.saved_pages.specs.declared.line.Line.TheVariants as says
@@ -6,7 +6,7 @@ use Rattle.crawl_pages.specs.Pages.{is_moved}
 use Rattle.saved_pages.specs.SavedWeb.{lines_behind, put_moved, moved_text, link_texts, page_with, page_behind, page_of, up_to_page, IsUnmixed}
 use Rattle.saved_pages.specs.declared.error.WebError.TheVariants as wrong
 
--- ---- what a line that passes its checks says, after the first one
+-- ---- the content of a line that passes its checks, after the first line
 
 text_passes : (b : Before) (long utf8 : Bool) (line : List ℕ) → (b.number == 1) ≡ false → text_fault b (if long then Err (TooLong b.number) else if utf8 then Ok line else Err (NotText b.number)) ≡ None → said_fault b (if utf8 then line_of_text line else says.Other) ≡ None
 text_passes b long utf8 line later passes = grind arith
@@ -14,12 +14,12 @@ text_passes b long utf8 line later passes = grind arith
 pub said_passes : (b : Before) (line : List ℕ) → (b.number == 1) ≡ false → line_fault b line ≡ None → said_fault b (line_of line) ≡ None
 said_passes b line later passes = text_passes b (nat_lt line_limit (length line)) (is_utf8 line) line later passes
 
--- ---- in version 1 a line that passes says no `moved`
+-- ---- in version 1, a line that passes its checks is not a moved line
 
 said_none : (b : Before) (said : Line (List ℕ)) → b.second ≡ false → said_fault b said ≡ None → says_moved said ≡ false
 said_none b said first passes = grind arith
 
--- ---- nor do all lines after the header
+-- ---- nor is any line after the header
 
 lines_none : (header : List ℕ) (earlier all : List (List ℕ)) → is_second (header ∷ earlier) ≡ false → SoundAfter fault_after (header ∷ earlier) all → list_any is_moved_line all ≡ false
 lines_none header earlier [] first sound = refl
@@ -59,7 +59,7 @@ count_none p (line ∷ more) none = grind (arith, or_parts, count_none p more)
 grows : (p : Line (List ℕ) → Bool) (lines : List (List ℕ)) (line : List ℕ) (said : Line (List ℕ)) → line_of line ≡ said → count_by (λ l. p (line_of l)) (lines ++ line ∷ []) ≡ count_by (λ l. p (line_of l)) lines + cond (p said) 1 0
 grows p lines line said is = grind (arith, sum_by-append)
 
--- ---- one more line
+-- ---- with one more line
 
 passes_under : (number : ℕ) (some mixed : Bool) → under_fault number some mixed ≡ None → mixed ≡ false
 passes_under number some mixed passes = grind arith

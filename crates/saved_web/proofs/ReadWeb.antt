@@ -6,9 +6,9 @@ use Rattle.saved_pages.specs.AddedPages.{has_some, kept_before, Adds, Follows}
 use Rattle.saved_pages.specs.declared.add.Above.{Above}
 use Rattle.saved_pages.specs.declared.error.WebError.TheVariants as wrong
 
--- ---- one more page
+-- ---- with one more page
 
--- the lines after a page that is known
+-- the lines after the line of a known page
 abbrev told : Option PageRead → Option (List (List ℕ))
 told o = option_map (λ page. lines page.behind) o
 
@@ -35,7 +35,7 @@ adds_behind old new own bytes more same q = grind (arith, behind_put, with_url-a
 
 -- ---- the URLs of pages
 
--- a page has the URL if it is one of theirs
+-- a page has the URL if it is one of these URLs
 pub has_urls : (pages : KnownPages) (url : List ℕ) → has pages url ≡ list_any (λ own. bytes_eq own url) (urls pages)
 has_urls [] url = refl
 has_urls (page ∷ more) url = grind (arith, has_urls more url)
@@ -44,13 +44,13 @@ any_urls : (lines : List (List ℕ)) (url : List ℕ) → list_any (is_page_at u
 any_urls [] url = refl
 any_urls (line ∷ more) url = grind (arith, any_urls more url)
 
--- pages that have the URLs of lines have the URL of one of these
+-- pages with the URLs of lines have the URL of one of these lines
 pub known_urls : (pages : KnownPages) (lines : List (List ℕ)) (url : List ℕ) → urls pages ≡ page_urls lines → has pages url ≡ list_any (is_page_at url) lines
 known_urls pages lines url same = has_urls pages url ∙ ap (list_any (λ own. bytes_eq own url)) same ∙ sym (any_urls lines url)
 
--- ---- one more line
+-- ---- with one more line
 
--- what is known of the pages says which check a line fails
+-- what is known of the pages determines which check a line fails
 fault_known : (all rest : List (List ℕ)) (number : ℕ) (above : Above) (pages : KnownPages) (line : List ℕ) → (k : ReadTo all rest number above pages) → line_fault (kept_before (number + 1) pages above) line ≡ fault_after k.earlier line
 fault_known all rest number above pages line k =
     λ i. line_fault (record {
@@ -71,7 +71,7 @@ sound_more front (x ∷ xs) line sound passes =
 pub any_more : (p : List ℕ → Bool) (b : Bool) (earlier : List (List ℕ)) (line : List ℕ) → p line ≡ b → (list_any p earlier || b) ≡ list_any p (earlier ++ line ∷ [])
 any_more p b earlier line e = grind (arith, or-false, list_any-append)
 
--- ---- the lines under the last page, one line more
+-- ---- the lines under the last page, with one more line
 
 any_one : (page : Bool) (p : List ℕ → Bool) (old : Bool) (under : List (List ℕ)) (line : List ℕ) → old ≡ list_any p under → (if page then false else old || p line) ≡ list_any p (if page then [] else under ++ line ∷ [])
 any_one page p old under line e = grind (arith, any_more)
@@ -106,7 +106,7 @@ read_more all rest number above pages line more behind after new first passes ad
       ∙ sym (filter_map-append page_url k.earlier (line ∷ []));
 }
 
--- each page is known, or is among the lines that are left
+-- each page is known, or is among the lines that remain
 found_more : (all : List (List ℕ)) (rest : List ℕ) (pages : KnownPages) (line more : List ℕ) (new : KnownPages) → lines rest ≡ line ∷ lines more → Adds pages new (page_url line) more → AllFound all (lines rest) pages → AllFound all (lines more) new
 found_more all rest pages line more new first adds found url = grind (arith, adds_behind)
 
