@@ -155,7 +155,7 @@ fn find_fault<'a, R: Threads + Sync>(
     fault_by_marks(alloc, filter, seeds, whole.accepted, marks)
 }
 
-/// Likewise, from what a pass over the results found.
+/// Returns Ok if the run has no error, and otherwise the first error and its least URL, from what a pass over the results found.
 fn fault_by_marks<'a>(
     alloc: Global,
     filter: &Filter,

@@ -12,6 +12,6 @@ pub enum StepKind {
     Leave,
     /// A compare-and-exchange of the open word with count 0 for the closed word, which closed the gate.
     CloseWon,
-    /// The same, which found another word.
+    /// A compare-and-exchange for the closed word that found another word than expected.
     CloseLost,
 }

@@ -24,7 +24,8 @@ pub fn behind_dots(text: &str) -> (usize, &str)
     (ups, rest)
 }
 
-/// Likewise for the first dot segment, if the text begins with one, or with a segment and the dot segment that removes it.
+/// The number of folders that the first dot segment leads up, and the text after it. `None` if the text does not begin with a dot
+/// segment, or with a segment and the dot segment that removes it.
 fn behind_one(text: &str) -> Option<(usize, &str)>
     ensures behind { IfSome result (λ step. IsBehind text.now step.0 step.1.now) }
     ensures shorter { IfSome result (λ step. step.0 + length step.1.now < length text.now) }

@@ -17,7 +17,7 @@ pub fn is_opaque(text: &str) -> bool
     }
 }
 
-/// Likewise for a text that begins with a letter.
+/// Whether a text that begins with a letter is a URL with an opaque path. `false` means unknown.
 #[tactic(auto, using(crate::proofs::PlainLemmas::cut_at))]
 fn has_opaque_path(text: &str) -> bool
     ensures { result ≡ true → IsOpaque text.now }

@@ -148,7 +148,7 @@ pub fn len_before(bytes: &[u8], mark: u8) -> usize
     last + other_run(bytes, last, mark)
 }
 
-/// Likewise, one byte at a time.
+/// The number of bytes before the first `mark`; the bytes are tested one at a time.
 #[tactic(auto, using(url::proofs::InputLemmas::prefix_len_is))]
 fn len_before_short(bytes: &[u8], mark: u8) -> usize
     ensures value { result ≡ prefix_len (spec.is_other mark) bytes.now }

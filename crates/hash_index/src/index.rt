@@ -65,7 +65,7 @@ impl HashIndex {
         self.find_text(list, key.text(), key.text_hash())
     }
 
-    /// Likewise, for a text and its hash.
+    /// Returns the index of a text in the list, by the text and its hash.
     fn find_text<L: TextList>(&self, list: &L, text: &str, hash: u64) -> Option<usize>
         requires index { IsIndexOf L.hash (L.texts list.now) self.now }
         requires hash { hash ≡ L.hash text.now }
@@ -99,7 +99,8 @@ impl HashIndex {
         self.find_text_or_insert(list, key.text(), key.text_hash())
     }
 
-    /// Likewise, for a text and its hash, after room was made. The number of slots does not change.
+    /// Does what [`HashIndex::find_or_insert`] does, by a text and its hash, after room was made. The number of slots does not
+    /// change.
     fn find_text_or_insert<L: TextList>(
         &mut self,
         list: &L,

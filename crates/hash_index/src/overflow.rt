@@ -43,7 +43,8 @@ impl Overflow {
         find_text(list, &self.by_text, text)
     }
 
-    /// Likewise. If there is none, the index that the list assigns next is kept for the text.
+    /// Returns the index of the text, which has this hash. If the list does not have it, the result is `None`, and the index that
+    /// the list assigns next is kept for it.
     #[tactic(auto, using(crate::proofs::Keeping::misses_beside))]
     pub fn find_or_insert<L: TextList>(
         &mut self,
@@ -114,7 +115,8 @@ fn find_text<L: TextList>(list: &L, by_text: &BTreeMap<String, usize>, text: &st
     }
 }
 
-/// Likewise. If there is none, the index that the list assigns next is kept for the text. One search does both.
+/// Returns the index that is kept for the text, if the list has the text there. Otherwise the result is `None`, and the index that
+/// the list assigns next is kept for it. One search does both.
 #[tactic(auto, using(crate::proofs::Keeping::text_stays))]
 fn find_text_or_insert<L: TextList>(
     alloc: Global,

@@ -43,7 +43,7 @@ pub(crate) fn is_coded(value: &[u8]) -> bool
     is_marked(&value[last..])
 }
 
-/// Likewise for any value, however short.
+/// Whether a value of any length has an `&` or a NUL.
 fn has_mark(value: &[u8]) -> bool
     ensures { result ≡ false → text_of value.now ≡ value.now }
 {

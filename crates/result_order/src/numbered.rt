@@ -49,7 +49,7 @@ pub fn number_at(text: &[u8], from: usize) -> u128
     ])
 }
 
-/// Likewise, for a text that may end before the sixteenth byte.
+/// Returns what [`number_at`] does, for a text that may end before the sixteenth byte.
 fn number_near_end(text: &[u8], from: usize) -> u128
     requires { from + 16 ≤ 4096 }
     ensures { IsSixteen text.now from result }

@@ -32,7 +32,7 @@ pub fn first_line(bytes: &[u8]) -> Option<(&[u8], &[u8])>
     }
 }
 
-/// Likewise for a text, whose lines are texts.
+/// Returns the first line of a text and the rest, or `None` if the text is empty. Lines end as in [`first_line`].
 pub fn first_text(text: &str) -> Option<(&str, &str)>
     ensures cut { MatchOption result (lines text.now ≡ []) (λ x. lines text.now ≡ x.0.now ∷ lines x.1.now) }
     ensures shorter { IfSome result (λ x. length x.1.now < length text.now) }
