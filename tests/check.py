@@ -55,6 +55,7 @@ KINDS += [kind + reason for kind in ("invalid", "invalid_place") for reason in (
 KINDS += [kind + reason for kind in ("leaving", "leaving_place") for reason in ("above_folder", "outside_base")]
 LEAST = 5
 PARTS = ("known", "folders", "random")
+ONLY_FOLDERS = ("--part", "folders")
 
 
 def host_options(settings: Settings) -> List[str]:
@@ -244,14 +245,14 @@ def kind_of(row: Row) -> str:
     return str(row["kind"] + row.get("missing", "") + row.get("reason", ""))
 
 
-def compare_folder(series: Series, program: str, folder: str, settings: Settings) -> Counter[str]:
-    """Compares a folder, and returns the number of rows of each kind."""
+def compare_folder(series: Series, program: str, folder: str, settings: Settings, again: Sequence[str]) -> Counter[str]:
+    """Compares a folder, and returns the number of rows of each kind. `again` are the options that make only this comparison."""
     try:
         expected = Model(folder, settings).rows()
     except drawn.NotPlain:
         series.skipped += 1
         return Counter()
-    series.add(f"{folder} {settings}", difference(printed_rows(program, settings, folder), expected))
+    series.add(f"{folder} {settings}", difference(printed_rows(program, settings, folder), expected), [*ONLY_FOLDERS, *again])
     return Counter(map(kind_of, expected))
 
 
@@ -507,7 +508,8 @@ def compare_changed(program: str, count: int, seed: int) -> None:
         with tempfile.TemporaryDirectory() as above:
             folder = Path(above, f"site{number}")
             drawing.change_folder(draw, loading.ROOT / "examples/site", folder)
-            kinds += compare_folder(series, program, str(folder), Settings(BASE, unreached=True, external=True))
+            again = ["--seed", str(seed), "--changed", str(number + 1)]
+            kinds += compare_folder(series, program, str(folder), Settings(BASE, unreached=True, external=True), again)
     print("rows of changed folders:", dict(kinds))
     series.end()
 
@@ -517,7 +519,7 @@ def compare_large(program: str, count: int) -> None:
     series = Series("large folders")
     with tempfile.TemporaryDirectory() as folder:
         drawing.fill_large(Path(folder), count)
-        print("rows of a large folder:", dict(compare_folder(series, program, folder, Settings(BASE))))
+        print("rows of a large folder:", dict(compare_folder(series, program, folder, Settings(BASE), ["--changed", "0", "--large", str(count)])))
     series.end()
 
 
@@ -525,7 +527,7 @@ def compare_folders(program: str, folders: List[str]) -> None:
     """Compares existing folders."""
     series = Series("folders")
     for folder in folders:
-        kinds = compare_folder(series, program, folder, Settings(BASE, unreached=True, external=True))
+        kinds = compare_folder(series, program, folder, Settings(BASE, unreached=True, external=True), ["--changed", "0", folder])
         print(f"{folder}: {dict(kinds)}")
     series.end()
 
@@ -535,8 +537,9 @@ def compare_forms(program: str, folder: str) -> None:
     series, settings = Series("forms"), Settings(BASE, unreached=True, external=True)
     with tempfile.TemporaryDirectory() as scratch:
         page = run(program, arguments(settings, folder, scratch, ("--html",))).stdout.decode()
-    series.add(f"page of {folder}", forms.page_fault(page, Model(folder, settings).rows(), folder))
-    series.add(f"colour of {folder}", forms.colour_fault(program, folder))
+    again = [*ONLY_FOLDERS, "--changed", "0", folder]
+    series.add(f"page of {folder}", forms.page_fault(page, Model(folder, settings).rows(), folder), again)
+    series.add(f"colour of {folder}", forms.colour_fault(program, folder), again)
     series.end()
 
 

@@ -27,7 +27,7 @@ from random import Random
 from typing import Callable, Dict, List, Optional, Set, Tuple
 
 from serving import ROOT
-from serving.trial import SECONDS, expect, expect_error, program_of, run_all
+from serving.trial import SECONDS, command_of, expect, expect_error, program_of, run_all
 from mercator_frontier import Accepted, FrontierEnded, FrontierError, NoSuchQueue, NothingTaken, QueueBusy
 from mercator_service import Fetcher
 
@@ -585,7 +585,7 @@ def main() -> int:
         crawl(*options.crawl)
         return 0
     chosen = [test for test in TESTS if test.__name__ in (options.part or names)]
-    return run_all((test.__name__, partial(in_folder, test)) for test in chosen)
+    return run_all(((test.__name__, partial(in_folder, test)) for test in chosen), command_of)
 
 
 if __name__ == "__main__":
