@@ -33,7 +33,7 @@ climbs depth segment = depth == 0 && dot_count segment == 2
 abbrev pub depth_after : ℕ → List ℕ → ℕ
 depth_after depth segment = if dot_count segment == 2 then depth - 1 else (if dot_count segment == 1 then depth else depth + 1)
 
--- a segment and what ends it, unless the segment leads above the top
+-- a segment and the slash that ends it, unless the segment leads above the top
 abbrev pub kept : ℕ → List ℕ → List ℕ → List ℕ
 kept depth segment end = if climbs depth segment then [] else segment ++ end
 

@@ -14,7 +14,7 @@ use Rattle.html_links.specs.Links.{links_in, ids_in, base_in}
 abbrev pub name_nothing : Values → Bool
 name_nothing v = is_absent v.first && is_absent v.second && is_absent v.style && is_absent v.id
 
--- some of the tags have the same links, with and without those of styles, and the same ids and base as all of them
+-- `some` of the tags have the same links, with and without those of styles, and the same ids and base as `all` of them
 pub record Has (all some : List Seen) : Type 0 where
   pub links : links_in false all ≡ links_in false some
   pub ids : ids_in all ≡ ids_in some
