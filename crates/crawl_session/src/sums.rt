@@ -6,7 +6,7 @@ ghost use Rattle.crawl_session.specs.Sums as spec;
 use crate::log::whole_len;
 use crawl_core::NoMemory;
 use memchr::{memchr, memmem};
-use std::hash::{DefaultHasher, Hasher};
+use sip_hash::SipHash;
 use std::marker::Model;
 
 /// The first byte of a checksum line.
@@ -18,15 +18,16 @@ const SUM_LEN: usize = 10;
 /// The checksum of the bytes of a log, from its beginning up to some point.
 #[derive(Drop)]
 pub struct LogSum {
-    hasher: DefaultHasher,
+    hash: SipHash,
 }
 
 impl Model for LogSum {
     ghost use Rattle.std.specs.declared.hash.DefaultHasher.{DefaultHasher};
+    ghost use Rattle.sip_hash.specs.SipStates.{hash_of};
 
     ghost Value = { DefaultHasher };
 
-    ghost view = { λ s. s.hasher };
+    ghost view = { λ s. hash_of s.hash };
 }
 
 impl LogSum {
@@ -35,7 +36,7 @@ impl LogSum {
         ensures { result ≡ initial }
     {
         LogSum {
-            hasher: DefaultHasher::new(),
+            hash: SipHash::new(),
         }
     }
 
@@ -65,7 +66,7 @@ impl LogSum {
     {
         let from = out.len();
         push_kept(start, bytes, out)?;
-        self.hasher.write(&out[from..]);
+        self.hash.write(&out[from..]);
         Ok(())
     }
 
@@ -74,9 +75,9 @@ impl LogSum {
         ensures gained { OnOk result (out.new.items ≡ out.old.items ++ spec.sum_after self.old) }
         ensures sum { OnOk result (self.new ≡ write self.old (spec.sum_after self.old)) }
     {
-        let line = sum_text(self.hasher.finish());
+        let line = sum_text(self.hash.finish());
         out.extend_from_slice(&line)?;
-        self.hasher.write(&line);
+        self.hash.write(&line);
         Ok(())
     }
 }
@@ -191,7 +192,7 @@ impl SumCheck {
         ensures { result ≡ spec.is_right self.now line.now }
     {
         if is_sum(line) {
-            line == sum_text(self.hash.hasher.finish()).as_slice()
+            line == sum_text(self.hash.hash.finish()).as_slice()
         } else {
             true
         }
@@ -201,7 +202,7 @@ impl SumCheck {
     fn take(&mut self, line: &[u8])
         ensures { self.new ≡ spec.after_line self.old line.now (spec.is_sum line.now) }
     {
-        self.hash.hasher.write(line);
+        self.hash.hash.write(line);
         self.line = self.line.saturating_add(1);
         if is_sum(line) {
             self.right = self.line;
