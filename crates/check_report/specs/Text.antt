@@ -48,7 +48,7 @@ message NotUrl = codes "not a URL"
 message UnknownScheme = codes "unknown scheme"
 message LocalFile = codes "local file"
 message Leaves = codes "leaves the folder"
-message OutsideBase = codes "outside BASE"
+message OutsideBase = codes "outside BASE, on the same host"
 
 abbrev pub same_name_text : Escape → Option (List ℕ) → List ℕ
 same_name_text how None = []
@@ -144,7 +144,7 @@ optional_total c =
 -- the first line of the totals
 abbrev pub site_total : Totals → Counts → List ℕ
 site_total t c =
-    counted (codes "pages ") t.pages ++ counted (codes ", files ") t.files ++ counted (codes ", links ") t.links ++ counted (codes ", redirects ") t.moved
+    counted (codes "pages ") t.pages ++ counted (codes ", other files ") t.files ++ counted (codes ", links ") t.links ++ counted (codes ", redirects ") t.moved
     ++ counted (codes ", aliases ") t.aliases ++ optional_total c
 
 unfoldable pub total_text : Bool → Totals → Counts → List ℕ
@@ -153,7 +153,7 @@ total_text colour t c = site_total t c ++ codes "\n" ++ broken_total colour t ++
 abbrev pub title : Part → List ℕ
 title part.Broken = []
 title part.Worst = codes "files with the most broken links:\n"
-title part.Redirects = codes "links to redirects:\n"
+title part.Redirects = codes "links to redirects (not errors):\n"
 title part.Unreached = codes "unreached files:\n"
 title part.Unlisted = codes "documents that no sitemap lists:\n"
 title part.External = codes "external links (not checked):\n"
@@ -193,12 +193,16 @@ redirect_text r = moves_text r ++ codes " (" ++ linked_from r.pages ++ codes ")\
 abbrev pub external_text : External → List ℕ
 external_text e = counted (codes "  ") e.links ++ codes " " ++ shown (string_bytes e.url) ++ codes "\n"
 
+-- the text after this number of links that are not listed, with the option that lists them
+abbrev pub more_links : ℕ → List ℕ
+more_links n = if n == 1 then codes " more link (--all-sources lists it)\n" else codes " more links (--all-sources lists them)\n"
+
 abbrev pub more_text : ℕ → List ℕ
-more_text count = counted (codes "  and ") count ++ codes " more\n"
+more_text count = counted (codes "  and ") count ++ more_links count
 
 -- a target, what is wrong with it, and the number of its locations that are not listed
 abbrev pub rest_text : Bool → Broken → ℕ → List ℕ
-rest_text colour b count = target_start colour b ++ counted (codes ": ") count ++ codes " more\n"
+rest_text colour b count = target_start colour b ++ counted (codes ": ") count ++ more_links count
 
 -- a name in a section: a page, or an entry of the ignore list as it is
 abbrev pub name_in : Escape → Part → List ℕ → List ℕ

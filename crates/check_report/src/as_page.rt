@@ -1,6 +1,6 @@
 //! Prints a row in the HTML page.
 ghost use Rattle.std.specs.Prelude.{◌≡◌, ◌++◌, OnOk, Some, codes, option_map, string_bytes};
-ghost use Rattle.check_report.specs.Page.{broken_items, broken_row, count_items, external_row, head_part, hint_paragraph, html, item_if, item_some, counts_links, invalid_noun, leaving_noun, links_noun, other_count, other_noun, missing_noun, more_row, page_heading, page_line, page_start, page_total, link_end, link_start, place_cell, place_name, place_row, source_link, written_cell, redirect_row, script_part, section_start, site_items, style_part, tail_part, title_count, title_noun, optional_items, tools_part, total_item, verdict_start, worst_row};
+ghost use Rattle.check_report.specs.Page.{broken_items, broken_row, count_items, external_row, head_part, hint_paragraph, html, item_if, item_some, counts_links, invalid_noun, leaving_noun, links_noun, other_count, other_noun, missing_noun, page_heading, page_line, page_start, page_total, link_end, link_start, place_cell, place_name, place_row, source_link, written_cell, redirect_row, script_part, section_start, site_items, style_part, tail_part, title_count, title_noun, optional_items, tools_part, total_item, verdict_start, worst_row};
 ghost use Rattle.check_report.specs.Rows.{line_of};
 ghost use Rattle.check_report.specs.Text.{name_in};
 ghost use Rattle.check_report.specs.declared.escape.Escape.TheVariants as escape;
@@ -35,8 +35,7 @@ pub fn put_page(out: &mut Vec<u8>, source_url: &str, row: Row<'_>) -> Result<(),
         Row::Finish(_) => put(out, "</pre>\n</section>\n"),
         Row::Broken(broken) => put_broken(out, broken),
         Row::Place(broken, place) => put_place(out, source_url, broken, place),
-        Row::More(count) => put_more(out, count as u64),
-        Row::Rest(_, _) => Ok(()),
+        Row::More(_) | Row::Rest(_, _) => Ok(()),
         Row::Worst(count) => put_worst(out, count),
         Row::Redirect(page) => put_redirect(out, page),
         Row::External(url) => put_external(out, url),
@@ -97,7 +96,7 @@ fn section_start(part: Part) -> &'static str
         Part::Worst =>
             "<section id=worst aria-labelledby=h-worst>\n<h2 id=h-worst>Files with the most broken links</h2>\n<pre>\n",
         Part::Redirects =>
-            "<section id=redirects aria-labelledby=h-redirects>\n<h2 id=h-redirects>Links to redirects</h2>\n<pre>\n",
+            "<section id=redirects aria-labelledby=h-redirects>\n<h2 id=h-redirects>Links to redirects (not errors)</h2>\n<pre>\n",
         Part::Unreached =>
             "<section id=unreached aria-labelledby=h-unreached>\n<h2 id=h-unreached>Unreached files</h2>\n<pre>\n",
         Part::Unlisted =>
@@ -272,7 +271,7 @@ fn put_site_items(out: &mut Vec<u8>, totals: Totals) -> Result<(), NoMemory>
     ensures { OnOk result (out.new.items ≡ out.old.items ++ site_items totals) }
 {
     put_item(out, "<li>pages <b>", totals.pages)?;
-    put_item(out, "<li>files <b>", totals.files)?;
+    put_item(out, "<li>other files <b>", totals.files)?;
     put_item(out, "<li>links <b>", totals.links)?;
     put_item(out, "<li>redirects <b>", totals.moved)?;
     put_item(out, "<li>other URLs of pages <b>", totals.aliases)
@@ -448,14 +447,6 @@ fn put_link_cell(out: &mut Vec<u8>, broken: &Broken, link: &str) -> Result<(), N
     }
     put(out, "\t")?;
     put_bracketed(out, "(written as ", Escape::Html, link)
-}
-
-/// Appends the line for the number of locations that are not listed.
-fn put_more(out: &mut Vec<u8>, count: u64) -> Result<(), NoMemory>
-    ensures { OnOk result (out.new.items ≡ out.old.items ++ more_row count) }
-{
-    put_counted(out, "\tand ", count)?;
-    put(out, " more\n")
 }
 
 /// Appends the line of a file: its name, a tab, and the number of broken links in it.

@@ -1,7 +1,7 @@
 //! Prints a row as text.
 ghost use Rattle.std.specs.Prelude.{◌≡◌, ◌++◌, OnOk, Some, option_map, string_bytes};
 ghost use Rattle.check_report.specs.Rows.{line_of};
-ghost use Rattle.check_report.specs.Text.{advice, base_hint, base_hint_line, begin_text, bracketed, broken_text, broken_total, external_text, hint_text, is_broken, link_text, linked_from, message, more_text, moves_text, name_in, name_text, optional_total, pages_noun, place_head, place_start, place_text, redirect_target, redirect_text, rest_text, same_name_text, site_total, target_start, target_text, text_line, title, total_text, verdict, worst_text, written_text, wrong_of, wrong_text};
+ghost use Rattle.check_report.specs.Text.{advice, base_hint, base_hint_line, begin_text, bracketed, broken_text, broken_total, external_text, hint_text, is_broken, link_text, linked_from, message, more_links, more_text, moves_text, name_in, name_text, optional_total, pages_noun, place_head, place_start, place_text, redirect_target, redirect_text, rest_text, same_name_text, site_total, target_start, target_text, text_line, title, total_text, verdict, worst_text, written_text, wrong_of, wrong_text};
 
 use crate::escape::{Escape, put_escaped};
 use crate::names::{ends_with_link, put_page_name, put_target_name};
@@ -58,7 +58,7 @@ fn put_site_total(out: &mut Vec<u8>, totals: Totals, counts: Counts) -> Result<(
     ensures { OnOk result (out.new.items ≡ out.old.items ++ site_total totals counts) }
 {
     put_counted(out, "pages ", totals.pages)?;
-    put_counted(out, ", files ", totals.files)?;
+    put_counted(out, ", other files ", totals.files)?;
     put_counted(out, ", links ", totals.links)?;
     put_counted(out, ", redirects ", totals.moved)?;
     put_counted(out, ", aliases ", totals.aliases)?;
@@ -147,7 +147,7 @@ fn title(part: Part) -> &'static str
     match part {
         Part::Broken => "",
         Part::Worst => "files with the most broken links:\n",
-        Part::Redirects => "links to redirects:\n",
+        Part::Redirects => "links to redirects (not errors):\n",
         Part::Unreached => "unreached files:\n",
         Part::Unlisted => "documents that no sitemap lists:\n",
         Part::External => "external links (not checked):\n",
@@ -246,7 +246,7 @@ pub fn message(kind: Kind) -> &'static str
         Kind::UnknownScheme => "unknown scheme",
         Kind::LocalFile => "local file",
         Kind::Leaves => "leaves the folder",
-        Kind::OutsideBase => "outside BASE",
+        Kind::OutsideBase => "outside BASE, on the same host",
     }
 }
 
@@ -335,7 +335,18 @@ fn put_more(out: &mut Vec<u8>, count: u64) -> Result<(), NoMemory>
     ensures { OnOk result (out.new.items ≡ out.old.items ++ more_text count) }
 {
     put_counted(out, "  and ", count)?;
-    put(out, " more\n")
+    put(out, more_links(count))
+}
+
+/// The text after this number of links that are not listed, with the option that lists them.
+fn more_links(count: u64) -> &'static str
+    ensures { result.now ≡ more_links count }
+{
+    if count == 1 {
+        " more link (--all-sources lists it)\n"
+    } else {
+        " more links (--all-sources lists them)\n"
+    }
 }
 
 /// Appends the line of a target of which not all locations are listed: what is wrong with it, and the number of the others.
@@ -344,7 +355,7 @@ fn put_rest(out: &mut Vec<u8>, broken: &Broken, count: u64, colour: bool) -> Res
 {
     put_target_start(out, broken, colour)?;
     put_counted(out, ": ", count)?;
-    put(out, " more\n")
+    put(out, more_links(count))
 }
 
 /// Appends the line of a file: the number of broken links in it, and its name.
