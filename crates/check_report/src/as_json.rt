@@ -8,7 +8,7 @@ ghost use Rattle.check_report.specs.Rows as line;
 ghost use Rattle.check_report.specs.Rows.{line_of};
 
 use crate::put::NoMemory;
-use crate::row::{Counts, Part, Row};
+use crate::row::{Counts, Row, Section};
 use crate::value::{BaseHint, Broken, External, FileCount, Kind, Place, Redirect, Totals};
 use json::Writer;
 
@@ -74,7 +74,7 @@ fn put_row(out: &mut Writer, row: Row<'_>) -> Result<(), NoMemory>
         Row::Worst(count) => put_worst(out, count),
         Row::Redirect(page) => put_redirect(out, page),
         Row::External(url) => put_external(out, url),
-        Row::Name(part, text) => put_name(out, part, text),
+        Row::Name(section, text) => put_name(out, section, text),
         Row::Begin(_) | Row::Finish(_) | Row::Rest(_, _) | Row::Last => Ok(()),
     }
 }
@@ -241,27 +241,27 @@ fn put_external(out: &mut Writer, url: &External) -> Result<(), NoMemory>
 }
 
 /// Writes the members for an unreached file, a document that no sitemap lists, or an unused entry of the ignore list.
-fn put_name(out: &mut Writer, part: Part, text: &str) -> Result<(), NoMemory>
+fn put_name(out: &mut Writer, section: Section, text: &str) -> Result<(), NoMemory>
     requires { out.old.tokens ≡ begin_object ∷ [] }
-    ensures tokens { OnOk result (out.new.tokens ++ end_object ∷ [] ≡ json_tokens (object (members_of (line.name part text.now)))) }
+    ensures tokens { OnOk result (out.new.tokens ++ end_object ∷ [] ≡ json_tokens (object (members_of (line.name section text.now)))) }
     ensures before { out.new.before ≡ out.old.before }
 {
-    put_text(out, "kind", row_kind(part))?;
+    put_text(out, "kind", row_kind(section))?;
     put_text(out, "name", text)
 }
 
 /// The value of `kind` for the rows in a section.
-fn row_kind(part: Part) -> &'static str
-    ensures { result.now ≡ row_kind part }
+fn row_kind(section: Section) -> &'static str
+    ensures { result.now ≡ row_kind section }
 {
-    match part {
-        Part::Broken => "broken",
-        Part::Worst => "worst",
-        Part::Redirects => "redirect",
-        Part::Unreached => "unreached",
-        Part::Unlisted => "unlisted",
-        Part::External => "external",
-        Part::Unused => "unused",
+    match section {
+        Section::Broken => "broken",
+        Section::Worst => "worst",
+        Section::Redirects => "redirect",
+        Section::Unreached => "unreached",
+        Section::Unlisted => "unlisted",
+        Section::External => "external",
+        Section::Unused => "unused",
     }
 }
 

@@ -1,4 +1,6 @@
 //! The results of a check.
+ghost use Rattle.std.specs.Prelude.{◌≡◌};
+ghost use Rattle.check_report.specs.Text.{is_broken};
 
 /// The results of a check. Each list is printed in the given order, under its own heading; an empty list is not printed.
 #[derive(Clone, Copy)]
@@ -71,6 +73,18 @@ pub struct Totals {
     pub leaving_links: u64,
     /// The redirects that pages link to.
     pub moved: u64,
+}
+
+/// Whether something is missing or invalid, or leads out of the site. A page at which the check starts can be missing though no link
+/// leads to it.
+pub fn is_broken(totals: Totals) -> bool
+    ensures { result ≡ is_broken totals }
+{
+    totals.broken_links > 0
+        || totals.broken_urls > 0
+        || totals.broken_anchors > 0
+        || totals.invalid_links > 0
+        || totals.leaving_links > 0
 }
 
 /// What is wrong with a link.
