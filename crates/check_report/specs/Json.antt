@@ -11,7 +11,7 @@ use Rattle.check_report.specs.declared.row.Section.{Section}
 use Rattle.check_report.specs.declared.row.Section.TheVariants as section
 use Rattle.check_report.specs.declared.value.Broken.{Broken}
 use Rattle.check_report.specs.declared.value.Kind.{Kind}
-use Rattle.check_report.specs.declared.value.Kind.TheVariants.{NoPage, NoAnchor, NotUrl, UnknownScheme, LocalFile, Leaves, OutsideBase}
+use Rattle.check_report.specs.declared.value.Kind.TheVariants.{NoPage, NoAnchor, NotUrl, UnknownScheme, LocalFile, Leaves, OutsideBase, NotInMap}
 use Rattle.check_report.specs.declared.value.Place.{Place}
 use Rattle.check_report.specs.declared.value.Totals.{Totals}
 
@@ -52,6 +52,7 @@ is_missing UnknownScheme = false
 is_missing LocalFile = false
 is_missing Leaves = false
 is_missing OutsideBase = false
+is_missing NotInMap = false
 
 -- whether the link leads out of the site
 abbrev pub is_leaving : Kind → Bool
@@ -62,6 +63,18 @@ is_leaving UnknownScheme = false
 is_leaving LocalFile = false
 is_leaving Leaves = true
 is_leaving OutsideBase = true
+is_leaving NotInMap = true
+
+-- whether the row of the target has a hint
+abbrev pub has_hint : Kind → Bool
+has_hint NoPage = true
+has_hint NoAnchor = true
+has_hint NotUrl = false
+has_hint UnknownScheme = false
+has_hint LocalFile = false
+has_hint Leaves = false
+has_hint OutsideBase = false
+has_hint NotInMap = true
 
 -- the kind of the row of a target
 abbrev pub target_kind : Kind → List ℕ
@@ -84,6 +97,7 @@ wrong_word UnknownScheme = codes "unknown_scheme"
 wrong_word LocalFile = codes "local_file"
 wrong_word Leaves = codes "above_folder"
 wrong_word OutsideBase = codes "outside_base"
+wrong_word NotInMap = codes "not_in_map"
 
 -- the line and the column, and the link as it is written, or `null`
 abbrev pub place_counts : Place → Members
@@ -102,13 +116,13 @@ same_name_at b rest = if is_missing b.kind then member (codes "same_name") (text
 abbrev pub same_name_tokens : Broken → List Token
 same_name_tokens b = if is_missing b.kind then Token.key (codes "same_name") ∷ json_tokens (text_or_null (option_map string_bytes b.same_name)) else []
 
--- the hint, or `null`; nothing if neither a page nor an anchor is missing
+-- the hint, or `null`; nothing if the kind of the target has none
 abbrev pub hint_at : Broken → Members → Members
-hint_at b rest = if is_missing b.kind then member (codes "hint") (text_or_null (option_map string_bytes b.hint)) rest else rest
+hint_at b rest = if has_hint b.kind then member (codes "hint") (text_or_null (option_map string_bytes b.hint)) rest else rest
 
 -- the tokens of the hint
 abbrev pub hint_tokens : Broken → List Token
-hint_tokens b = if is_missing b.kind then Token.key (codes "hint") ∷ json_tokens (text_or_null (option_map string_bytes b.hint)) else []
+hint_tokens b = if has_hint b.kind then Token.key (codes "hint") ∷ json_tokens (text_or_null (option_map string_bytes b.hint)) else []
 
 -- the kind of the rows in a section
 abbrev pub row_kind : Section → List ℕ

@@ -11,7 +11,7 @@ use Rattle.check_report.specs.declared.escape.Escape.{Escape}
 use Rattle.check_report.specs.declared.escape.Escape.TheVariants as escape
 use Rattle.check_report.specs.declared.value.Broken.{Broken}
 use Rattle.check_report.specs.declared.value.Kind.{Kind}
-use Rattle.check_report.specs.declared.value.Kind.TheVariants.{NoPage, NoAnchor, NotUrl, UnknownScheme, LocalFile, Leaves, OutsideBase}
+use Rattle.check_report.specs.declared.value.Kind.TheVariants.{NoPage, NoAnchor, NotUrl, UnknownScheme, LocalFile, Leaves, OutsideBase, NotInMap}
 
 -- ---- escapes
 
@@ -82,6 +82,7 @@ is_text UnknownScheme = true
 is_text LocalFile = true
 is_text Leaves = false
 is_text OutsideBase = false
+is_text NotInMap = false
 
 abbrev pub target_name : Broken → List ℕ
 target_name b = if is_text b.kind then string_bytes b.target else page_name (string_bytes b.target)

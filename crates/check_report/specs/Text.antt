@@ -15,7 +15,7 @@ use Rattle.check_report.specs.declared.value.Broken.{Broken}
 use Rattle.check_report.specs.declared.value.External.{External}
 use Rattle.check_report.specs.declared.value.FileCount.{FileCount}
 use Rattle.check_report.specs.declared.value.Kind.{Kind}
-use Rattle.check_report.specs.declared.value.Kind.TheVariants.{NoPage, NoAnchor, NotUrl, UnknownScheme, LocalFile, Leaves, OutsideBase}
+use Rattle.check_report.specs.declared.value.Kind.TheVariants.{NoPage, NoAnchor, NotUrl, UnknownScheme, LocalFile, Leaves, OutsideBase, NotInMap}
 use Rattle.check_report.specs.declared.value.Place.{Place}
 use Rattle.check_report.specs.declared.value.Redirect.{Redirect}
 use Rattle.check_report.specs.declared.value.Totals.{Totals}
@@ -49,6 +49,7 @@ message UnknownScheme = codes "unknown scheme"
 message LocalFile = codes "local file"
 message Leaves = codes "leaves the folder"
 message OutsideBase = codes "outside BASE, on the same host"
+message NotInMap = codes "no such page in the mapped folder"
 
 abbrev pub same_name_text : Escape → Option (List ℕ) → List ℕ
 same_name_text how None = []

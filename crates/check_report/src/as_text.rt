@@ -238,6 +238,7 @@ pub fn message(kind: Kind) -> &'static str
         Kind::LocalFile => "local file",
         Kind::Leaves => "leaves the folder",
         Kind::OutsideBase => "outside BASE, on the same host",
+        Kind::NotInMap => "no such page in the mapped folder",
     }
 }
 

@@ -69,7 +69,7 @@ fn is_text(kind: Kind) -> bool
 {
     match kind {
         Kind::NotUrl | Kind::UnknownScheme | Kind::LocalFile => true,
-        Kind::NoPage | Kind::NoAnchor | Kind::Leaves | Kind::OutsideBase => false,
+        Kind::NoPage | Kind::NoAnchor | Kind::Leaves | Kind::OutsideBase | Kind::NotInMap => false,
     }
 }
 

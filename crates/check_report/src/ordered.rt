@@ -131,7 +131,7 @@ fn kind_rank(kind: Kind) -> u8
         Kind::NoPage => 0,
         Kind::NoAnchor => 1,
         Kind::NotUrl | Kind::UnknownScheme | Kind::LocalFile => 2,
-        Kind::Leaves | Kind::OutsideBase => 3,
+        Kind::Leaves | Kind::OutsideBase | Kind::NotInMap => 3,
     }
 }
 

@@ -49,6 +49,7 @@ const TARGETS: &[Target] = &[
         &[("b.html", 7, 2), ("c.html", 1, 1)],
     ),
     ("../", Kind::Leaves, "", &[]),
+    ("../m/x.html", Kind::NotInMap, "", &[("c.html", 2, 3)]),
 ];
 
 const TOTALS: Totals = Totals {
@@ -80,6 +81,7 @@ b.html:5:2: http://[<b>: not a URL
 b.html:6:2: htp://a,b: unknown scheme
 b.html:7:2: http://s.test/<b>: outside BASE, on the same host
 c.html:1:1: http://s.test/<b>: outside BASE, on the same host
+c.html:2:3: ../m/x.html: no such page in the mapped folder
 d,e:f%\\u{d}.html:1:2: a<b>&\"'.html#x\\u{a}: no such anchor
 start.html: no such page
 ../: leaves the folder
@@ -120,6 +122,7 @@ a.html:8:9: http://[<b>: not a URL
 b.html:5:2: http://[<b>: not a URL
 ../: leaves the folder
 a.html:9:9: ../../doc/x,y.css: leaves the folder
+c.html:2:3: ../m/x.html: no such page in the mapped folder
 b.html:7:2: http://s.test/<b>: outside BASE, on the same host
 c.html:1:1: http://s.test/<b>: outside BASE, on the same host
 ";
@@ -148,6 +151,8 @@ const JSON: &str =
 {\"kind\":\"leaving_place\",\"target\":\"http://s.test/<b>\",\"reason\":\"outside_base\",\"file\":\"b.html\",\"line\":7,\"column\":2,\"written\":null}
 {\"kind\":\"leaving_place\",\"target\":\"http://s.test/<b>\",\"reason\":\"outside_base\",\"file\":\"c.html\",\"line\":1,\"column\":1,\"written\":null}
 {\"kind\":\"leaving\",\"target\":\"../\",\"reason\":\"above_folder\",\"pages\":3}
+{\"kind\":\"leaving\",\"target\":\"../m/x.html\",\"reason\":\"not_in_map\",\"pages\":3,\"hint\":null}
+{\"kind\":\"leaving_place\",\"target\":\"../m/x.html\",\"reason\":\"not_in_map\",\"file\":\"c.html\",\"line\":2,\"column\":3,\"written\":null}
 {\"kind\":\"worst\",\"file\":\"b.html\",\"links\":2}
 {\"kind\":\"redirect\",\"page\":\"guide\",\"to\":\"guide/\",\"pages\":7}
 {\"kind\":\"redirect\",\"page\":\"old.html\",\"to\":null,\"pages\":1}
@@ -173,6 +178,7 @@ const ANNOTATIONS: &str =
 ::error file=s%3Ate/b.html,line=7,col=2::http://s.test/<b>: outside BASE, on the same host
 ::error file=s%3Ate/c.html,line=1,col=1::http://s.test/<b>: outside BASE, on the same host
 ::error::../: leaves the folder
+::error file=s%3Ate/c.html,line=2,col=3::../m/x.html: no such page in the mapped folder
 ::error::p%2520q.html: not in a sitemap
 ";
 
@@ -192,8 +198,9 @@ const JUNIT: &str = "<?xml version=\"1.0\" encoding=\"UTF-8\"?>
 <testcase name=\"6:2: htp://a,b\" classname=\"b.html\" file=\"s:te/b.html\"><failure type=\"unknown-scheme\" message=\"htp://a,b: unknown scheme\">htp://a,b: unknown scheme</failure></testcase>
 <testcase name=\"7:2: http://s.test/&lt;b&gt;\" classname=\"b.html\" file=\"s:te/b.html\"><failure type=\"outside-base\" message=\"http://s.test/&lt;b&gt;: outside BASE, on the same host\">http://s.test/&lt;b&gt;: outside BASE, on the same host</failure></testcase>
 </testsuite>
-<testsuite name=\"c.html\" tests=\"2\" failures=\"2\" errors=\"0\">
+<testsuite name=\"c.html\" tests=\"3\" failures=\"3\" errors=\"0\">
 <testcase name=\"1:1: http://s.test/&lt;b&gt;\" classname=\"c.html\" file=\"s:te/c.html\"><failure type=\"outside-base\" message=\"http://s.test/&lt;b&gt;: outside BASE, on the same host\">http://s.test/&lt;b&gt;: outside BASE, on the same host</failure></testcase>
+<testcase name=\"2:3: ../m/x.html\" classname=\"c.html\" file=\"s:te/c.html\"><failure type=\"not-in-map\" message=\"../m/x.html: no such page in the mapped folder\">../m/x.html: no such page in the mapped folder</failure></testcase>
 <testcase name=\"5:6: down.html\" classname=\"c.html\" file=\"s:te/c.html\"><failure type=\"missing-page\" message=\"down.html: no such page (did you mean lib/down.html?)\">down.html: no such page (did you mean lib/down.html?)</failure></testcase>
 </testsuite>
 <testsuite name=\"d,e:f%\\u{d}.html\" tests=\"1\" failures=\"1\" errors=\"0\">
@@ -238,6 +245,8 @@ const PAGE: &str = "</form>
 <b>../</b>\tleaves the folder
 <b>../../doc/x,y.css</b>\tleaves the folder
 \ta.html:9:9
+<b>../m/x.html</b>\tno such page in the mapped folder
+\tc.html:2:3
 <b>http://s.test/&lt;b&gt;</b>\toutside BASE, on the same host
 \tb.html:7:2
 \tc.html:1:1
