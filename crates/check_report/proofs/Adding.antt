@@ -1,4 +1,4 @@
--- Bytes that are printed one joined the other.
+-- Bytes and rows that are appended one after another.
 use Rattle.check_report.proofs.Prelude.{common_steps, ◌≡◌, ℕ, ◌+◌, ◌<◌, ◌≤◌, List, [], ◌∷◌, ◌++◌, length, map, take, get_or, Result, IfOk, OnOk, Vec, Global, append-nil, sym, ap, subst, ◌∙◌, arith, Bor, Bool, Option, append_assoc, flat_map-map, map-map, map_more, take_more, take_all, flat_map-append, flat_map, Adds, Line, bare_lines, begin, edge, file_lines, finish, in_section, link_line, place, place_lines, rest_lines, target_lines}
 use Rattle.check_report.specs.Json.{count_if_at, count_tokens}
 use Rattle.check_report.specs.Order.{link_of, links_by_file, shown_places}
@@ -14,11 +14,11 @@ use Rattle.json.specs.Tree.{members_tokens}
 
 -- ---- bytes
 
--- bytes joined bytes
+-- two appended texts are one
 pub joined : {X : Type 0} (old mid new a b : List X) → mid ≡ old ++ a → new ≡ mid ++ b → new ≡ old ++ (a ++ b)
 joined old mid new a b p q = q ∙ ap (λ t. t ++ b) p ∙ append_assoc old a b
 
--- likewise, if the last may run out of memory
+-- as `joined`, if the last call may run out of memory
 pub last_joined : {X V E : Type 0} (answer : Result V E) (old mid new a b : List X) → mid ≡ old ++ a → OnOk answer (new ≡ mid ++ b) → OnOk answer (new ≡ old ++ (a ++ b))
 last_joined answer old mid new a b p q = grind (arith, joined)
 

@@ -36,7 +36,7 @@ broken_annotation b = if nat_lt 0 (length b.places.items) then [] else codes "::
 abbrev pub unlisted_annotation : List ℕ → List ℕ
 unlisted_annotation document = codes "::error::" ++ escaped escape.Data document ++ codes ": not in a sitemap\n"
 
--- the same for a name in its section; other sections have none
+-- the annotation of a name in its section; names in other sections have none
 abbrev pub name_annotation : Section → List ℕ → List ℕ
 name_annotation section.Broken text = []
 name_annotation section.Worst text = []

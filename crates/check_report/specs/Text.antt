@@ -84,12 +84,12 @@ wrong_of how b = message b.kind ++ advice how b
 abbrev pub counted : List ℕ → ℕ → List ℕ
 counted word n = word ++ decimal n
 
--- the same if there is a count, otherwise nothing
+-- a word and a count if there is a count, otherwise nothing
 abbrev pub counted_if : List ℕ → Option ℕ → List ℕ
 counted_if word None = []
 counted_if word (Some n) = counted word n
 
--- the same if the count is not 0, otherwise nothing
+-- a word and a count if the count is not 0, otherwise nothing
 abbrev pub counted_some : List ℕ → ℕ → List ℕ
 counted_some word n = if n == 0 then [] else counted word n
 
