@@ -8,4 +8,5 @@ pub mod Meaning
 pub mod Pages
 pub mod SiteTexts
 pub mod Sitemaps
+pub mod TaskPages
 pub mod WebTexts

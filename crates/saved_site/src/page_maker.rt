@@ -1,5 +1,8 @@
 //! Makes pages in threads, each of which reads the files of its pages.
-use crate::new_page::{NewPage, alias_page, empty_page, file_page, is_html, moved_page};
+ghost use Rattle.std.specs.Prelude.{◌≡◌, [], IfOk, IfSome};
+ghost use Rattle.saved_site.specs.TaskPages.{IsOwnPage, IsTaskPage, file_of, read_if};
+
+use crate::new_page::{NewPage, alias_page, empty_page, is_html, moved_page, read_page};
 use crate::page::PageSink;
 use crate::task::{Response, Task};
 use document_links::RawLinks;
@@ -119,7 +122,8 @@ impl<S: PageSink> PageMaker<S> {
             let Some(task) = tasks.get(number) else {
                 break;
             };
-            let page = maker.page_of(files, bytes, number, task)?;
+            let mut page = maker.page_of(files, bytes, number, task)?;
+            page.number = number;
             counter.add(maker.body.as_slice().len());
             counter.add(page.byte_count);
             maker = maker.with_new(page)?;
@@ -134,16 +138,16 @@ impl<S: PageSink> PageMaker<S> {
         bytes: &B,
         number: usize,
         task: &Task,
-    ) -> Result<NewPage, AllocError> {
+    ) -> Result<NewPage, AllocError>
+        ensures { IfOk result (λ new. IfSome new.page (IsTaskPage files.now (B.reads bytes.now) task.now.entry task.now.url)) }
+    {
         self.body.clear();
-        let mut page = match task.response(files) {
-            Response::Own(Some(file)) => self.page_in(files, bytes, number, task, file)?,
-            Response::Own(None) => empty_page(self.alloc, task)?,
-            Response::Alias(own) => alias_page(self.alloc, files, task, own)?,
-            Response::Moved(target) => moved_page(self.alloc, files, task, target)?,
-        };
-        page.number = number;
-        Ok(page)
+        match task.response(files) {
+            Response::Own(Some(file)) => self.page_in(files, bytes, number, task, file),
+            Response::Own(None) => empty_page(self.alloc, task),
+            Response::Alias(own) => alias_page(self.alloc, files, task, own),
+            Response::Moved(target) => moved_page(self.alloc, files, task, target),
+        }
     }
 
     /// Makes the page of the task with this number, whose links are in a file. If the file cannot be read, the page has no links.
@@ -154,14 +158,14 @@ impl<S: PageSink> PageMaker<S> {
         number: usize,
         task: &Task,
         file: SiteFile<'_>,
-    ) -> Result<NewPage, AllocError> {
+    ) -> Result<NewPage, AllocError>
+        requires { self.old.body ≡ [] }
+        ensures { IfOk result (λ new. IfSome new.page (IsOwnPage files.now (B.reads bytes.now) task.now.url (file_of file.entry))) }
+    {
         let is_read = self.read(bytes, number, file)?;
         let body = self.body.as_slice();
-        let mut page = if is_read {
-            file_page(self.alloc, files, task, file.kind, body, &mut self.room)?
-        } else {
-            empty_page(self.alloc, task)?
-        };
+        let read = is_read.then_some(body);
+        let mut page = read_page(self.alloc, files, task, file.kind, read, &mut self.room)?;
         page.is_document = is_html(file.kind, body);
         Ok(page)
     }
@@ -172,7 +176,10 @@ impl<S: PageSink> PageMaker<S> {
         bytes: &B,
         number: usize,
         file: SiteFile<'_>,
-    ) -> Result<bool, AllocError> {
+    ) -> Result<bool, AllocError>
+        requires { self.old.body ≡ [] }
+        ensures { IfOk result (λ is_read. B.reads bytes.now file.entry.index (read_if is_read self.new.body)) }
+    {
         let Some(left) = bytes.read(file, &mut self.body)? else {
             return Ok(true);
         };

@@ -1,4 +1,7 @@
 //! A page that is to be made.
+ghost use Rattle.std.specs.Prelude.{◌≡◌};
+ghost use Rattle.saved_site.specs.TaskPages.{answer_at, answer_of};
+
 use crawl_keys::CanonUrl;
 use site_files::{SiteFile, SiteFiles};
 
@@ -22,7 +25,9 @@ pub(crate) enum Response<'a> {
 
 impl Task {
     /// What a server returns for the URL of the page.
-    pub(crate) fn response<'a>(&self, files: &'a SiteFiles<'_>) -> Response<'a> {
+    pub(crate) fn response<'a>(&self, files: &'a SiteFiles<'_>) -> Response<'a>
+        ensures { answer_of result ≡ answer_at files.now self.now.entry self.now.url }
+    {
         if let Some(target) = files.moved_to(self.entry) {
             return Response::Moved(target);
         }
