@@ -6,6 +6,7 @@ pub mod Linked
 pub mod LinkedPages
 pub mod Meaning
 pub mod Pages
+pub mod Served
 pub mod SiteTexts
 pub mod Sitemaps
 pub mod TaskPages

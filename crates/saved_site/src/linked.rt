@@ -1,6 +1,7 @@
 //! The pages of a site as a source of a crawl. Their links are stored as indices of URLs.
 ghost use Rattle.std.specs.Prelude.{◌≡◌, IfOk, IfErr, flat_map};
 ghost use Rattle.saved_site.specs.Linked.{AreKept, IsSiteSource, page_at, page_with};
+ghost use Rattle.saved_site.specs.Served.{AreFoundOf};
 
 mod known_texts;
 mod link_table;
@@ -8,6 +9,7 @@ mod linked_page;
 mod linker;
 mod page_list;
 
+use crate::site_name::SiteName;
 use crawl_keys::CanonUrl;
 use crawl_pages::{Fetch, FetchError, Page};
 pub(crate) use linker::Linker;
@@ -34,13 +36,14 @@ impl Model for LinkedPages {
 
 impl LinkedPages {
     /// Returns the pages of the site with this top, which threads have made.
-    #[tactic(auto, using(crate::proofs::SiteSource::site_source))]
-    pub(crate) fn new(
+    #[tactic(auto, using(crate::proofs::SiteSource::site_source, crate::proofs::Parts::kept_found))]
+    pub(crate) fn new<K: SiteName>(
         alloc: Global,
         top: &str,
-        linkers: Vec<Linker>,
+        linkers: Vec<Linker<K>>,
     ) -> Result<LinkedPages, AllocError>
-        ensures { IfOk result (IsSiteSource top.now) }
+        ensures source { IfOk result (IsSiteSource top.now) }
+        ensures served { IfOk result (AreFoundOf K.serves) }
     {
         let parts = parts_of(alloc, top, linkers)?;
         Ok(LinkedPages { parts })
@@ -48,8 +51,12 @@ impl LinkedPages {
 }
 
 /// Returns the pages that threads have made, except those of another site.
-fn parts_of(alloc: Global, top: &str, linkers: Vec<Linker>) -> Result<Vec<Part>, AllocError>
-    ensures { IfOk result (λ parts. AreKept top.now (flat_map (λ part. part) parts.items)) }
+fn parts_of<K: SiteName>(
+    alloc: Global,
+    top: &str,
+    linkers: Vec<Linker<K>>,
+) -> Result<Vec<Part>, AllocError>
+    ensures { IfOk result (λ parts. AreKept K.serves top.now (flat_map (λ part. part) parts.items)) }
 {
     let mut parts = Vec::with_capacity(alloc, linkers.len())?;
     'linkers: for linker in linkers {

@@ -7,7 +7,8 @@ ghost use Rattle.saved_site.specs.Pages.{page_text};
 ghost use Rattle.saved_site.specs.WebTexts.{AreInOrder, IsPageText, last_url};
 
 use crate::below::is_next;
-use crate::page::{PageSink, SitePage};
+use crate::page::SitePage;
+use crate::page_sink::PageSink;
 use crawl_keys::CanonUrl;
 use std::alloc::{AllocError, Global};
 use std::io;
@@ -70,6 +71,9 @@ impl PageText {
 }
 
 impl PageSink for Vec<PageText> {
+    // Nothing is said of them.
+    ghost serves = { λ _. Unit {0} };
+
     fn empty(alloc: Global, _top: &str) -> Result<Vec<PageText>, AllocError> {
         Ok(Vec::new(alloc))
     }
