@@ -1,6 +1,7 @@
 -- Pages in parts, one after another.
-use Rattle.saved_site.proofs.Prelude.{◌≡◌, ℕ, ◌+◌, ◌<◌, List, [], ◌∷◌, ◌++◌, length, drop, get_or, Some, None, refl, sym, ap, subst, ◌∙◌, append-nil, arith, flat_map, option_or, unwrap_or, drop_more, flat_map-append, All-append, Page, PageFound, page_with, page_at, IsKept, AreKept}
+use Rattle.saved_site.proofs.Prelude.{◌≡◌, ℕ, ◌+◌, ◌<◌, List, [], ◌∷◌, ◌++◌, length, drop, get_or, Some, None, refl, sym, ap, subst, ◌∙◌, append-nil, arith, flat_map, option_or, unwrap_or, drop_more, flat_map-append, All-append, Page, PageFound, page_with, page_at, IsKept, AreKept, SitePage}
 use Rattle.crawl_pages.specs.declared.page.Page.TheVariants as page
+use Rattle.saved_site.specs.Served.{AreFoundOf}
 
 with-append : (front back : List PageFound) (url : List ℕ) → page_with (front ++ back) url ≡ option_or (page_with front url) (page_with back url)
 with-append [] back url = refl
@@ -16,11 +17,16 @@ found_part parts i part url x below is some = grind (arith, drop_more, with-appe
 
 -- ---- one part more
 
-pub parts_push : (top : List ℕ) (parts longer : List (List PageFound)) (part : List PageFound) → longer ≡ parts ++ part ∷ [] → AreKept top (flat_map (λ p. p) parts) → AreKept top part → AreKept top (flat_map (λ p. p) longer)
-parts_push top parts longer part is all own =
+pub parts_push : (serves : SitePage → Type 0) (top : List ℕ) (parts longer : List (List PageFound)) (part : List PageFound) → longer ≡ parts ++ part ∷ [] → AreKept serves top (flat_map (λ p. p) parts) → AreKept serves top part → AreKept serves top (flat_map (λ p. p) longer)
+parts_push serves top parts longer part is all own =
     let same : flat_map (λ p. p) longer ≡ flat_map (λ p. p) parts ++ part =
     ap (flat_map (λ p. p)) is ∙ flat_map-append (λ p. p) parts (part ∷ []) ∙ ap (λ (l : List PageFound). flat_map (λ p. p) parts ++ l) (append-nil part) in
-    subst (AreKept top) (sym same) (All-append (IsKept top) (flat_map (λ p. p) parts) part all own)
+    subst (AreKept serves top) (sym same) (All-append (IsKept serves top) (flat_map (λ p. p) parts) part all own)
+
+-- what is kept is found at the URL of a page that is served
+pub kept_found : (serves : SitePage → Type 0) (top : List ℕ) (pages : List PageFound) → AreKept serves top pages → AreFoundOf serves pages
+kept_found serves top pages kept =
+    λ k found within. record { page = (kept k found within).page; is = (kept k found within).is; served = (kept k found within).served }
 
 -- ---- the page at a URL
 

@@ -65,11 +65,11 @@ record Ordered (top : List ℕ) (pages : List PageFound) : Type 0 where
 same_under : (page : SitePage) (url : List ℕ) (b : Bool) (rest : Page) → bytes_eq page.url url ≡ b → (if b then under_page url page.under else rest) ≡ (if b then under_page page.url page.under else rest)
 same_under page url b rest is = grind (arith, bytes_eq-Decides)
 
-ordered : (top : List ℕ) (pages : List PageFound) → AreKept top pages → Ordered top pages
-ordered top [] kept = record { list = []; all = tt; up = tt; below = tt; same = λ url. refl }
-ordered top (found ∷ more) kept =
-    let own : IsKept top found = All-head (IsKept top) found more kept in
-    let rest : Ordered top more = ordered top more (All-tail (IsKept top) found more kept) in
+ordered : (serves : SitePage → Type 0) (top : List ℕ) (pages : List PageFound) → AreKept serves top pages → Ordered top pages
+ordered serves top [] kept = record { list = []; all = tt; up = tt; below = tt; same = λ url. refl }
+ordered serves top (found ∷ more) kept =
+    let own : IsKept serves top found = All-head (IsKept serves top) found more kept in
+    let rest : Ordered top more = ordered serves top more (All-tail (IsKept serves top) found more kept) in
     let page : SitePage = own.page in
     let keeps = and_parts (is_behind [] page.url) (is_below top page.url) own.kept in
     record {
@@ -84,9 +84,9 @@ ordered top (found ∷ more) kept =
           ∙ ap (λ (f : PageFound). page_at (f ∷ more) url) (sym own.is);
     }
 
-pub site_source : (top : List ℕ) (pages : List PageFound) → AreKept top pages → IsSiteSource top pages
-site_source top pages kept =
-    let o = ordered top pages kept in
+pub site_source : (serves : SitePage → Type 0) (top : List ℕ) (pages : List PageFound) → AreKept serves top pages → IsSiteSource top pages
+site_source serves top pages kept =
+    let o = ordered serves top pages kept in
     record {
       bytes = web_text o.list;
       web = site_web o.list o.all o.up;

@@ -3,7 +3,9 @@ ghost use Rattle.std.specs.Prelude.{◌≡◌, [], IfOk, IfSome};
 ghost use Rattle.saved_site.specs.TaskPages.{IsOwnPage, IsTaskPage, file_of, read_if};
 
 use crate::new_page::{NewPage, alias_page, empty_page, is_html, moved_page, read_page};
-use crate::page::PageSink;
+use crate::page::SitePage;
+use crate::page_sink::PageSink;
+use crate::site_reader::SiteReader;
 use crate::task::{Response, Task};
 use document_links::RawLinks;
 use site_files::{Body, FileBytes, Note, SiteFile, SiteFiles};
@@ -90,8 +92,7 @@ impl<S: PageSink> PageMaker<S> {
     /// Takes tasks and makes their pages, until no task is left or the batch has enough. A long file occupies only one thread.
     fn run<B: FileBytes>(
         self,
-        files: &SiteFiles<'_>,
-        bytes: &B,
+        site: &SiteReader<'_, '_, B, S>,
         tasks: &[Task],
         counter: &TaskCounter,
     ) -> Result<PageMaker<S>, AllocError> {
@@ -103,7 +104,7 @@ impl<S: PageSink> PageMaker<S> {
             if first >= tasks.len() {
                 break;
             }
-            maker = maker.with_block(files, bytes, tasks, first, counter)?;
+            maker = maker.with_block(site, tasks, first, counter)?;
         }
         Ok(maker)
     }
@@ -111,8 +112,7 @@ impl<S: PageSink> PageMaker<S> {
     /// Makes the pages of the block of tasks that begins with this number.
     fn with_block<B: FileBytes>(
         self,
-        files: &SiteFiles<'_>,
-        bytes: &B,
+        site: &SiteReader<'_, '_, B, S>,
         tasks: &[Task],
         first: usize,
         counter: &TaskCounter,
@@ -122,11 +122,11 @@ impl<S: PageSink> PageMaker<S> {
             let Some(task) = tasks.get(number) else {
                 break;
             };
-            let mut page = maker.page_of(files, bytes, number, task)?;
+            let mut page = maker.page_of(site, number, task)?;
             page.number = number;
             counter.add(maker.body.as_slice().len());
             counter.add(page.byte_count);
-            maker = maker.with_new(page)?;
+            maker = maker.with_new(site, task, page)?;
         }
         Ok(maker)
     }
@@ -134,16 +134,16 @@ impl<S: PageSink> PageMaker<S> {
     /// Makes the page of the task with this number.
     fn page_of<B: FileBytes>(
         &mut self,
-        files: &SiteFiles<'_>,
-        bytes: &B,
+        site: &SiteReader<'_, '_, B, S>,
         number: usize,
         task: &Task,
     ) -> Result<NewPage, AllocError>
-        ensures { IfOk result (λ new. IfSome new.page (IsTaskPage files.now (B.reads bytes.now) task.now.entry task.now.url)) }
+        ensures { IfOk result (λ new. IfSome new.page (IsTaskPage site.now.files.now (B.reads site.now.bytes.now) task.now.entry task.now.url)) }
     {
+        let files = site.files;
         self.body.clear();
         match task.response(files) {
-            Response::Own(Some(file)) => self.page_in(files, bytes, number, task, file),
+            Response::Own(Some(file)) => self.page_in(site, number, task, file),
             Response::Own(None) => empty_page(self.alloc, task),
             Response::Alias(own) => alias_page(self.alloc, files, task, own),
             Response::Moved(target) => moved_page(self.alloc, files, task, target),
@@ -153,19 +153,25 @@ impl<S: PageSink> PageMaker<S> {
     /// Makes the page of the task with this number, whose links are in a file. If the file cannot be read, the page has no links.
     fn page_in<B: FileBytes>(
         &mut self,
-        files: &SiteFiles<'_>,
-        bytes: &B,
+        site: &SiteReader<'_, '_, B, S>,
         number: usize,
         task: &Task,
         file: SiteFile<'_>,
     ) -> Result<NewPage, AllocError>
         requires { self.old.body ≡ [] }
-        ensures { IfOk result (λ new. IfSome new.page (IsOwnPage files.now (B.reads bytes.now) task.now.url (file_of file.entry))) }
+        ensures { IfOk result (λ new. IfSome new.page (IsOwnPage site.now.files.now (B.reads site.now.bytes.now) task.now.url (file_of file.entry))) }
     {
-        let is_read = self.read(bytes, number, file)?;
+        let is_read = self.read(site.bytes, number, file)?;
         let body = self.body.as_slice();
         let read = is_read.then_some(body);
-        let mut page = read_page(self.alloc, files, task, file.kind, read, &mut self.room)?;
+        let mut page = read_page(
+            self.alloc,
+            site.files,
+            task,
+            file.kind,
+            read,
+            &mut self.room,
+        )?;
         page.is_document = is_html(file.kind, body);
         Ok(page)
     }
@@ -190,19 +196,41 @@ impl<S: PageSink> PageMaker<S> {
         Ok(false)
     }
 
-    /// The same with a new page. The page itself goes into the sink.
-    fn with_new(self, new: NewPage) -> Result<PageMaker<S>, AllocError> {
+    /// The same with the new page of a task. The page itself goes into the sink.
+    fn with_new<B: FileBytes>(
+        self,
+        site: &SiteReader<'_, '_, B, S>,
+        task: &Task,
+        new: NewPage,
+    ) -> Result<PageMaker<S>, AllocError>
+        requires { IfSome new.page (IsTaskPage site.now.files.now (B.reads site.now.bytes.now) task.now.entry task.now.url) }
+    {
         let mut maker = self;
         let mut new = new;
         let page = new.page.take();
         maker.pages.push(new)?;
         match page {
-            Some(page) => {
-                let sink = maker.sink.with_page(page)?;
-                Ok(PageMaker { sink, ..maker })
-            }
+            Some(page) => maker.with_page(site, task, page),
             None => Ok(maker),
         }
+    }
+
+    /// The same with the page of a task in the sink.
+    fn with_page<B: FileBytes>(
+        self,
+        site: &SiteReader<'_, '_, B, S>,
+        task: &Task,
+        page: SitePage,
+    ) -> Result<PageMaker<S>, AllocError>
+        requires { IsTaskPage site.now.files.now (B.reads site.now.bytes.now) task.now.entry task.now.url page }
+    {
+        let maker = self;
+        let is_served = task.is_served(maker.alloc, site.files)?;
+        if !is_served {
+            return Ok(maker);
+        }
+        let sink = maker.sink.with_page(page)?;
+        Ok(PageMaker { sink, ..maker })
     }
 }
 
@@ -278,8 +306,7 @@ impl<S: PageSink> Batch<S> {
 /// Makes the pages of the first of these tasks, at least one if there is a maker. Each maker has its own thread.
 pub(crate) fn next_batch<R: Threads + Sync, B: FileBytes + Sync, S: PageSink>(
     rt: &R,
-    files: &SiteFiles<'_>,
-    bytes: &B,
+    site: &SiteReader<'_, '_, B, S>,
     tasks: &[Task],
     makers: Vec<PageMaker<S>>,
 ) -> Result<Batch<S>, AllocError> {
@@ -289,7 +316,7 @@ pub(crate) fn next_batch<R: Threads + Sync, B: FileBytes + Sync, S: PageSink>(
     let parts = thread::map_vec(
         rt,
         makers,
-        &|maker: PageMaker<S>| { maker.run(files, bytes, tasks, counter) },
+        &|maker: PageMaker<S>| { maker.run(site, tasks, counter) },
     )?;
     Batch::of(alloc, parts)
 }

@@ -1,7 +1,7 @@
 //! The pages of a site, and what is known of them.
 use crate::new_page::{NewPage, SiteAnchors};
-use crate::page::PageSink;
 use crate::page_maker::PageMaker;
+use crate::page_sink::PageSink;
 use crawl_keys::CanonUrl;
 use document_links::{InvalidLink, LinkPlaces, PageAnchors};
 use site_files::{Alias, Note};

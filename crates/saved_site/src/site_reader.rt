@@ -7,6 +7,7 @@ use site_files::{FileBytes, SiteFiles};
 use std::marker::PhantomData;
 
 /// The files of a site, and what reads them. The sinks take each page that a server returns for its URL.
+#[derive(Drop)]
 pub(crate) struct SiteReader<'a, 'f, B: FileBytes, S: PageSink> {
     pub(crate) files: &'a SiteFiles<'f>,
     pub(crate) bytes: &'a B,
