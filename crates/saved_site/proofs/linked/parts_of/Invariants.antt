@@ -2,4 +2,4 @@ use Rattle.saved_site.proofs.Prelude.{flat_map, AreKept}
 use Rattle.saved_site.proofs.linked.parts_of.Given as goal
 
 abbrev pub invariant-linkers : goal.invariant-linkers
-invariant-linkers l = AreKept l.top (flat_map (λ part. part) l.parts.items)
+invariant-linkers g l = AreKept g.K.SiteName.serves l.top (flat_map (λ part. part) l.parts.items)
