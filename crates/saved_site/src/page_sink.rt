@@ -1,8 +1,8 @@
-//! Where the pages of a thread go.
+//! The pages of a thread, in the form that is needed of them.
 use crate::page::SitePage;
 use std::alloc::{AllocError, Global};
 
-/// The pages that one thread makes, in the form that is needed of them.
+/// Takes the pages that one thread makes.
 pub(crate) trait PageSink: Send + Sync + Drop {
     ghost use Rattle.saved_site.specs.declared.page.SitePage.{SitePage};
 
