@@ -1,7 +1,7 @@
 //! The pages of a site as a source of a crawl. Their links are stored as indices of URLs.
 ghost use Rattle.std.specs.Prelude.{◌≡◌, IfOk, IfErr, flat_map};
 ghost use Rattle.saved_site.specs.Linked.{AreKept, IsSiteSource, page_at, page_with};
-ghost use Rattle.saved_site.specs.Served.{AreFoundOf};
+ghost use Rattle.saved_site.specs.Served.{AreServed};
 
 mod known_texts;
 mod link_table;
@@ -36,14 +36,14 @@ impl Model for LinkedPages {
 
 impl LinkedPages {
     /// Returns the pages of the site with this top, which threads have made.
-    #[tactic(auto, using(crate::proofs::SiteSource::site_source, crate::proofs::Parts::kept_found))]
+    #[tactic(auto, using(crate::proofs::SiteSource::site_source, crate::proofs::Parts::kept_served))]
     pub(crate) fn new<K: SiteName>(
         alloc: Global,
         top: &str,
         linkers: Vec<Linker<K>>,
     ) -> Result<LinkedPages, AllocError>
         ensures source { IfOk result (IsSiteSource top.now) }
-        ensures served { IfOk result (AreFoundOf K.serves) }
+        ensures served { IfOk result (λ pages. AreServed K.serves (page_at pages)) }
     {
         let parts = parts_of(alloc, top, linkers)?;
         Ok(LinkedPages { parts })
