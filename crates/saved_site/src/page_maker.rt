@@ -269,11 +269,11 @@ impl<S: PageSink> Batch<S> {
     /// The pages that threads made.
     fn of(
         alloc: Global,
-        parts: Vec<Result<PageMaker<S>, AllocError>>,
+        made: Vec<Result<PageMaker<S>, AllocError>>,
     ) -> Result<Batch<S>, AllocError> {
         let mut batch = Batch::new(alloc);
-        for part in parts {
-            batch.makers.push(part?)?;
+        for maker in made {
+            batch.makers.push(maker?)?;
         }
         batch.take_pages()?;
         Ok(batch)
@@ -313,10 +313,10 @@ pub(crate) fn next_batch<R: Threads + Sync, B: FileBytes + Sync, S: PageSink>(
     let alloc = *makers.allocator();
     let counter = TaskCounter::new();
     let counter = &counter;
-    let parts = thread::map_vec(
+    let made = thread::map_vec(
         rt,
         makers,
         &|maker: PageMaker<S>| { maker.run(site, tasks, counter) },
     )?;
-    Batch::of(alloc, parts)
+    Batch::of(alloc, made)
 }

@@ -72,8 +72,8 @@ pub fn site_web<R: Threads + Sync, B: FileBytes + Sync>(
 {
     let site = SiteReader::new(files, bytes);
     let data = data_of(rt, alloc, &site, seeds)?;
-    let SiteData { parts, notes, .. } = data;
-    let text = WebText::new(alloc, files.top(), parts)?;
+    let SiteData { sinks, notes, .. } = data;
+    let text = WebText::new(alloc, files.top(), sinks)?;
     Ok(Web { text, notes })
 }
 
@@ -135,7 +135,7 @@ fn linked_site<K: SiteName>(
     ensures sitemaps { IfOk result (λ site. site.has_sitemap ≡ not (length (named_sitemaps files.now) == 0)) }
 {
     let SiteData {
-        parts,
+        sinks,
         notes,
         aliases,
         documents,
@@ -143,7 +143,7 @@ fn linked_site<K: SiteName>(
         places,
         ..
     } = data;
-    let pages = LinkedPages::new(alloc, files.top(), parts)?;
+    let pages = LinkedPages::new(alloc, files.top(), sinks)?;
     let aliases = aliases_among(alloc, &pages, aliases)?;
     let listed = ListedUrls::new(alloc, files, &pages)?;
     Ok(LinkedSite {
@@ -169,7 +169,7 @@ fn data_of<R: Threads + Sync, B: FileBytes + Sync, S: PageSink>(
 {
     let files = site.files;
     let mut data = SiteData::new(alloc);
-    files.copy_doubles(&mut data.notes)?;
+    files.copy_notes(&mut data.notes)?;
     let mut queue = TaskQueue::new(alloc, files, seeds)?;
     make_all(rt, site, &mut queue, &mut data)?;
     Ok(data)

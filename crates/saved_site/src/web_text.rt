@@ -108,15 +108,15 @@ impl WebText {
     pub(crate) fn new(
         alloc: Global,
         top: &str,
-        parts: Vec<Vec<PageText>>,
+        made: Vec<Vec<PageText>>,
     ) -> Result<WebText, AllocError>
         ensures web { IfOk result IsSiteWeb }
         ensures below { IfOk result (IsWebBelow top.now) }
     {
         let mut pages = Vec::new(alloc);
-        for part in parts {
-            let mut part = part;
-            pages.append(&mut part)?;
+        for of_thread in made {
+            let mut of_thread = of_thread;
+            pages.append(&mut of_thread)?;
         }
         pages.sort_by(|a: &PageText, b: &PageText| a.url().as_str().cmp(b.url().as_str()))?;
         let pages = in_order(alloc, top, pages)?;

@@ -10,7 +10,7 @@ ghost use Rattle.saved_site.specs.Meaning.{under_page};
 use crate::below::is_next;
 use crate::linked::link_table::LinkTable;
 use crate::linked::linked_page::LinkedPage;
-use crate::linked::page_list::{PageList, Part};
+use crate::linked::page_list::{PageList, ThreadPages};
 use crate::page::SitePage;
 use crate::page_sink::PageSink;
 use crate::site_name::SiteName;
@@ -114,13 +114,13 @@ impl<K: SiteName> Linker<K> {
     }
 
     /// Its pages.
-    pub(crate) fn into_part(self) -> Part
+    pub(crate) fn into_pages(self) -> ThreadPages
         ensures pages { result ≡ self.1 }
         ensures kept { AreKept K.serves self.0 result }
     {
         let Linker { table, pages, .. } = self;
         let LinkTable { urls, .. } = table;
-        Part::new(urls.into_urls(), pages)
+        ThreadPages::new(urls.into_urls(), pages)
     }
 }
 

@@ -1,4 +1,4 @@
--- Pages in parts, one after another.
+-- The pages of threads, one after another.
 use Rattle.saved_site.proofs.Prelude.{◌≡◌, ℕ, ◌+◌, ◌<◌, Bool, true, false, List, [], ◌∷◌, ◌++◌, length, drop, get_or, Some, None, refl, sym, ap, subst, ◌∙◌, append-nil, arith, if◌then◌else◌, bytes_eq, flat_map, option_or, unwrap_or, drop_more, flat_map-append, bytes_eq-Decides, All-append, All-head, All-tail, Page, PageFound, page_with, page_at, under_page, IsKept, AreKept, SitePage}
 use Rattle.std.proofs.Common.{◌⊎◌, inl, inr}
 use Rattle.crawl_pages.specs.declared.page.Page.TheVariants as page
@@ -8,21 +8,21 @@ with-append : (front back : List PageFound) (url : List ℕ) → page_with (fron
 with-append [] back url = refl
 with-append (first ∷ more) back url = grind (arith, with-append more back url)
 
--- a part without the URL is passed over
-pub passed_part : (parts : List (List PageFound)) (i : ℕ) (part : List PageFound) (url : List ℕ) → i < length parts → part ≡ get_or parts i part → None ≡ page_with part url → page_with (flat_map (λ p. p) (drop (i + 1) parts)) url ≡ page_with (flat_map (λ p. p) (drop i parts)) url
-passed_part parts i part url below is none = grind (arith, drop_more, with-append)
+-- a thread without the URL is passed over
+pub passed_thread : (threads : List (List PageFound)) (i : ℕ) (made : List PageFound) (url : List ℕ) → i < length threads → made ≡ get_or threads i made → None ≡ page_with made url → page_with (flat_map (λ p. p) (drop (i + 1) threads)) url ≡ page_with (flat_map (λ p. p) (drop i threads)) url
+passed_thread threads i made url below is none = grind (arith, drop_more, with-append)
 
--- a part with the URL has the page
-pub found_part : (parts : List (List PageFound)) (i : ℕ) (part : List PageFound) (url : List ℕ) (x : Page) → i < length parts → part ≡ get_or parts i part → Some x ≡ page_with part url → page_with (flat_map (λ p. p) (drop i parts)) url ≡ Some x
-found_part parts i part url x below is some = grind (arith, drop_more, with-append)
+-- a thread with the URL has the page
+pub found_thread : (threads : List (List PageFound)) (i : ℕ) (made : List PageFound) (url : List ℕ) (x : Page) → i < length threads → made ≡ get_or threads i made → Some x ≡ page_with made url → page_with (flat_map (λ p. p) (drop i threads)) url ≡ Some x
+found_thread threads i made url x below is some = grind (arith, drop_more, with-append)
 
--- ---- one part more
+-- ---- one thread more
 
-pub parts_push : (serves : SitePage → Type 0) (top : List ℕ) (parts longer : List (List PageFound)) (part : List PageFound) → longer ≡ parts ++ part ∷ [] → AreKept serves top (flat_map (λ p. p) parts) → AreKept serves top part → AreKept serves top (flat_map (λ p. p) longer)
-parts_push serves top parts longer part is all own =
-    let same : flat_map (λ p. p) longer ≡ flat_map (λ p. p) parts ++ part =
-    ap (flat_map (λ p. p)) is ∙ flat_map-append (λ p. p) parts (part ∷ []) ∙ ap (λ (l : List PageFound). flat_map (λ p. p) parts ++ l) (append-nil part) in
-    subst (AreKept serves top) (sym same) (All-append (IsKept serves top) (flat_map (λ p. p) parts) part all own)
+pub threads_push : (serves : SitePage → Type 0) (top : List ℕ) (threads longer : List (List PageFound)) (made : List PageFound) → longer ≡ threads ++ made ∷ [] → AreKept serves top (flat_map (λ p. p) threads) → AreKept serves top made → AreKept serves top (flat_map (λ p. p) longer)
+threads_push serves top threads longer made is all own =
+    let same : flat_map (λ p. p) longer ≡ flat_map (λ p. p) threads ++ made =
+    ap (flat_map (λ p. p)) is ∙ flat_map-append (λ p. p) threads (made ∷ []) ∙ ap (λ (l : List PageFound). flat_map (λ p. p) threads ++ l) (append-nil made) in
+    subst (AreKept serves top) (sym same) (All-append (IsKept serves top) (flat_map (λ p. p) threads) made all own)
 
 -- what is found at a URL is a page that is served
 pub kept_served : (serves : SitePage → Type 0) (top : List ℕ) (pages : List PageFound) → AreKept serves top pages → AreServed serves (page_at pages)

@@ -1,5 +1,5 @@
 use Rattle.saved_site.proofs.Prelude.{◌≡◌, ℕ, List, string_bytes, sym, ap, subst, ◌∙◌, PageFound, AreKept, found_all}
-use Rattle.saved_site.proofs.linked.linker.Linker.into_part.Goals as goal
+use Rattle.saved_site.proofs.linked.linker.Linker.into_pages.Goals as goal
 
 pub returns-clause-kept : goal.returns-clause-kept
 returns-clause-kept g c =
