@@ -1,6 +1,6 @@
 -- The pages of threads, one after another.
 use Rattle.saved_site.proofs.Prelude.{◌≡◌, ℕ, ◌+◌, ◌<◌, Bool, true, false, List, [], ◌∷◌, ◌++◌, length, drop, get_or, Some, None, refl, sym, ap, subst, ◌∙◌, append-nil, arith, if◌then◌else◌, bytes_eq, flat_map, option_or, unwrap_or, drop_more, flat_map-append, bytes_eq-Decides, All-append, All-head, All-tail, Page, PageFound, page_with, page_at, under_page, IsKept, AreKept, SitePage}
-use Rattle.std.proofs.Common.{◌⊎◌, inl, inr}
+use Rattle.std.specs.Option.{IfSome}
 use Rattle.crawl_pages.specs.declared.page.Page.TheVariants as page
 use Rattle.saved_site.specs.Served.{AreServed, IsServedAt}
 
@@ -25,20 +25,20 @@ threads_push serves top threads longer made is all own =
     subst (AreKept serves top) (sym same) (All-append (IsKept serves top) (flat_map (λ p. p) threads) made all own)
 
 -- what is found at a URL is a page that is served
-pub kept_served : (serves : SitePage → Type 0) (top : List ℕ) (pages : List PageFound) → AreKept serves top pages → AreServed serves (page_at pages)
-kept_served serves top [] kept url = inl refl
+pub kept_served : (serves : SitePage → Type 0) (top : List ℕ) (pages : List PageFound) → AreKept serves top pages → AreServed serves pages
+kept_served serves top [] kept url = tt
 kept_served serves top (found ∷ more) kept url =
     by_test (bytes_eq found.0 url) refl (All-head (IsKept serves top) found more kept) (kept_served serves top more (All-tail (IsKept serves top) found more kept) url)
   where
-    by_test : (b : Bool) → bytes_eq found.0 url ≡ b → IsKept serves top found → ((page_at more url ≡ page.Missing) ⊎ IsServedAt serves url (page_at more url)) → (((if b then found.1 else page_at more url) ≡ page.Missing) ⊎ IsServedAt serves url (if b then found.1 else page_at more url))
+    by_test : (b : Bool) → bytes_eq found.0 url ≡ b → IsKept serves top found → IfSome (page_with more url) (IsServedAt serves url) → IfSome (if b then Some found.1 else page_with more url) (IsServedAt serves url)
     by_test true same own rest =
         let at : own.page.url ≡ url = sym (ap (λ (f : PageFound). f.0) own.is) ∙ (bytes_eq-Decides found.0 url).0 same in
-        inr (record {
+        record {
           page = own.page;
           own = at;
           is = ap (λ (f : PageFound). f.1) own.is ∙ ap (λ (u : List ℕ). under_page u own.page.under) at;
           served = own.served;
-        })
+        }
     by_test false same own rest = rest
 
 -- ---- the page at a URL

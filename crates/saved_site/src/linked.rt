@@ -43,7 +43,7 @@ impl LinkedPages {
         linkers: Vec<Linker<K>>,
     ) -> Result<LinkedPages, AllocError>
         ensures source { IfOk result (IsSiteSource top.now) }
-        ensures served { IfOk result (λ pages. AreServed K.serves (page_at pages)) }
+        ensures served { IfOk result (AreServed K.serves) }
     {
         let threads = kept_pages(alloc, top, linkers)?;
         Ok(LinkedPages { threads })

@@ -2,7 +2,7 @@
 ghost use Rattle.std.specs.Prelude.{◌≡◌, ◌==◌, IfErr, IfOk, length, not, string_bytes};
 ghost use Rattle.saved_site.specs.Aliases.{AreAliases};
 ghost use Rattle.saved_site.specs.Below.{IsWebBelow};
-ghost use Rattle.saved_site.specs.Linked.{IsSiteSource, page_at};
+ghost use Rattle.saved_site.specs.Linked.{IsSiteSource};
 ghost use Rattle.saved_site.specs.Meaning.{IsOfWeb, IsSiteWeb};
 ghost use Rattle.saved_site.specs.Served.{AreServed, IsServedPage};
 ghost use Rattle.saved_site.specs.Sitemaps.{AreListed, named_sitemaps};
@@ -90,7 +90,7 @@ pub fn site_pages<R: Threads + Sync, B: FileBytes + Sync>(
 ) -> Result<LinkedSite, SiteError>
     ensures source { IfOk result (λ site. IsSiteSource (string_bytes files.now.site.top) site.pages) }
     // Each page is the one that a server returns for its URL.
-    ensures served { IfOk result (λ site. AreServed (IsServedPage files.now (B.reads bytes.now)) (page_at site.pages)) }
+    ensures served { IfOk result (λ site. AreServed (IsServedPage files.now (B.reads bytes.now)) site.pages) }
     ensures aliases { IfOk result (λ site. AreAliases site.pages site.aliases.items) }
     // The URLs that sitemaps list are the links of their pages.
     ensures listed { IfOk result (λ site. AreListed files.now site.pages site.listed.items) }
@@ -110,7 +110,7 @@ fn named_pages<K: SiteName, R: Threads + Sync, B: FileBytes + Sync>(
 ) -> Result<LinkedSite, SiteError>
     requires { (page : SitePage) → IsServedPage files.now (B.reads bytes.now) page → K.serves page }
     ensures source { IfOk result (λ site. IsSiteSource (string_bytes files.now.site.top) site.pages) }
-    ensures served { IfOk result (λ site. AreServed K.serves (page_at site.pages)) }
+    ensures served { IfOk result (λ site. AreServed K.serves site.pages) }
     ensures aliases { IfOk result (λ site. AreAliases site.pages site.aliases.items) }
     ensures listed { IfOk result (λ site. AreListed files.now site.pages site.listed.items) }
     ensures sitemaps { IfOk result (λ site. site.has_sitemap ≡ not (length (named_sitemaps files.now) == 0)) }
@@ -129,7 +129,7 @@ fn linked_site<K: SiteName>(
     data: SiteData<Linker<K>>,
 ) -> Result<LinkedSite, AllocError>
     ensures source { IfOk result (λ site. IsSiteSource (string_bytes files.now.site.top) site.pages) }
-    ensures served { IfOk result (λ site. AreServed K.serves (page_at site.pages)) }
+    ensures served { IfOk result (λ site. AreServed K.serves site.pages) }
     ensures aliases { IfOk result (λ site. AreAliases site.pages site.aliases.items) }
     ensures listed { IfOk result (λ site. AreListed files.now site.pages site.listed.items) }
     ensures sitemaps { IfOk result (λ site. site.has_sitemap ≡ not (length (named_sitemaps files.now) == 0)) }
