@@ -42,7 +42,7 @@ pub record IsKept (serves : SitePage → Type 0) (top : List ℕ) (found : PageF
   pub is : found ≡ found_of page
   pub owes : IsPage page
   pub kept : is_next top [] page.url ≡ true
-  pub served : serves page
+  pub served : ∥ serves page ∥₁
 
 abbrev pub AreKept : (SitePage → Type 0) → List ℕ → List PageFound → Type 0
 AreKept serves top pages = All (IsKept serves top) pages

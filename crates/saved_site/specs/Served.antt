@@ -21,7 +21,7 @@ pub record IsServedAt (serves : SitePage → Type 0) (url : List ℕ) (found : P
   pub page : SitePage
   pub own : page.url ≡ url
   pub is : found ≡ under_page url page.under
-  pub served : serves page
+  pub served : ∥ serves page ∥₁
 
 -- at each URL, if something is found there
 abbrev pub AreServed : (SitePage → Type 0) → List PageFound → Type 0

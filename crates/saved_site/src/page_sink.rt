@@ -14,5 +14,5 @@ pub(crate) trait PageSink: Send + Sync + Drop {
 
     /// The same with one more page.
     fn with_page(self, page: SitePage) -> Result<Self, AllocError>
-        requires { serves page };
+        requires { ∥ serves page ∥₁ };
 }

@@ -12,13 +12,13 @@ pub(crate) struct SiteReader<'a, 'f, B: FileBytes, S: PageSink> {
     pub(crate) files: &'a SiteFiles<'f>,
     pub(crate) bytes: &'a B,
     sinks: PhantomData<S>,
-    ghost taken: { (page : SitePage) → IsServedPage files.now (B.reads bytes.now) page → S.serves page },
+    ghost taken: { (page : SitePage) → IsServedPage files.now (B.reads bytes.now) page → ∥ S.serves page ∥₁ },
 }
 
 impl<'a, 'f, B: FileBytes, S: PageSink> SiteReader<'a, 'f, B, S> {
     /// These files, which are read by this.
     pub(crate) fn new(files: &'a SiteFiles<'f>, bytes: &'a B) -> SiteReader<'a, 'f, B, S>
-        requires { (page : SitePage) → IsServedPage files.now (B.reads bytes.now) page → S.serves page }
+        requires { (page : SitePage) → IsServedPage files.now (B.reads bytes.now) page → ∥ S.serves page ∥₁ }
         ensures files { result.files.now ≡ files.now }
     {
         SiteReader {

@@ -108,7 +108,7 @@ fn named_pages<K: SiteName, R: Threads + Sync, B: FileBytes + Sync>(
     seeds: &[String],
     bytes: &B,
 ) -> Result<LinkedSite, SiteError>
-    requires { (page : SitePage) → IsServedPage files.now (B.reads bytes.now) page → K.serves page }
+    requires { (page : SitePage) → IsServedPage files.now (B.reads bytes.now) page → ∥ K.serves page ∥₁ }
     ensures source { IfOk result (λ site. IsSiteSource (string_bytes files.now.site.top) site.pages) }
     ensures served { IfOk result (λ site. AreServed K.serves site.pages) }
     ensures aliases { IfOk result (λ site. AreAliases site.pages site.aliases.items) }

@@ -79,7 +79,7 @@ impl<K: SiteName> Linker<K> {
     /// The same with a page below the top.
     fn with_kept(self, page: &SitePage) -> Result<Linker<K>, AllocError>
         requires kept { is_next self.0 [] page.now.url ≡ true }
-        requires served { K.serves page.now }
+        requires served { ∥ K.serves page.now ∥₁ }
         ensures { IfOk result (λ linker. linker ≡ (self.0, with_found self.0 self.1 (found_of page.now))) }
     {
         // For the proof: the page fits in lines.
