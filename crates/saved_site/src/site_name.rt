@@ -2,7 +2,7 @@
 use std::marker::Brand;
 
 /// A type that means one site in contracts, since a type can name only types.
-pub(crate) trait SiteName: Send + Sync {
+pub(crate) trait SiteName {
     ghost use Rattle.saved_site.specs.declared.page.SitePage.{SitePage};
 
     /// The pages that a server returns for their URLs.

@@ -1,4 +1,5 @@
 //! The files of a site, and what reads them.
+ghost use Rattle.std.specs.Prelude.{◌≡◌};
 ghost use Rattle.saved_site.specs.Served.{IsServedPage};
 ghost use Rattle.saved_site.specs.declared.page.SitePage.{SitePage};
 
@@ -18,7 +19,7 @@ pub(crate) struct SiteReader<'a, 'f, B: FileBytes, S: PageSink> {
 impl<'a, 'f, B: FileBytes, S: PageSink> SiteReader<'a, 'f, B, S> {
     /// These files, which are read by this.
     pub(crate) fn new(files: &'a SiteFiles<'f>, bytes: &'a B) -> SiteReader<'a, 'f, B, S>
-        requires { (page : SitePage) → IsServedPage files.now (B.reads bytes.now) page → ∥ S.serves page ∥₁ }
+        requires { (page : SitePage) → IsServedPage files.now (B.reads bytes.now) page → S.serves page }
         ensures files { result.files.now ≡ files.now }
     {
         SiteReader {

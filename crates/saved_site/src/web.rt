@@ -101,14 +101,14 @@ pub fn site_pages<R: Threads + Sync, B: FileBytes + Sync>(
 }
 
 /// Makes these pages, with a name for the site.
-fn named_pages<K: SiteName, R: Threads + Sync, B: FileBytes + Sync>(
+fn named_pages<K: SiteName + Send + Sync, R: Threads + Sync, B: FileBytes + Sync>(
     rt: &R,
     alloc: Global,
     files: &SiteFiles<'_>,
     seeds: &[String],
     bytes: &B,
 ) -> Result<LinkedSite, SiteError>
-    requires { (page : SitePage) → IsServedPage files.now (B.reads bytes.now) page → ∥ K.serves page ∥₁ }
+    requires { (page : SitePage) → IsServedPage files.now (B.reads bytes.now) page → K.serves page }
     ensures source { IfOk result (λ site. IsSiteSource (string_bytes files.now.site.top) site.pages) }
     ensures served { IfOk result (λ site. AreServed K.serves site.pages) }
     ensures aliases { IfOk result (λ site. AreAliases site.pages site.aliases.items) }

@@ -46,7 +46,7 @@ impl<K: SiteName> Model for Linker<K> {
     ghost invariant = { λ linker. IsTable linker.last linker.table × (IsPageList linker.pages × (AreLed linker.table.urls linker.pages.list.items × AreKept K.serves (string_bytes linker.top) (found_all linker.table.urls linker.pages.list.items))) };
 }
 
-impl<K: SiteName> PageSink for Linker<K> {
+impl<K: SiteName + Send + Sync> PageSink for Linker<K> {
     ghost serves = { K.serves };
 
     fn empty(alloc: Global, top: &str) -> Result<Linker<K>, AllocError>
