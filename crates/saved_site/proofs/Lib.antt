@@ -7,6 +7,7 @@ pub mod LinkIndices
 pub mod ListedUrls
 pub mod Linkers
 pub mod Says
+pub mod SiteLaws
 pub mod SiteSource
 pub mod SiteTexts
 pub mod Sound

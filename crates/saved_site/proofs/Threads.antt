@@ -1,5 +1,5 @@
 -- The pages of threads, one after another.
-use Rattle.saved_site.proofs.Prelude.{◌≡◌, ℕ, ◌+◌, ◌<◌, Bool, true, false, List, [], ◌∷◌, ◌++◌, length, drop, get_or, Some, None, refl, sym, ap, subst, ◌∙◌, append-nil, arith, if◌then◌else◌, bytes_eq, flat_map, option_or, unwrap_or, drop_more, flat_map-append, bytes_eq-Decides, All-append, All-head, All-tail, Page, PageFound, page_with, page_at, under_page, IsKept, AreKept, SitePage}
+use Rattle.saved_site.proofs.Prelude.{◌≡◌, ℕ, ◌+◌, ◌<◌, Bool, true, false, List, [], ◌∷◌, ◌++◌, length, drop, get_or, Some, None, is_some, refl, sym, ap, subst, ◌∙◌, append-nil, arith, if◌then◌else◌, bytes_eq, flat_map, option_or, unwrap_or, drop_more, flat_map-append, bytes_eq-Decides, All-append, All-head, All-tail, Page, PageFound, page_with, page_at, under_page, IsKept, AreKept, SitePage}
 use Rattle.std.specs.Option.{IfSome}
 use Rattle.crawl_pages.specs.declared.page.Page.TheVariants as page
 use Rattle.saved_site.specs.Served.{AreServed, IsServedAt}
@@ -15,6 +15,12 @@ passed_thread threads i made url below is none = grind (arith, drop_more, with-a
 -- a thread with the URL has the page
 pub found_thread : (threads : List (List PageFound)) (i : ℕ) (made : List PageFound) (url : List ℕ) (x : Page) → i < length threads → made ≡ get_or threads i made → Some x ≡ page_with made url → page_with (flat_map (λ p. p) (drop i threads)) url ≡ Some x
 found_thread threads i made url x below is some = grind (arith, drop_more, with-append)
+
+pub has_passed : (threads : List (List PageFound)) (i : ℕ) (made : List PageFound) (url : List ℕ) → i < length threads → made ≡ get_or threads i made → false ≡ is_some (page_with made url) → is_some (page_with (flat_map (λ p. p) (drop (i + 1) threads)) url) ≡ is_some (page_with (flat_map (λ p. p) (drop i threads)) url)
+has_passed threads i made url below is none = grind (arith, drop_more, with-append)
+
+pub has_there : (threads : List (List PageFound)) (i : ℕ) (made : List PageFound) (url : List ℕ) → i < length threads → made ≡ get_or threads i made → true ≡ is_some (page_with made url) → is_some (page_with (flat_map (λ p. p) (drop i threads)) url) ≡ true
+has_there threads i made url below is some = grind (arith, drop_more, with-append)
 
 -- ---- one thread more
 

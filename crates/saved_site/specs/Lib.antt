@@ -1,4 +1,5 @@
 pub mod Aliases
+pub mod AllPages
 pub mod Below
 pub mod FileLinks
 pub mod LinkTables

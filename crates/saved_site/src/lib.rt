@@ -3,8 +3,10 @@
 #![tactic(auto)]
 
 mod aliases;
+mod all_pages;
 mod below;
 mod file_document;
+pub mod laws;
 mod linked;
 mod new_page;
 mod on_disk;
@@ -22,6 +24,7 @@ mod tasks;
 mod web;
 mod web_text;
 
+pub use all_pages::has_all_pages;
 pub use linked::LinkedPages;
 pub use on_disk::OnDisk;
 pub use page::{LineText, SitePage, Under};

@@ -1,5 +1,5 @@
 //! The pages of a site as a source of a crawl. Their links are stored as indices of URLs.
-ghost use Rattle.std.specs.Prelude.{◌≡◌, IfOk, IfErr, flat_map};
+ghost use Rattle.std.specs.Prelude.{◌≡◌, IfOk, IfErr, flat_map, is_some};
 ghost use Rattle.saved_site.specs.Linked.{AreKept, IsSiteSource, page_at, page_with};
 ghost use Rattle.saved_site.specs.Served.{AreServed};
 
@@ -48,6 +48,26 @@ impl LinkedPages {
         let threads = kept_pages(alloc, top, linkers)?;
         Ok(LinkedPages { threads })
     }
+
+    /// Whether there is a page at the URL.
+    pub(crate) fn has(&self, url: &CanonUrl) -> bool
+        ensures { result ≡ is_some (page_with self.now url.now) }
+    {
+        has_page(self.threads.as_slice(), url)
+    }
+}
+
+/// Whether one of the threads has a page at the URL.
+#[tactic(auto, using(crate::proofs::Threads::has_passed, crate::proofs::Threads::has_there))]
+fn has_page(threads: &[ThreadPages], url: &CanonUrl) -> bool
+    ensures { result ≡ is_some (page_with (flat_map (λ made. made) threads.now) url.now) }
+{
+    'threads: for made in threads {
+        if made.has(url) {
+            return true;
+        }
+    }
+    false
 }
 
 /// Returns the pages that threads have made, except those of another site.

@@ -49,6 +49,14 @@ impl PageList {
         Ok(PageList { list, index })
     }
 
+    /// Whether there is a page with the URL.
+    pub(crate) fn has(&self, url: &CanonUrl) -> bool
+        requires { IsPageList self.now }
+        ensures { result ≡ is_some (index_of (urls_of self.now.list.items) url.now) }
+    {
+        self.index.find(&self.list, url).is_some()
+    }
+
     /// The page with the URL, whose links have these URLs.
     #[tactic(auto, using(crate::proofs::LedPages::none_there))]
     pub(crate) fn page(
@@ -101,6 +109,14 @@ impl ThreadPages {
         ensures { result ≡ found_all urls.items pages.list.items }
     {
         ThreadPages { urls, pages }
+    }
+
+    /// Whether there is a page at the URL.
+    #[tactic(auto, using(crate::proofs::LedPages::has_found))]
+    pub(crate) fn has(&self, url: &CanonUrl) -> bool
+        ensures { result ≡ is_some (page_with self.now url.now) }
+    {
+        self.pages.has(url)
     }
 
     /// The page at the URL, if there is one.
