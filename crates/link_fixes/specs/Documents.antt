@@ -7,7 +7,7 @@ use Rattle.link_fixes.specs.Edits.{fixed_text}
 use Rattle.link_fixes.specs.Links.{all_lead_on}
 
 -- the new document is the old one after some edits, and each of its links leads where the one with the same index in the old document
--- led, or to where that is moved. What the links of a document are, `document_links` says
+-- led, or to the URL of a move. What the links of a document are, `document_links` says
 pub record IsFixed (input : FixInput) (old new : List ℕ) : Type 0 where
   pub edits : List Edit
   pub text : new ≡ fixed_text old edits

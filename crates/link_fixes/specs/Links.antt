@@ -5,13 +5,13 @@ use Rattle.crawl_keys.specs.CanonicalText.{resolve}
 use Rattle.link_fixes.specs.declared.moves.Move.{Move}
 use Rattle.link_fixes.specs.Moves.{moves_to}
 
--- a link leads to the same URL as before, or to where that is moved
+-- a link leads to the same URL as before, or to that of a move
 abbrev pub is_moved : List Move → Option (List ℕ) → Option (List ℕ) → Bool
 is_moved moves (Some from) (Some to) = bytes_eq from to || moves_to moves from to
 is_moved moves (Some from) None = false
 is_moved moves None to = false
 
--- the new text of a link on a page is the old one, or leads where the old one led or to where that is moved
+-- the new text of a link on a page is the old one, or has its URL or that of a move of it
 abbrev pub leads_on : List ℕ → List Move → List ℕ → List ℕ → Bool
 leads_on page moves old new = bytes_eq old new || is_moved moves (result_ok (resolve page old)) (result_ok (resolve page new))
 

@@ -1,4 +1,4 @@
--- Where links lead, and to where they are moved.
+-- Moves of links from one URL to another.
 use Rattle.std.specs.Prelude.{ℕ, ◌&&◌, Bool, List, bytes_eq}
 use Rattle.std.specs.List.{list_any}
 use Rattle.link_fixes.specs.declared.moves.Move.{Move}

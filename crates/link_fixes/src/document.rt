@@ -15,7 +15,7 @@ use document_links::{
 };
 use std::alloc::{AllocError, Global};
 
-/// The URL of a document, how it is read, and where its links are moved.
+/// The URL of a document, how it is read, and the moves of its links.
 #[derive(Clone, Copy)]
 pub struct FixInput<'a> {
     pub url: &'a CanonUrl,
@@ -31,7 +31,7 @@ pub struct DocumentFix {
     pub new: Option<Vec<u8>>,
     /// The number of links that were rewritten.
     pub moved: usize,
-    /// The number of links for which there is a move, and that still lead where they led.
+    /// The number of links for which there is a move, and that still lead to the same URL as before.
     pub left: usize,
 }
 
@@ -54,8 +54,8 @@ pub fn fix_document(
     body: &[u8],
     input: FixInput<'_>,
 ) -> Result<DocumentFix, AllocError>
-    // The new document is the old one after edits. Each of its links is the one with the same index in the old document, or leads where
-    // that led or to where that is moved.
+    // The new document is the old one after edits. Each of its links has the text or the URL of the one with the same index in the old
+    // document, or the URL of a move of that.
     ensures { IfOk result (λ fix. IfSome fix.new (λ new. IsFixed input.entry body.now new.items)) }
 {
     let base = Base::new(alloc, input.url)?;

@@ -7,7 +7,7 @@ use crawl_keys::{Base, CanonUrl};
 use document_links::LinkTexts;
 use std::alloc::{AllocError, Global};
 
-/// Whether each link on a page leads where the one with the same index led before, or to where that is moved.
+/// Whether each link on a page has the text or the URL of the one with the same index before, or the URL of a move of that.
 pub(crate) fn all_lead_on(
     alloc: Global,
     page: &Base,
@@ -28,7 +28,7 @@ pub(crate) fn all_lead_on(
     Ok(true)
 }
 
-/// Whether the new text of a link on a page is the old one, or leads where the old one led or to where that is moved.
+/// Whether the new text of a link on a page is the old one, or leads to the URL of the old one or to that of a move of it.
 fn leads_on(
     alloc: Global,
     page: &Base,

@@ -1,4 +1,4 @@
-//! Where links lead, and to where they are moved.
+//! Moves of links from one URL to another.
 ghost use Rattle.std.specs.Prelude.{◌≡◌};
 ghost use Rattle.link_fixes.specs.Moves.{moves_to};
 
