@@ -73,11 +73,11 @@ pub struct CheckReport {
 
 /// The crawls of a check.
 #[derive(Drop)]
-struct SiteCrawls {
+pub(crate) struct SiteCrawls {
     /// What is reached from the links or the top, if unreached files are listed and all documents are checked.
     reached: Option<Crawled>,
     /// The crawl of everything that is checked.
-    whole: Crawled,
+    pub(crate) whole: Crawled,
 }
 
 /// Checks a site whose files are in memory.
@@ -142,7 +142,7 @@ pub fn report_of_pages<R: Threads + Wait + Sync, B: FileBytes + Sync>(
 }
 
 /// Crawls the pages of a site, from the top or the seeds, and from all documents unless only what can be reached is checked.
-fn crawl_site<R: Threads + Wait + Sync>(
+pub(crate) fn crawl_site<R: Threads + Wait + Sync>(
     rt: &R,
     alloc: Global,
     pages: &LinkedPages,
@@ -180,7 +180,7 @@ fn crawl_reached<R: Threads + Wait + Sync>(
 }
 
 /// The settings of the check of the results, with what is known of the site.
-fn input_of<'a>(
+pub(crate) fn input_of<'a>(
     site: &'a LinkedSite,
     crawls: &'a SiteCrawls,
     settings: CheckSettings<'a>,

@@ -70,7 +70,7 @@ fn push_index_files(alloc: Global, names: &mut Vec<String>) -> Result<(), AllocE
 }
 
 /// The rules of a check: with the positions of links, and with anchors if they are checked. Without BASE, the root is the top.
-fn check_rules(alloc: Global, options: &CheckOptions) -> Result<Rules, AllocError>
+pub(crate) fn check_rules(alloc: Global, options: &CheckOptions) -> Result<Rules, AllocError>
     ensures { IfOk result (AreCheckRules options.now) }
 {
     let mut rules = rules_of(alloc, &options.site)?;
@@ -82,13 +82,13 @@ fn check_rules(alloc: Global, options: &CheckOptions) -> Result<Rules, AllocErro
 
 /// The names of a site's files: those in a folder, or those of a site list.
 #[derive(Drop)]
-enum Names {
+pub(crate) enum Names {
     Folder(FolderNames),
     List(SiteList),
 }
 
 /// The names in a folder, or those in the bytes of a site list. Appends a note about each name in the folder that is skipped.
-fn names_of<R: Files<File: Send, Dir: Send> + Threads + Sync>(
+pub(crate) fn names_of<R: Files<File: Send, Dir: Send> + Threads + Sync>(
     rt: &R,
     alloc: Global,
     folder: &str,
@@ -107,7 +107,7 @@ fn names_of<R: Files<File: Send, Dir: Send> + Threads + Sync>(
 }
 
 /// The pages of a site with these names.
-fn files_of<'a>(
+pub(crate) fn files_of<'a>(
     alloc: Global,
     names: &'a Names,
     base: &'a str,
@@ -193,7 +193,7 @@ pub fn report_of_folder<R: Files<File: Send, Dir: Send> + Threads + Wait + Sync>
 }
 
 /// The settings of the check. Without BASE the site has the name of the folder, and URLs are printed without the top's URL.
-fn settings_of<'a>(
+pub(crate) fn settings_of<'a>(
     options: &'a CheckOptions,
     top: &'a str,
     seeds: &'a [String],
