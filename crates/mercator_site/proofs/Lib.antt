@@ -1,4 +1,6 @@
 pub mod Prelude
+mod Maps
 mod OwnPages
 mod Runs
+mod Served
 mod TopCrawls

@@ -6,6 +6,8 @@ mod crawl;
 mod external;
 mod fault;
 mod folder;
+mod mapped;
+mod maps;
 mod notes;
 mod options;
 mod own;
@@ -17,5 +19,7 @@ pub use check::{CheckReport, CheckSettings, Files, report_of_files, report_of_pa
 pub use check_report::Lists;
 pub use fault::SiteFault;
 pub use folder::{report_of_folder, web_of_folder};
+pub use mapped::MappedFolder;
+pub use maps::{FolderMap, MapError, read_maps};
 pub use options::{CheckForm, CheckOptions, ReportOptions, SiteOptions};
 pub use site_files::Note;
