@@ -8,6 +8,8 @@ use Rattle.crawl_pages.specs.declared.page.PageResult.{PageResult}
 use Rattle.mercator_site.specs.Seeds.{seed_link}
 use Rattle.mercator_site.specs.declared.mapped.MappedFolder.{MappedFolder}
 use Rattle.mercator_site.specs.declared.maps.FolderMap.{FolderMap}
+use Rattle.site_check.specs.Maps.{is_under}
+use Rattle.site_check.specs.declared.input.MapName.{MapName}
 use Rattle.site_files.specs.Below.{IsTop, begins, is_below}
 use Rattle.site_files.specs.Files.{server_of}
 use Rattle.site_files.specs.Pages.{Response, Missing, Moved, Found}
@@ -51,30 +53,28 @@ pub record AreMapsOf (base : List ℕ) (rooted : Bool) (texts : List (List ℕ))
 
 -- the files of the folder of a map: the URL of the folder is the prefix
 pub record IsMapped (m : FolderMap) (folder : MappedFolder) : Type 0 where
-  pub prefix : folder.prefix.now ≡ m.prefix
+  pub prefix : folder.name.prefix.now ≡ m.prefix
+  pub named : folder.name.folder.now ≡ string_bytes m.folder
   pub is_top : IsTop m.prefix (string_bytes folder.files.site.top)
 
 abbrev pub AreMapped : List FolderMap → List MappedFolder → Type 0
 AreMapped maps folders = AllZip IsMapped maps folders
 
--- the URL is that of the folder without its slash
-abbrev pub lacks_slash : List ℕ → List ℕ → Bool
-lacks_slash prefix url = begins url prefix && bytes_eq (drop (length url) prefix) (codes "/")
+-- the prefixes and the names of the folders
+abbrev pub names_of : List MappedFolder → List MapName
+names_of folders = map (λ folder. folder.name) folders
 
--- the URL is that of the folder, or below it
-abbrev pub is_under : MappedFolder → List ℕ → Bool
-is_under folder url = begins folder.prefix.now url || lacks_slash folder.prefix.now url
-
--- and no longer prefix is that of such a folder
+-- the prefix is longer
 abbrev pub is_longer : MappedFolder → MappedFolder → Bool
-is_longer folder other = nat_lt (length other.prefix.now) (length folder.prefix.now)
+is_longer folder other = nat_lt (length other.name.prefix.now) (length folder.name.prefix.now)
 
-abbrev pub is_nearest : List MappedFolder → MappedFolder → List ℕ → Bool
-is_nearest folders folder url = is_under folder url && list_all (λ other. not (is_longer other folder && is_under other url)) folders
+-- the URL is that of the folder or below it, and of no folder with a longer prefix
+abbrev pub is_nearest : List MappedFolder → List ℕ → MappedFolder → Bool
+is_nearest folders url folder = is_under url folder.name && list_all (λ other. not (is_longer other folder && is_under url other.name)) folders
 
 -- what is looked up for a URL: for the folder without its slash the folder
 abbrev pub looked_up : MappedFolder → List ℕ → List ℕ
-looked_up folder url = if begins folder.prefix.now url then url else folder.files.site.top_url
+looked_up folder url = if begins folder.name.prefix.now url then url else folder.files.site.top_url
 
 abbrev pub is_there : Response → Bool
 is_there Missing = false
@@ -87,7 +87,7 @@ has_page files url = is_there (found_for (server_of files) files.pages files.lin
 
 -- the folder with the longest prefix has a page there
 abbrev pub is_found_in : List MappedFolder → List ℕ → MappedFolder → Bool
-is_found_in folders url folder = is_nearest folders folder url && has_page folder.files (looked_up folder url)
+is_found_in folders url folder = is_nearest folders url folder && has_page folder.files (looked_up folder url)
 
 abbrev pub is_mapped : List MappedFolder → List ℕ → Bool
 is_mapped folders url = list_any (is_found_in folders url) folders

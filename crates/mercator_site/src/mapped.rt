@@ -26,8 +26,8 @@ pub(crate) struct MapNames<'a> {
 /// The folder of a map, by its files.
 #[derive(Drop)]
 pub struct MappedFolder<'a> {
-    /// The prefix of the map.
-    pub prefix: &'a str,
+    /// The prefix of the map, and the name of the folder.
+    pub name: MapName<'a>,
     /// The files, at their URLs below the prefix.
     pub files: SiteFiles<'a>,
 }
@@ -115,10 +115,31 @@ fn mapped_folder<'a>(
         base: prefix,
         rules,
     };
+    let folder = one.map.folder.as_str();
     match SiteFiles::new(alloc, input) {
-        Ok(files) => Ok(MappedFolder { prefix, files }),
-        Err(error) => Err(fault_of(alloc, one.map.folder.as_str(), error)?),
+        Ok(files) => Ok(MappedFolder {
+            name: MapName { prefix, folder },
+            files,
+        }),
+        Err(error) => Err(fault_of(alloc, folder, error)?),
     }
+}
+
+/// The prefixes and the names of these folders.
+///
+/// # Errors
+/// Out of memory.
+pub(crate) fn names_of<'a>(
+    alloc: Global,
+    folders: &'a [MappedFolder<'a>],
+) -> Result<Vec<MapName<'a>>, AllocError>
+    ensures { IfOk result (λ names. names.items ≡ names_of folders.now) }
+{
+    let mut names = Vec::new(alloc);
+    for folder in folders {
+        names.push(folder.name)?;
+    }
+    Ok(names)
 }
 
 /// The missing results at whose URLs these folders have no page either, in order.
@@ -199,49 +220,34 @@ fn is_found_in(
 ) -> Result<bool, AllocError>
     ensures { IfOk result (λ is. is ≡ is_found_in folders.now url.now folder.now) }
 {
-    if !is_nearest(folders, folder, url) {
+    if !is_nearest(folders, url, folder) {
         return Ok(false);
     }
     has_page(alloc, &folder.files, looked_up(folder, url))
 }
 
-/// Whether a URL is under the prefix of a folder, and not under a longer one.
-fn is_nearest(folders: &[MappedFolder<'_>], folder: &MappedFolder<'_>, url: &CanonUrl) -> bool
-    ensures { result ≡ is_nearest folders.now folder.now url.now }
+/// Whether a URL is that of a folder or below it, and of no folder with a longer prefix.
+fn is_nearest(folders: &[MappedFolder<'_>], url: &CanonUrl, folder: &MappedFolder<'_>) -> bool
+    ensures { result ≡ is_nearest folders.now url.now folder.now }
 {
-    is_under(folder, url)
-        && folders.iter().all(|other| !(is_longer(other, folder) && is_under(other, url)))
+    is_under(url, folder.name)
+        && folders
+            .iter()
+            .all(|other| !(is_longer(other, folder) && is_under(url, other.name)))
 }
 
 /// Whether a folder has a longer prefix than another one.
 fn is_longer(folder: &MappedFolder<'_>, other: &MappedFolder<'_>) -> bool
     ensures { result ≡ is_longer folder.now other.now }
 {
-    other.prefix.len() < folder.prefix.len()
-}
-
-/// Whether a URL is that of a folder, with or without its slash, or below it.
-fn is_under(folder: &MappedFolder<'_>, url: &CanonUrl) -> bool
-    ensures { result ≡ is_under folder.now url.now }
-{
-    begins(folder.prefix, url) || lacks_slash(folder.prefix.as_bytes(), url.as_str().as_bytes())
-}
-
-/// Whether a URL is this prefix without its slash.
-fn lacks_slash(prefix: &[u8], url: &[u8]) -> bool
-    ensures { result ≡ lacks_slash prefix.now url.now }
-{
-    match prefix.strip_prefix(url) {
-        Some(rest) => rest == b"/",
-        None => false,
-    }
+    other.name.prefix.len() < folder.name.prefix.len()
 }
 
 /// The URL that is looked up in a folder for a URL: for that of the folder without its slash that of the folder.
 fn looked_up<'u>(folder: &'u MappedFolder<'_>, url: &'u CanonUrl) -> &'u CanonUrl
     ensures { result.now ≡ looked_up folder.now url.now }
 {
-    if begins(folder.prefix, url) {
+    if begins(folder.name.prefix, url) {
         url
     } else {
         folder.files.top_url()
