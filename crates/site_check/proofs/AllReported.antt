@@ -17,15 +17,17 @@ are_all : (front : List ℕ) (entries links : List (List ℕ)) (rooted : Bool) (
 are_all front entries links rooted files results found all anchors invalid outside rows unused_ones is texts outs own =
     record {
       whole = own.whole;
-      pages = own.pages ∙ ap (flat_map (rows_with front entries)) is ∙ rows_of_all front entries results;
-      names = own.names;
-      hints = own.hints ∙ hints_of_all front entries files results all is;
-      invalid = record { texts = map text_of invalid; each = texts; exact = own.texts_are };
-      leaving = own.leaving ∙ leaving_of_all entries rooted files results found outside outs;
+      all = record {
+        pages = own.pages ∙ ap (flat_map (rows_with front entries)) is ∙ rows_of_all front entries results;
+        names = own.names;
+        hints = own.hints ∙ hints_of_all front entries files results all is;
+        invalid = record { texts = map text_of invalid; each = texts; exact = own.texts_are };
+        leaving = own.leaving ∙ leaving_of_all entries rooted files results found outside outs;
+        ignores =
+            are_unused front entries results (map anchor_text anchors) (map text_of invalid) links (outside_texts rooted files found) (map shown_at outside) (flat_map (text_at front) (map result_at all)) unused_ones
+            own.whole own.anchors_are own.ignores (texts_of_all front results all is) texts (outside_texts_of_all rooted files results found outside outs);
+      };
       left = own.left;
-      ignores =
-          are_unused front entries results (map anchor_text anchors) (map text_of invalid) links (outside_texts rooted files found) (map shown_at outside) (flat_map (text_at front) (map result_at all)) unused_ones
-          own.whole own.anchors_are own.ignores (texts_of_all front results all is) texts (outside_texts_of_all rooted files results found outside outs);
     }
 
 -- of the results and the files that a check has

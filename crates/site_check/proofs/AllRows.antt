@@ -14,7 +14,7 @@ flat_filter : {X Y : Type 0} (p : X → Bool) (f : X → List Y) → GivesNothin
 flat_filter p f none [] = refl
 flat_filter p f none (x ∷ xs) = grind (arith, common_steps, cases_Bool, filter-kept, filter-dropped, flat_filter p f none xs)
 
-flat_mapped : {X Y Z : Type 0} (g : Y → List Z) (h : X → Y) (xs : List X) → flat_map g (map h xs) ≡ flat_map (λ x. g (h x)) xs
+pub flat_mapped : {X Y Z : Type 0} (g : Y → List Z) (h : X → Y) (xs : List X) → flat_map g (map h xs) ≡ flat_map (λ x. g (h x)) xs
 flat_mapped g h [] = refl
 flat_mapped g h (x ∷ xs) = ap (λ l. g (h x) ++ l) (flat_mapped g h xs)
 
@@ -93,7 +93,7 @@ hints_of_all front entries files results all is =
 
 -- ---- the links that lead out of the site
 
-mapped : {X Y Z : Type 0} (g : Y → Z) (h : X → Y) (xs : List X) → map g (map h xs) ≡ map (λ x. g (h x)) xs
+pub mapped : {X Y Z : Type 0} (g : Y → Z) (h : X → Y) (xs : List X) → map g (map h xs) ≡ map (λ x. g (h x)) xs
 mapped g h [] = refl
 mapped g h (x ∷ xs) = ap (λ l. g (h x) ∷ l) (mapped g h xs)
 

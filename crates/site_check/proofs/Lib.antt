@@ -7,10 +7,12 @@ pub mod FileNames
 pub mod Fronts
 pub mod LeadsFound
 pub mod Listed
+pub mod Marks
 pub mod Namesakes
 pub mod Outsides
 pub mod Patterns
 pub mod Retained
 pub mod RootFolders
+pub mod RowsLeft
 pub mod TextsOnce
 pub mod Verdicts

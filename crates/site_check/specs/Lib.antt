@@ -12,3 +12,4 @@ pub mod Reported
 pub mod Told
 pub mod Totals
 pub mod Unlisted
+pub mod Unreached

@@ -9,6 +9,7 @@ mod hints;
 mod ignored;
 mod input;
 mod invalid;
+pub mod laws;
 mod leads;
 mod leaving;
 mod linked;
