@@ -6,6 +6,7 @@ pub mod FileEntries
 pub mod FileNames
 pub mod Fronts
 pub mod LeadsFound
+pub mod LeavingRows
 pub mod Listed
 pub mod Marks
 pub mod Namesakes

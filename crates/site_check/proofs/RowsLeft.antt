@@ -9,10 +9,12 @@ use Rattle.site_check.proofs.AllRows.{flat_mapped, mapped}
 use Rattle.site_check.specs.Hints.{hints_with}
 use Rattle.site_check.specs.Ignored.{AreUnused, if_anchor}
 use Rattle.site_check.specs.Invalid.{if_invalid}
-use Rattle.site_check.specs.Leaving.{if_leaving}
+use Rattle.site_check.specs.Leaving.{LeavingRow}
 use Rattle.site_check.specs.Names.{name_for, same_name}
 use Rattle.site_check.specs.Reported.{AreAllRows, AreReported}
 use Rattle.site_check.specs.Told.{if_page}
+use Rattle.site_check.specs.Totals.{is_leaving}
+use Rattle.site_check.specs.declared.input.MapName.{MapName}
 
 -- ---- no entry names a file
 
@@ -82,9 +84,13 @@ unused_seen front entries results links others rows whole all same own =
           ∙ sym (λ i. filter (λ entry. not (cond (names_file entry) (any_seen (matches_seen (file_in entry) (target_in entry)) rows whole same i) (list_any (matches entry) (((own.anchors ++ links) ++ others) ++ missing_texts front results)))) entries);
     }
 
-pub reported_all : (front : List ℕ) (entries links : List (List ℕ)) (rooted : Bool) (files : SiteFiles) (results found : List PageResult) (rows : List Broken) (unused_ones : List (List ℕ)) →
-    list_any names_file entries ≡ false → AreReported front entries links rooted files results found rows unused_ones → AreAllRows front entries links rooted files results found rows unused_ones
-reported_all front entries links rooted files results found rows unused_ones none own =
+-- the row of a link that leads out of the site
+abbrev leaving_seen : TargetRow → List LeavingRow
+leaving_seen row = cond (is_leaving row.kind) (record { text = row.target; pages = row.pages; kind = row.kind; folder = row.hint } ∷ []) []
+
+pub reported_all : (front : List ℕ) (entries links : List (List ℕ)) (rooted : Bool) (maps : List MapName) (files : SiteFiles) (results found : List PageResult) (rows : List Broken) (unused_ones : List (List ℕ)) →
+    list_any names_file entries ≡ false → AreReported front entries links rooted maps files results found rows unused_ones → AreAllRows front entries links rooted maps files results found rows unused_ones
+reported_all front entries links rooted maps files results found rows unused_ones none own =
     let whole : List Broken = own.whole in
     let same : map target_row rows ≡ map target_row whole = own.left ∙ all_left entries (map target_row whole) none in
     record {
@@ -94,7 +100,7 @@ reported_all front entries links rooted files results found rows unused_ones non
           ∙ sym (map_seen (λ (row : TargetRow). name_for row.kind (same_name front files row.target row.places)) rows whole same);
       hints = flat_seen (λ (row : TargetRow). hints_with row.kind row.hint) rows whole same ∙ own.all.hints;
       invalid = subst (AreInvalid entries links) (sym (flat_seen (λ (row : TargetRow). if_invalid row.kind row.target) rows whole same)) own.all.invalid;
-      leaving = flat_seen (λ (row : TargetRow). if_leaving row.kind (record { text = row.target; pages = row.pages })) rows whole same ∙ own.all.leaving;
+      leaving = flat_seen leaving_seen rows whole same ∙ own.all.leaving;
       ignores = unused_seen front entries results links (outside_texts rooted files found) rows whole unused_ones same own.all.ignores;
     }
 

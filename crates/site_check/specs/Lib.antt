@@ -7,6 +7,7 @@ pub mod Ignored
 pub mod Invalid
 pub mod Leads
 pub mod Leaving
+pub mod Maps
 pub mod Names
 pub mod Reported
 pub mod Told

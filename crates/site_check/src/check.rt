@@ -111,7 +111,7 @@ pub fn check_site<'f, R: Threads + Sync, B: FileBytes + Sync>(
     // that an entry matches. A missing page has the number of results that link to it, the only page with its file name, unless a link
     // to the missing page is in the file of that page, and the hint at what a server with other rules finds. The unused entries are those
     // that match none of these and no location.
-    ensures rows { IfOk result (λ checked. AreReported input.entry.front.now (map string_bytes input.entry.ignores.now) (texts_if input.entry.invalid input.entry.places.now results.now) input.entry.rooted files.now results.now input.entry.found.now checked.broken.items (map string_bytes checked.unused_ignores.items)) }
+    ensures rows { IfOk result (λ checked. AreReported input.entry.front.now (map string_bytes input.entry.ignores.now) (texts_if input.entry.invalid input.entry.places.now results.now) input.entry.rooted input.entry.maps.now files.now results.now input.entry.found.now checked.broken.items (map string_bytes checked.unused_ignores.items)) }
     // The rows of redirects are the moved results that are linked to.
     ensures redirects { IfOk result (λ checked. map way_of checked.redirects.items ≡ redirects_of input.entry.front.now results.now) }
     // The unreached files are those of which a search from the starts found no page, by the first URL of each, in order, if they are listed.
@@ -176,7 +176,7 @@ fn sought_by<'p, R: Threads + Sync>(
     linked: &[Linked<'p>],
 ) -> Result<BrokenLinks<'p>, NoMemory>
     ensures invalid { IfOk result (λ sought. AreTexts (texts_if input.entry.invalid input.entry.places.now site.entry.pages.results.now) (map text_of sought.invalid.items)) }
-    ensures outside { IfOk result (λ sought. map outside_at sought.outside.items ≡ outside_linked input.entry.rooted site.entry.files.now site.entry.pages.results.now input.entry.found.now) }
+    ensures outside { IfOk result (λ sought. map outside_at sought.outside.items ≡ outside_linked input.entry.rooted input.entry.maps.now site.entry.files.now site.entry.pages.results.now input.entry.found.now) }
 {
     let threads = site.files.threads().max(1);
     let (leads, lacked) = join(

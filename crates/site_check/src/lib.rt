@@ -14,6 +14,7 @@ mod leads;
 mod leaving;
 mod linked;
 mod located;
+mod maps;
 mod missing_anchors;
 mod names;
 mod pattern;
@@ -29,4 +30,4 @@ mod worst;
 
 pub use check::{Checked, check_site};
 pub use ignored::read_ignores;
-pub use input::CheckInput;
+pub use input::{CheckInput, MapName};
