@@ -9,10 +9,12 @@ mod hints;
 mod ignored;
 mod input;
 mod invalid;
+pub mod laws;
 mod leads;
 mod leaving;
 mod linked;
 mod located;
+mod maps;
 mod missing_anchors;
 mod names;
 mod pattern;
@@ -28,4 +30,4 @@ mod worst;
 
 pub use check::{Checked, check_site};
 pub use ignored::read_ignores;
-pub use input::CheckInput;
+pub use input::{CheckInput, MapName};
