@@ -1,5 +1,5 @@
 pub mod Prelude
-mod Maps
+mod FolderMaps
 mod OwnPages
 mod Runs
 mod Served

@@ -17,7 +17,7 @@ use Rattle.crawl_pages.specs.declared.page.Page.{Page}
 use Rattle.crawl_pages.specs.declared.page.PageResult.{PageResult}
 use Rattle.mercator_site.specs.Asks.{Asks}
 use Rattle.mercator_site.specs.External.{AreExternal, Row, host_root, row_of}
-use Rattle.mercator_site.specs.Maps.{unmapped}
+use Rattle.mercator_site.specs.Maps.{names_of, unmapped}
 use Rattle.mercator_site.specs.Own.{AreOwn, own_of}
 use Rattle.mercator_site.specs.declared.options.CheckForm.{CheckForm}
 use Rattle.mercator_site.specs.declared.options.CheckForm.TheVariants as form
@@ -115,7 +115,7 @@ pub record IsFindings (name : List ℕ) (site : SiteFiles) (own pages : List Pag
   pub totals : found.totals ≡ totals_of aliases documents own found.broken.now found.redirects.now
   -- what is known of the links of these pages
   pub places : List LinkPlaces
-  pub rows : AreReported asks.front asks.entries (texts_if asks.invalid places own) asks.rooted site own (unmapped asks.folders pages) found.broken.now (map string_bytes found.unused_ignores.now)
+  pub rows : AreReported asks.front asks.entries (texts_if asks.invalid places own) asks.rooted (names_of asks.folders) site own (unmapped asks.folders pages) found.broken.now (map string_bytes found.unused_ignores.now)
   pub is_broken : broken ≡ not (length found.broken.now == 0) || (asks.report.lists.unlisted && not (length found.unlisted.now == 0))
   pub contents : Contents
   pub lists : contents.lists ≡ asks.report.lists

@@ -14,7 +14,7 @@ ghost use Rattle.saved_site.specs.Linked.{page_at};
 use crate::crawl::{crawl_source, top_url};
 use crate::external::external_links;
 use crate::fault::SiteFault;
-use crate::mapped::{MappedFolder, unmapped};
+use crate::mapped::{MappedFolder, names_of, unmapped};
 use crate::notes::push_page_notes;
 use crate::options::ReportOptions;
 use crate::own::own_results;
@@ -25,7 +25,7 @@ use crawl_keys::CanonUrl;
 use crawl_pages::PageResult;
 use crawl_run::Crawled;
 use saved_site::{LinkedPages, LinkedSite, site_pages};
-use site_check::{CheckInput, Checked, check_site};
+use site_check::{CheckInput, Checked, MapName, check_site};
 use site_files::{FileBytes, InMemory, Note, Rules, SiteFiles, SiteNames};
 use std::alloc::{AllocError, Global};
 use std::mem::forget;
@@ -205,7 +205,12 @@ fn report_of_crawled<R: Threads + Sync, B: FileBytes + Sync>(
 {
     let others = others_listed(alloc, settings.report.external, files, crawled.own)?;
     let left = unmapped(alloc, settings.maps, crawled.pages)?;
-    let input = input_of(crawled, left.as_slice(), settings);
+    let names = names_of(alloc, settings.maps)?;
+    let lookups = Lookups {
+        left: left.as_slice(),
+        names: names.as_slice(),
+    };
+    let input = input_of(crawled, lookups, settings);
     let checked = check_site(rt, alloc, crawled.own, files, bytes, input)?;
     let lacks_sitemap = lacks_sitemap(crawled.site, settings.report.lists.unlisted);
     let report = report_of(alloc, &checked, &others, lacks_sitemap, settings)?;
@@ -251,10 +256,19 @@ fn crawl_reached<R: Threads + Wait + Sync>(
     Ok(Some(found))
 }
 
-/// The settings of the check of the results, with what is known of the site. `left` has the results that may lead out of it.
+/// What was looked up in the folders of maps.
+#[derive(Clone, Copy)]
+pub(crate) struct Lookups<'a> {
+    /// The missing results of which no folder has a page.
+    pub(crate) left: &'a [PageResult],
+    /// The prefixes and the names of the folders.
+    pub(crate) names: &'a [MapName<'a>],
+}
+
+/// The settings of the check of the results, with what is known of the site.
 pub(crate) fn input_of<'a>(
     crawled: CrawledSite<'a>,
-    left: &'a [PageResult],
+    lookups: Lookups<'a>,
     settings: CheckSettings<'a>,
 ) -> CheckInput<'a>
     ensures front { result.front.now ≡ settings.entry.front.now }
@@ -262,7 +276,8 @@ pub(crate) fn input_of<'a>(
     ensures aliases { result.aliases.now ≡ crawled.entry.site.now.aliases.items }
     ensures documents { result.documents.now ≡ crawled.entry.site.now.documents.items }
     ensures invalid { result.invalid ≡ settings.entry.invalid }
-    ensures found { result.found.now ≡ left.now }
+    ensures found { result.found.now ≡ lookups.entry.left.now }
+    ensures maps { result.maps.now ≡ lookups.entry.names.now }
     ensures rooted { result.rooted ≡ settings.entry.rooted }
 {
     let site = crawled.site;
@@ -275,8 +290,9 @@ pub(crate) fn input_of<'a>(
         anchors: site.anchors.as_slice(),
         places: site.places.as_slice(),
         invalid: settings.invalid,
-        found: left,
+        found: lookups.left,
         rooted: settings.rooted,
+        maps: lookups.names,
         reached: reached_in(crawled.crawls, lists.unreached),
         listed: listed_in(site, lists.unlisted),
     }

@@ -1,8 +1,7 @@
 //! The folders of maps: their files, and whether they have a page at a URL out of the site.
 ghost use Rattle.std.specs.Prelude.{◌≡◌, ◌++◌, IfErr, IfOk, OnOk, false, map, nat_lt, length, string_bytes};
 ghost use Rattle.mercator_site.specs.Faults.{is_unfinished};
-ghost use Rattle.mercator_site.specs.Maps.{AreMapped, IsMapped, has_page, is_found_in, is_longer, is_mapped, is_nearest, is_under, lacks_slash, left_at, left_for, looked_up, unmapped};
-ghost use Rattle.site_files.specs.Below.{begins};
+ghost use Rattle.mercator_site.specs.Maps.{AreMapped, IsMapped, has_page, is_found_in, is_longer, is_mapped, is_nearest, left_at, left_for, looked_up, names_of, unmapped};
 
 use crate::fault::SiteFault;
 use crate::maps::FolderMap;
@@ -11,6 +10,7 @@ use crate::start::has_page;
 use crawl_keys::CanonUrl;
 use crawl_pages::{Page, PageResult};
 use shown_text::shown;
+use site_check::{MapName, is_under};
 use site_files::{FolderNames, Rules, SiteError, SiteFiles, SiteNames, folder_names};
 use std::alloc::{AllocError, Global};
 use std::fs::Files;
@@ -83,7 +83,7 @@ fn fault_of(alloc: Global, folder: &str, error: SiteError) -> Result<SiteFault, 
 ///
 /// # Errors
 /// `NoMapFiles` for the first folder without files; `NoMemory`.
-#[tactic(auto, using(crate::proofs::Maps::mapped_more))]
+#[tactic(auto, using(crate::proofs::FolderMaps::mapped_more))]
 pub(crate) fn mapped_folders<'a>(
     alloc: Global,
     maps: &'a [MapNames<'a>],
@@ -230,10 +230,9 @@ fn is_found_in(
 fn is_nearest(folders: &[MappedFolder<'_>], url: &CanonUrl, folder: &MappedFolder<'_>) -> bool
     ensures { result ≡ is_nearest folders.now url.now folder.now }
 {
-    is_under(url, folder.name)
-        && folders
-            .iter()
-            .all(|other| !(is_longer(other, folder) && is_under(url, other.name)))
+    is_under(url.as_str(), folder.name)
+        && folders.iter().all(|other| !(is_longer(other, folder)
+            && is_under(url.as_str(), other.name)))
 }
 
 /// Whether a folder has a longer prefix than another one.

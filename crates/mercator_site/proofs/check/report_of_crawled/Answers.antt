@@ -1,5 +1,5 @@
 use Rattle.mercator_site.proofs.Prelude.{List, map, refl, sym, ap, subst, ◌∙◌, ◌≡◌, ◌==◌, ◌&&◌, ◌||◌, not, length, string_bytes, AreOthersListed, host_root}
-use Rattle.mercator_site.specs.Maps.{unmapped}
+use Rattle.mercator_site.specs.Maps.{names_of, unmapped}
 use Rattle.site_check.specs.Broken.{redirects_of}
 use Rattle.site_check.specs.Invalid.{texts_if}
 use Rattle.site_check.specs.Reported.{AreReported}
@@ -26,6 +26,8 @@ returns g c =
     let same_rooted = c.input_of-input.ensures.rooted in
     let left = unmapped settings.maps.now all in
     let same_left : input.found.now ≡ left = c.input_of-input.ensures.found ∙ c.as_slice.ensures.value ∙ c.in_ok-left.ensures in
+    let maps = names_of settings.maps.now in
+    let same_maps : input.maps.now ≡ maps = c.input_of-input.ensures.maps ∙ c.as_slice-2.ensures.value ∙ c.in_ok-names.ensures in
     let checked = c.in_ok-checked.checked in
     let report = c.in_ok-report.ensures in
     let aliases = site.aliases.items in
@@ -42,14 +44,15 @@ returns g c =
           ∙ ap (λ bs. totals_of aliases documents pages bs checked.redirects.items) (sym report.rows) ∙ ap (λ ws. totals_of aliases documents pages report.found.broken.now ws) (sym report.ways);
       places = places;
       rows =
-          subst (λ us. AreReported front entries links rooted files pages left report.found.broken.now (map string_bytes us)) (sym report.unused)
-          (subst (λ bs. AreReported front entries links rooted files pages left bs (map string_bytes checked.unused_ignores.items)) (sym report.rows)
-          (subst (λ f. AreReported f entries links rooted files pages left checked.broken.items (map string_bytes checked.unused_ignores.items)) same_front
-          (subst (λ es. AreReported input.front.now es links rooted files pages left checked.broken.items (map string_bytes checked.unused_ignores.items)) same_entries
-          (subst (λ ls. AreReported input.front.now (map string_bytes input.ignores.now) ls rooted files pages left checked.broken.items (map string_bytes checked.unused_ignores.items)) same_links
-          (subst (λ is. AreReported input.front.now (map string_bytes input.ignores.now) (texts_if input.invalid places pages) is files pages left checked.broken.items (map string_bytes checked.unused_ignores.items)) same_rooted
-          (subst (λ rs. AreReported input.front.now (map string_bytes input.ignores.now) (texts_if input.invalid places pages) input.rooted files pages rs checked.broken.items (map string_bytes checked.unused_ignores.items)) same_left
-          c.in_ok-checked.ensures.rows))))));
+          subst (λ us. AreReported front entries links rooted maps files pages left report.found.broken.now (map string_bytes us)) (sym report.unused)
+          (subst (λ bs. AreReported front entries links rooted maps files pages left bs (map string_bytes checked.unused_ignores.items)) (sym report.rows)
+          (subst (λ f. AreReported f entries links rooted maps files pages left checked.broken.items (map string_bytes checked.unused_ignores.items)) same_front
+          (subst (λ es. AreReported input.front.now es links rooted maps files pages left checked.broken.items (map string_bytes checked.unused_ignores.items)) same_entries
+          (subst (λ ls. AreReported input.front.now (map string_bytes input.ignores.now) ls rooted maps files pages left checked.broken.items (map string_bytes checked.unused_ignores.items)) same_links
+          (subst (λ is. AreReported input.front.now (map string_bytes input.ignores.now) (texts_if input.invalid places pages) is maps files pages left checked.broken.items (map string_bytes checked.unused_ignores.items)) same_rooted
+          (subst (λ rs. AreReported input.front.now (map string_bytes input.ignores.now) (texts_if input.invalid places pages) input.rooted maps files pages rs checked.broken.items (map string_bytes checked.unused_ignores.items)) same_left
+          (subst (λ ms. AreReported input.front.now (map string_bytes input.ignores.now) (texts_if input.invalid places pages) input.rooted ms files pages input.found.now checked.broken.items (map string_bytes checked.unused_ignores.items)) same_maps
+          c.in_ok-checked.ensures.rows)))))));
       is_broken =
           report.is_broken ∙ ap (λ is. is || (asks_unlisted && not (length checked.unlisted.items == 0))) c.in_ok-checked.ensures.verdict
           ∙ ap (λ bs. not (length bs == 0) || (asks_unlisted && not (length checked.unlisted.items == 0))) (sym report.rows)
