@@ -1,4 +1,5 @@
 //! The settings of a saved web of a folder and of its check.
+use crate::maps::FolderMap;
 use check_report::Lists;
 
 /// The form of a report.
@@ -84,6 +85,8 @@ pub struct CheckOptions {
     pub report: ReportOptions,
     /// The URL of the folder's sources, with which the URLs of locations begin in an HTML page and in SARIF; empty for none.
     pub source_url: String,
+    /// The folders in which links are looked up that lead out of the site.
+    pub maps: Vec<FolderMap>,
     /// The links on the top at which the search starts; if there are none, it starts at the top.
     pub seeds: Vec<String>,
     /// Whether only what the search reaches is checked, and not all documents.

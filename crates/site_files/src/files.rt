@@ -263,7 +263,9 @@ impl<'a> SiteFiles<'a> {
     }
 
     /// The number of names.
-    pub fn name_count(&self) -> usize {
+    pub fn name_count(&self) -> usize
+        ensures { result ≡ length self.now.names.now }
+    {
         self.names.len()
     }
 

@@ -35,7 +35,7 @@ const KNOWN: Known = Known {
         "queries",
     ],
     texts: &["base", "source-url", "ignore", "index"],
-    lists: &["seed", "index-file"],
+    lists: &["map", "seed", "index-file"],
     choices: &[("format", FORMATS), ("host", HOSTS), ("fallback", SUFFIXES)],
 };
 

@@ -15,7 +15,7 @@ const WEB: &[u8] = b"savedweb 2\npage http://a.test/\nlink gone.html\n";
 
 /// The beginning of the report of its check.
 const TOTALS: &[u8] =
-    b"pages 1, files 0, links 1, redirects 0, aliases 0\nbroken links 1, missing pages 1,";
+    b"pages 1, other files 0, links 1, redirects 0, aliases 0\nbroken links 1, missing pages 1,";
 
 /// A site of one file with a broken link.
 #[derive(Drop)]
@@ -79,6 +79,7 @@ fn settings(none: &[String]) -> CheckSettings<'_> {
         seeds: none,
         invalid: true,
         rooted: false,
+        maps: &[],
         reachable: false,
         report: ReportOptions::default(),
         folder: "",
