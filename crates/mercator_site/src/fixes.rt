@@ -1,12 +1,11 @@
 //! The files of a folder with links that a check can rewrite: those to redirects, and those to missing pages of which the site has one with
 //! the same name.
-use crate::check::{CheckSettings, crawl_site, input_of};
+use crate::check::{CheckSettings, Lookups, crawl_site, crawled_site, input_of};
 use crate::crawl::top_url;
 use crate::fault::SiteFault;
-use crate::folder::{check_rules, files_of, names_of, settings_of};
+use crate::folder::{FolderInput, check_rules, files_of, names_of, settings_of};
 use crate::notes::push_page_notes;
 use crate::options::CheckOptions;
-use crate::own::own_results;
 use crate::seeds::seed_links;
 use crate::start::check_starts;
 use check_report::{Broken, Kind, Place};
@@ -52,7 +51,13 @@ pub fn fixes_of_folder<R: Files<File: Send, Dir: Send> + Threads + Wait + Sync>(
     let names = names_of(rt, alloc, folder, &rules, None, notes)?;
     let files = files_of(alloc, &names, options.site.base.as_str(), &rules)?;
     let seeds = seed_links(alloc, options.paths, options.seeds.as_slice())?;
-    let settings = settings_of(options, files.top(), seeds.as_slice(), known.as_slice());
+    let found = FolderInput {
+        top: files.top(),
+        seeds: seeds.as_slice(),
+        known: known.as_slice(),
+        maps: &[],
+    };
+    let settings = settings_of(options, found);
     check_starts(alloc, &files, settings.seeds, settings.reachable)?;
     let bytes = OnDisk { rt, alloc, folder };
     fixes_of_site(rt, alloc, &files, &bytes, settings, notes)
@@ -71,14 +76,19 @@ fn fixes_of_site<R: Threads + Wait + Sync, B: FileBytes + Sync>(
     push_page_notes(alloc, notes, settings.front, site.notes.as_slice())?;
     let top = top_url(alloc, files.top())?;
     let crawls = crawl_site(rt, alloc, &site.pages, files, &top, settings)?;
-    let results = own_results(&top, crawls.whole.result.pages());
-    let input = input_of(&site, &crawls, settings);
-    let checked = check_site(rt, alloc, results, files, bytes, input)?;
+    let crawled = crawled_site(&site, &crawls, &top);
+    // A link that leads into the folder of a map is never rewritten.
+    let lookups = Lookups {
+        left: crawled.pages,
+        names: &[],
+    };
+    let input = input_of(crawled, lookups, settings);
+    let checked = check_site(rt, alloc, crawled.own, files, bytes, input)?;
     let moves = moves_of(
         alloc,
         files,
         settings.front,
-        results,
+        crawled.own,
         checked.broken.as_slice(),
     )?;
     Ok(file_fixes(alloc, files, bytes, moves.as_slice())?)
