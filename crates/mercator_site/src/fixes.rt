@@ -436,12 +436,12 @@ fn steps_in(alloc: Global, moves: &[FileMove]) -> Result<Vec<Move>, AllocError> 
 }
 
 /// The document of the page with this number and these contents after moves of its links. `None` if the page is no document.
-fn fix_of(
+fn fix_of<'a>(
     alloc: Global,
-    files: &SiteFiles<'_>,
+    files: &'a SiteFiles<'_>,
     page: usize,
     body: &[u8],
-    moves: &[Move],
+    moves: &'a [Move],
 ) -> Result<Option<DocumentFix>, AllocError> {
     let Some(file) = files.document(page) else {
         return Ok(None);
