@@ -126,7 +126,8 @@ fn fault_of(fault: SiteFault) -> Fault
 {
     match fault {
         SiteFault::Crawl(_) => Fault::CannotFix,
-        other => Fault::from(other),
+        SiteFault::NoMemory => Fault::NoMemory,
+        _ => Fault::Site(fault),
     }
 }
 
