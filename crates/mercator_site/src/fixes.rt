@@ -51,6 +51,7 @@ pub fn fixes_of_folder<R: Files<File: Send, Dir: Send> + Threads + Wait + Sync>(
     let names = names_of(rt, alloc, folder, &rules, None, notes)?;
     let files = files_of(alloc, &names, options.site.base.as_str(), &rules)?;
     let seeds = seed_links(alloc, options.paths, options.seeds.as_slice())?;
+    // Links that lead out of the site are never rewritten, so the folders of maps are not read.
     let found = FolderInput {
         top: files.top(),
         seeds: seeds.as_slice(),
@@ -77,7 +78,6 @@ fn fixes_of_site<R: Threads + Wait + Sync, B: FileBytes + Sync>(
     let top = top_url(alloc, files.top())?;
     let crawls = crawl_site(rt, alloc, &site.pages, files, &top, settings)?;
     let crawled = crawled_site(&site, &crawls, &top);
-    // A link that leads into the folder of a map is never rewritten.
     let lookups = Lookups {
         left: crawled.pages,
         names: &[],
