@@ -22,6 +22,10 @@ pub enum SiteFault {
     List(ListError),
     /// No URL of the site list is below BASE.
     NoneListed,
+    /// The folder of a map, which has this name with its hidden characters escaped, cannot be read.
+    CannotReadMap(String),
+    /// The folder of a map, which has this name with its hidden characters escaped, has no files.
+    NoMapFiles(String),
     /// A seed is not a URL below BASE.
     BadSeed,
     /// There is no page at this link, which is a seed with its hidden characters escaped, or `./`, the top.

@@ -3,7 +3,7 @@ use Rattle.std.specs.Prelude.{ℕ, ◌-◌, Bool, if◌then◌else◌, List, [],
 use Rattle.std.specs.List.{flat_map, list_any}
 use Rattle.check_report.specs.declared.value.Broken.{Broken}
 use Rattle.check_report.specs.declared.value.Kind.{Kind}
-use Rattle.check_report.specs.declared.value.Kind.TheVariants.{NoPage}
+use Rattle.check_report.specs.declared.value.Kind.TheVariants.{NoPage, Leaves, OutsideBase, NotInMap}
 use Rattle.crawl_pages.specs.declared.page.Page.{Page}
 use Rattle.crawl_pages.specs.declared.page.Page.TheVariants.{Missing}
 use Rattle.crawl_pages.specs.declared.page.PageResult.{PageResult}
@@ -55,9 +55,12 @@ hints_at front entries files r = hints_of_page front entries files r.url r.page
 abbrev pub hints_of : List ℕ → List (List ℕ) → SiteFiles → List PageResult → List (Option (List ℕ))
 hints_of front entries files results = flat_map (hints_at front entries files) results
 
--- the hint of a row of a missing page, and any hint of another row
+-- the hint of a row of a missing page, and any hint of another row. What is a hint of a link that leads out of the site is in its row
 abbrev pub hints_with : Kind → Option (List ℕ) → List (Option (List ℕ))
 hints_with NoPage hint = hint ∷ []
+hints_with Leaves hint = []
+hints_with OutsideBase hint = []
+hints_with NotInMap hint = []
 hints_with _ None = []
 hints_with _ (Some text) = Some text ∷ []
 

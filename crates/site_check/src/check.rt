@@ -16,6 +16,7 @@ ghost use Rattle.site_check.specs.Anchors.{anchor_text};
 ghost use Rattle.site_check.specs.Told.{rows_in, way_of};
 ghost use Rattle.site_check.specs.Totals.{totals_of};
 ghost use Rattle.site_check.specs.Unlisted.{unlisted_in};
+ghost use Rattle.site_check.specs.Unreached.{unreached_in};
 
 use crate::anchors::anchor_rows;
 use crate::base::base_hint;
@@ -110,9 +111,11 @@ pub fn check_site<'f, R: Threads + Sync, B: FileBytes + Sync>(
     // that an entry matches. A missing page has the number of results that link to it, the only page with its file name, unless a link
     // to the missing page is in the file of that page, and the hint at what a server with other rules finds. The unused entries are those
     // that match none of these and no location.
-    ensures rows { IfOk result (λ checked. AreReported input.entry.front.now (map string_bytes input.entry.ignores.now) (texts_if input.entry.invalid input.entry.places.now results.now) input.entry.rooted files.now results.now input.entry.found.now checked.broken.items (map string_bytes checked.unused_ignores.items)) }
+    ensures rows { IfOk result (λ checked. AreReported input.entry.front.now (map string_bytes input.entry.ignores.now) (texts_if input.entry.invalid input.entry.places.now results.now) input.entry.rooted input.entry.maps.now files.now results.now input.entry.found.now checked.broken.items (map string_bytes checked.unused_ignores.items)) }
     // The rows of redirects are the moved results that are linked to.
     ensures redirects { IfOk result (λ checked. map way_of checked.redirects.items ≡ redirects_of input.entry.front.now results.now) }
+    // The unreached files are those of which a search from the starts found no page, by the first URL of each, in order, if they are listed.
+    ensures unreached { IfOk result (λ checked. map string_bytes checked.unreached.items ≡ unreached_in input.entry.front.now files.now input.entry.reached) }
     // The unlisted documents are those of which no sitemap lists the own URL or an alias, in order, without `404.html`, if they are listed.
     ensures unlisted { IfOk result (λ checked. map string_bytes checked.unlisted.items ≡ unlisted_in input.entry.front.now input.entry.aliases.now input.entry.documents.now input.entry.listed) }
     // The hint of BASE is the first folder that at least half and at least two of the paths from the root in the rows of missing pages
@@ -173,7 +176,7 @@ fn sought_by<'p, R: Threads + Sync>(
     linked: &[Linked<'p>],
 ) -> Result<BrokenLinks<'p>, NoMemory>
     ensures invalid { IfOk result (λ sought. AreTexts (texts_if input.entry.invalid input.entry.places.now site.entry.pages.results.now) (map text_of sought.invalid.items)) }
-    ensures outside { IfOk result (λ sought. map outside_at sought.outside.items ≡ outside_linked input.entry.rooted site.entry.files.now site.entry.pages.results.now input.entry.found.now) }
+    ensures outside { IfOk result (λ sought. map outside_at sought.outside.items ≡ outside_linked input.entry.rooted input.entry.maps.now site.entry.files.now site.entry.pages.results.now input.entry.found.now) }
 {
     let threads = site.files.threads().max(1);
     let (leads, lacked) = join(
@@ -235,6 +238,7 @@ fn told(
 ) -> Result<Checked, NoMemory>
     ensures rows { IfOk result (λ checked. AreRows input.entry.front.now (map string_bytes input.entry.ignores.now) site.entry.files.now linked.now sought.now.anchors.items sought.now.invalid.items sought.now.outside.items checked.broken.items (map string_bytes checked.unused_ignores.items)) }
     ensures redirects { IfOk result (λ checked. map way_of checked.redirects.items ≡ flat_map (ways_with input.entry.front.now) (map linked_at linked.now)) }
+    ensures unreached { IfOk result (λ checked. map string_bytes checked.unreached.items ≡ unreached_in input.entry.front.now site.entry.files.now input.entry.reached) }
     ensures unlisted { IfOk result (λ checked. map string_bytes checked.unlisted.items ≡ unlisted_in input.entry.front.now input.entry.aliases.now input.entry.documents.now input.entry.listed) }
     ensures base_hint { IfOk result (λ checked. option_map hint_at checked.base_hint ≡ base_hint_of input.entry.rooted site.entry.files.now checked.broken.items) }
     ensures totals { IfOk result (λ checked. checked.totals ≡ totals_of input.entry.aliases.now input.entry.documents.now site.entry.pages.results.now checked.broken.items checked.redirects.items) }
@@ -317,10 +321,11 @@ fn lists_of(
     site: Site<'_, '_>,
     broken: &[Broken],
 ) -> Result<Lists, NoMemory>
+    ensures unreached { IfOk result (λ lists. map string_bytes lists.unreached.items ≡ unreached_in input.entry.front.now site.entry.files.now input.entry.reached) }
     ensures unlisted { IfOk result (λ lists. map string_bytes lists.unlisted.items ≡ unlisted_in input.entry.front.now input.entry.aliases.now input.entry.documents.now input.entry.listed) }
     ensures base_hint { IfOk result (λ lists. option_map hint_at lists.base_hint ≡ base_hint_of input.entry.rooted site.entry.files.now broken.now) }
 {
-    let unreached = unreached_files(alloc, input, site)?;
+    let unreached = unreached(alloc, input, site.files)?;
     let unlisted = unlisted(alloc, input)?;
     let base_hint = base_hint(alloc, input.rooted, site.files, broken)?;
     Ok(Lists {
@@ -328,18 +333,6 @@ fn lists_of(
         unlisted,
         base_hint,
     })
-}
-
-/// Returns the files that the crawl did not reach, if the check has to list them.
-fn unreached_files(
-    alloc: Global,
-    input: CheckInput<'_>,
-    site: Site<'_, '_>,
-) -> Result<Vec<String>, NoMemory> {
-    match input.reached {
-        Some(results) => unreached(alloc, input.front, results, site.files),
-        None => Ok(Vec::new(alloc)),
-    }
 }
 
 /// What is reported after the missing pages: the missing anchors, the texts of invalid links, and the URLs outside the site.

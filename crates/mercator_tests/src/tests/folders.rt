@@ -79,6 +79,7 @@ fn settings(none: &[String]) -> CheckSettings<'_> {
         seeds: none,
         invalid: true,
         rooted: false,
+        maps: &[],
         reachable: false,
         report: ReportOptions::default(),
         folder: "",
