@@ -1,4 +1,4 @@
-use Rattle.mercator.proofs.Prelude.{◌≡◌, List, ℕ, arith, refl, inl, err_from_is_err_and}
+use Rattle.mercator.proofs.Prelude.{refl, inl, err_from_is_err_and}
 use Rattle.mercator.proofs.Folders.{ends_diff, gains_diff, plain_check}
 use Rattle.std.proofs.lemmas.Result.{IfErr-weaker, IfOk-weaker}
 use Rattle.mercator.proofs.commands.folder.run_check.Goals as goal
@@ -13,6 +13,6 @@ returns-in-Diff-clause-fault g c = λ input.
 
 pub returns-in_err-fix_folder-in-Write-clause-fault : goal.returns-in_err-fix_folder-in-Write-clause-fault
 returns-in_err-fix_folder-in-Write-clause-fault g c = λ input.
-    let r = c.from_residual-in_err-fix_folder-in-Write in
+    let r = c.from_residual in
     let same = err_from_is_err_and r.result r.ensures.1 in
-    rw (same.1, same.2) (inl (plain_check c.args.options.now _ c.in_err-fix_folder-in-Write.ensures, refl))
+    rw (same.1, same.2) (inl (plain_check c.args.options.now _ c.in_err-fix_folder-in-Write.ensures.plain, refl))
