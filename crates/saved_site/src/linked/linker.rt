@@ -65,6 +65,7 @@ impl<K: SiteName + Send + Sync> PageSink for Linker<K> {
 
     /// A page that is not below the top is left out.
     fn with_page(self, page: SitePage) -> Result<Linker<K>, AllocError>
+        requires { ∥ K.serves page ∥₁ }
         ensures { IfOk result (λ linker. linker ≡ (self.0, with_found self.0 self.1 (found_of page))) }
     {
         let is_next = is_next(self.alloc, self.top.as_str(), &[], page.url())?;
