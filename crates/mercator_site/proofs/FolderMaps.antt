@@ -1,5 +1,5 @@
 -- Maps and their folders, one by one.
-use Rattle.mercator_site.proofs.Prelude.{◌≡◌, ℕ, ◌+◌, ◌∙◌, ap, false, get_or, length, map, refl, string_bytes, subst, sym, take, List, [], ◌∷◌, ◌++◌, Ok, Result, resolve}
+use Rattle.mercator_site.proofs.Prelude.{◌≡◌, ℕ, ◌+◌, ◌∙◌, ap, false, get_or, length, map, string_bytes, subst, sym, take, List, [], ◌∷◌, ◌++◌, Ok, Result, resolve}
 use Rattle.std.specs.Prelude.{◌<◌, All, Bool}
 use Rattle.std.proofs.lemmas.List.{map-append, take_more}
 use Rattle.std.proofs.lemmas.List.Elements.{All-push}

@@ -1,5 +1,5 @@
 -- Folders in which links that lead out of the site are looked up.
-use Rattle.std.specs.Prelude.{◌≡◌, ◌==◌, ◌-◌, ℕ, Bool, true, false, not, ◌||◌, ◌&&◌, if◌then◌else◌, List, [], ◌∷◌, ◌++◌, length, drop, nat_lt, codes, map, flat_map, string_bytes, bytes_eq, All, Ok}
+use Rattle.std.specs.Prelude.{◌≡◌, ◌==◌, ◌-◌, ℕ, Bool, true, false, not, ◌&&◌, if◌then◌else◌, List, [], ◌∷◌, ◌++◌, length, drop, nat_lt, codes, map, flat_map, string_bytes, bytes_eq, All, Ok}
 use Rattle.std.specs.List.{AllZip, after_first, before_first, list_any}
 use Rattle.crawl_keys.specs.CanonicalText.{canonical, resolve}
 use Rattle.crawl_pages.specs.declared.page.Page.{Page}
