@@ -113,6 +113,7 @@ site_text file unsited.BadSeed = codes "--seed: not a URL below BASE"
 site_text file (unsited.NoStart link) = string_bytes link ++ codes ": no such page to start at"
 site_text file unsited.NoDocuments = file ++ codes ": no HTML documents"
 site_text file unsited.TooLarge = file ++ codes ": more than 1073741824 bytes of links"
+site_text file unsited.PagesLost = file ++ codes ": a page was lost; please report this bug"
 site_text file (unsited.Crawl failure) = crawl_text failure.error
 site_text file unsited.NoMemory = codes "out of memory"
 

@@ -1,6 +1,7 @@
 -- The report of a check of a folder's links.
-use Rattle.std.specs.Prelude.{◌≡◌, ◌==◌, ℕ, Bool, true, false, not, ◌&&◌, ◌||◌, List, [], ◌∷◌, ◌++◌, length, map, string_bytes, Ok, Option, Some, None, ⊤, All, option_map}
+use Rattle.std.specs.Prelude.{◌≡◌, ◌==◌, ℕ, Bool, true, false, not, ◌&&◌, ◌||◌, List, [], ◌∷◌, ◌++◌, length, map, String, Vec, string_bytes, Ok, Option, Some, None, ⊤, All, option_map}
 use Rattle.std.specs.Str.Lines.{lines}
+use Rattle.std.specs.declared.alloc.Global.{Global}
 use Rattle.check_report.specs.Printing.{printed_text, printed_json, printed_annotations, printed_page, printed_junit, printed_sarif}
 use Rattle.check_report.specs.Text.{is_broken}
 use Rattle.check_report.specs.declared.value.Findings.{Findings}
@@ -22,6 +23,11 @@ use Rattle.mercator_site.specs.Own.{AreOwn, own_of}
 use Rattle.mercator_site.specs.declared.options.CheckForm.{CheckForm}
 use Rattle.mercator_site.specs.declared.options.CheckForm.TheVariants as form
 use Rattle.saved_site.specs.Aliases.{alias_page}
+use Rattle.saved_site.specs.AllPages.{IsWebOf}
+use Rattle.site_files.specs.Bodies.{contents_at}
+use Rattle.site_files.specs.Files.{IsOfNames, server_of}
+use Rattle.site_files.specs.Serving.{Serves, folder_with}
+use Rattle.site_files.specs.declared.rules.Rules.{Rules}
 use Rattle.site_files.specs.Below.{IsTop}
 use Rattle.saved_site.specs.Below.{IsWebBelow}
 use Rattle.saved_site.specs.Meaning.{IsSiteWeb}
@@ -139,17 +145,28 @@ pub record IsCheck (name top web : List ℕ) (aliases : List Alias) (asks : Asks
 abbrev pub AreAliasesIn : List ℕ → List Alias → Type 0
 AreAliasesIn web aliases = All (λ alias. page_of (lines web) alias.url ≡ alias_page alias) aliases
 
--- such a check, of the saved web of a site with some aliases, whose pages are below the top
-pub record IsSiteCheck (name top : List ℕ) (asks : Asks) (broken : Bool) (text : List ℕ) : Type 0 where
+-- what can be read of the file with an index: only the body of this file, or anything
+abbrev pub IsBody : List (Vec ℕ Global) → ℕ → Option (List ℕ) → Type 0
+IsBody bodies index found = found ≡ contents_at bodies index
+
+abbrev pub IsAny : ℕ → Option (List ℕ) → Type 0
+IsAny index found = Unit {0}
+
+-- such a check, of the saved web of a site with some aliases, whose pages are below the top. They are those that a server returns for
+-- these files, of which this can be read
+pub record IsSiteCheck (files : SiteFiles) (reads : ℕ → Option (List ℕ) → Type 0) (name top : List ℕ) (asks : Asks) (broken : Bool) (text : List ℕ) : Type 0 where
   pub web : List ℕ
   pub made : IsSiteWeb web
+  pub of_files : IsWebOf files reads web
   pub below : IsWebBelow top web
   pub aliases : List Alias
   pub are_aliases : AreAliasesIn web aliases
   pub checked : IsCheck name top web aliases asks broken text
 
--- such a check, of a site whose top is that of BASE
-pub record IsSiteCheckAt (name base : List ℕ) (asks : Asks) (broken : Bool) (text : List ℕ) : Type 0 where
-  pub top : List ℕ
-  pub is_top : IsTop base top
-  pub site : IsSiteCheck name top asks broken text
+-- such a check, of the files with these names and bodies, whose top is that of BASE. A server answers for them as it does for a folder
+pub record IsSiteCheckAt (names : List (String Global)) (bodies : List (Vec ℕ Global)) (rules : Rules) (name base : List ℕ) (asks : Asks) (broken : Bool) (text : List ℕ) : Type 0 where
+  pub files : SiteFiles
+  pub of_names : IsOfNames names rules files
+  pub server : Serves (server_of files) (folder_with names []) files.pages files.linked
+  pub is_top : IsTop base (string_bytes files.site.top)
+  pub site : IsSiteCheck files (IsBody bodies) name (string_bytes files.site.top) asks broken text

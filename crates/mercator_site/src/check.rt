@@ -24,7 +24,7 @@ use check_report::{Contents, External};
 use crawl_keys::CanonUrl;
 use crawl_pages::PageResult;
 use crawl_run::Crawled;
-use saved_site::{LinkedPages, LinkedSite, site_pages};
+use saved_site::{LinkedPages, LinkedSite, has_all_pages, site_pages};
 use site_check::{CheckInput, Checked, MapName, check_site};
 use site_files::{FileBytes, InMemory, Note, Rules, SiteFiles, SiteNames};
 use std::alloc::{AllocError, Global};
@@ -100,7 +100,7 @@ pub(crate) struct CrawledSite<'a> {
 /// Checks a site whose files are in memory.
 ///
 /// # Errors
-/// `BadBase`, `NoFiles`, `TooLarge`, `BadHost`, `BadSeed`, `NoStart`, `NoDocuments`, `NoMemory`; `Crawl` if the crawl is incomplete.
+/// `BadBase`, `NoFiles`, `TooLarge`, `PagesLost`, `BadHost`, `BadSeed`, `NoStart`, `NoDocuments`, `NoMemory`; `Crawl` if the crawl is incomplete.
 pub fn report_of_files<R: Threads + Wait + Sync>(
     rt: &R,
     alloc: Global,
@@ -109,7 +109,7 @@ pub fn report_of_files<R: Threads + Wait + Sync>(
     rules: &Rules,
     settings: CheckSettings<'_>,
 ) -> Result<CheckReport, SiteFault>
-    ensures { IfOk result (λ report. IsSiteCheckAt settings.entry.name.now base.now (asks_in settings.entry) report.is_broken report.text.items) }
+    ensures { IfOk result (λ report. IsSiteCheckAt files.entry.names.now files.entry.bodies.now rules.now settings.entry.name.now base.now (asks_in settings.entry) report.is_broken report.text.items) }
 {
     let input = SiteNames {
         names: files.names,
@@ -128,7 +128,7 @@ pub fn report_of_files<R: Threads + Wait + Sync>(
 /// Checks a site with these files. Appends a note about each page that is skipped or changed.
 ///
 /// # Errors
-/// `BadSeed`, `NoStart`, `NoDocuments`, `TooLarge`, `BadHost`, `NoMemory`; `Crawl` if the crawl is incomplete.
+/// `BadSeed`, `NoStart`, `NoDocuments`, `TooLarge`, `PagesLost`, `BadHost`, `NoMemory`; `Crawl` if the crawl is incomplete.
 pub(crate) fn report_of_site<R: Threads + Wait + Sync, B: FileBytes + Sync>(
     rt: &R,
     alloc: Global,
@@ -137,11 +137,14 @@ pub(crate) fn report_of_site<R: Threads + Wait + Sync, B: FileBytes + Sync>(
     settings: CheckSettings<'_>,
     notes: &mut Vec<Note>,
 ) -> Result<CheckReport, SiteFault>
-    ensures checked { IfOk result (λ report. IsSiteCheck settings.entry.name.now (string_bytes files.now.site.top) (asks_in settings.entry) report.is_broken report.text.items) }
+    ensures checked { IfOk result (λ report. IsSiteCheck files.now (B.reads bytes.now) settings.entry.name.now (string_bytes files.now.site.top) (asks_in settings.entry) report.is_broken report.text.items) }
     ensures incomplete { IfErr result (λ fault. is_unfinished fault ≡ true → IsIncompleteAt (string_bytes files.now.site.top) settings.entry.reachable (map string_bytes settings.entry.seeds.now) settings.entry.workers) }
 {
     check_starts(alloc, files, settings.seeds, settings.reachable)?;
     let site = site_pages(rt, alloc, files, settings.seeds, bytes)?;
+    if !has_all_pages(files, &site.pages) {
+        return Err(SiteFault::PagesLost);
+    }
     push_page_notes(alloc, notes, settings.front, site.notes.as_slice())?;
     report_of_pages(rt, alloc, site, files, bytes, settings)
 }

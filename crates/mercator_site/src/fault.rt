@@ -34,6 +34,8 @@ pub enum SiteFault {
     NoDocuments,
     /// The saved web exceeds the limit of a crawl.
     TooLarge,
+    /// Not every page of the site was made, which would be a bug.
+    PagesLost,
     /// The crawl of the site failed. The reason is never that memory ran out.
     Crawl(CrawlFailure),
     /// An allocation failed.

@@ -276,6 +276,7 @@ impl fmt::Display for SiteText<'_> {
             SiteFault::NoStart(link) => write!(f, "{link}: no such page to start at"),
             SiteFault::NoDocuments => write!(f, "{file}: no HTML documents"),
             SiteFault::TooLarge => write!(f, "{file}: more than 1073741824 bytes of links"),
+            SiteFault::PagesLost => write!(f, "{file}: a page was lost; please report this bug"),
             SiteFault::Crawl(failure) => CrawlText(failure.error).fmt(f),
             SiteFault::NoMemory => f.write_str("out of memory"),
         }

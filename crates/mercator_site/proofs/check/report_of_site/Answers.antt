@@ -2,15 +2,18 @@ use Rattle.mercator_site.proofs.Prelude.{ℕ, Bool, List, Result, Ok, Err, IfErr
 use Rattle.std.proofs.Common.{true≢false}
 use Rattle.mercator_site.specs.declared.check.CheckReport.{CheckReport}
 use Rattle.mercator_site.specs.declared.fault.SiteFault.{SiteFault}
-use Rattle.mercator_site.proofs.TopCrawls.{aliases_in, source_of}
+use Rattle.mercator_site.proofs.TopCrawls.{aliases_in, source_of, web_of}
+use Rattle.saved_site.specs.AllPages.{IsWebOf}
 use Rattle.saved_site.specs.Below.{IsWebBelow}
 use Rattle.saved_site.specs.Meaning.{IsSiteWeb}
+use Rattle.site_files.specs.declared.files.SiteFiles.{SiteFiles}
+use Rattle.std.specs.Prelude.{Option}
 use Rattle.mercator_site.proofs.check.report_of_site.Goals as goal
 
-site_check : (answer : Result CheckReport SiteFault) (name top web : List ℕ) (aliases : List Alias) (asks : Asks) → IsSiteWeb web → IsWebBelow top web → AreAliasesIn web aliases
-    → IfOk answer (λ report. IsCheck name top web aliases asks report.is_broken report.text.items) → IfOk answer (λ report. IsSiteCheck name top asks report.is_broken report.text.items)
-site_check (Ok report) name top web aliases asks made below are is = record { web = web; made = made; below = below; aliases = aliases; are_aliases = are; checked = is }
-site_check (Err fault) name top web aliases asks made below are is = tt
+site_check : (answer : Result CheckReport SiteFault) (files : SiteFiles) (reads : ℕ → Option (List ℕ) → Type 0) (name top web : List ℕ) (aliases : List Alias) (asks : Asks) → IsSiteWeb web → IsWebOf files reads web → IsWebBelow top web → AreAliasesIn web aliases
+    → IfOk answer (λ report. IsCheck name top web aliases asks report.is_broken report.text.items) → IfOk answer (λ report. IsSiteCheck files reads name top asks report.is_broken report.text.items)
+site_check (Ok report) files reads name top web aliases asks made of_files below are is = record { web = web; made = made; of_files = of_files; below = below; aliases = aliases; are_aliases = are; checked = is }
+site_check (Err fault) files reads name top web aliases asks made of_files below are is = tt
 
 incomplete_at : (answer : Result CheckReport SiteFault) (top web : List ℕ) (reachable : Bool) (links : List (List ℕ)) (workers : ℕ) → IsSiteWeb web
     → IfErr answer (λ fault. is_unfinished fault ≡ true → IsTopIncomplete top web reachable links workers) → IfErr answer (λ fault. is_unfinished fault ≡ true → IsIncompleteAt top reachable links workers)
@@ -21,7 +24,9 @@ pub returns-clause-checked : goal.returns-clause-checked
 returns-clause-checked g c =
     let source = c.in_ok-site.ensures.source in
     let site = c.in_ok-site.site in
-    site_check c.report_of_pages.result _ _ source.bytes site.aliases.items _ source.web source.below
+    let files = c.args.files.now in
+    let reads = g.B.FileBytes.reads c.args.bytes.now in
+    site_check c.report_of_pages.result files reads _ _ source.bytes site.aliases.items _ source.web (web_of files reads _ site.pages source c.in_ok-site.ensures.served (c.has_all_pages.ensures c.if-has_all_pages.false)) source.below
     (aliases_in site.pages source.bytes site.aliases.items (source_of _ _ source) c.in_ok-site.ensures.aliases) (c.report_of_pages.ensures.checked source.bytes (source_of _ _ source))
 
 pub returns-clause-incomplete : goal.returns-clause-incomplete
