@@ -31,3 +31,4 @@ mod worst;
 pub use check::{Checked, check_site};
 pub use ignored::read_ignores;
 pub use input::{CheckInput, MapName};
+pub use maps::is_under;

@@ -43,7 +43,7 @@ fn is_longer(best: Option<MapName<'_>>, map: MapName<'_>) -> bool
 }
 
 /// Whether a URL begins with the prefix of a map, or is the prefix without its slash.
-fn is_under(url: &str, map: MapName<'_>) -> bool
+pub fn is_under(url: &str, map: MapName<'_>) -> bool
     ensures { result ≡ is_under url.now map.entry }
 {
     begins(map.prefix, url) || is_folder(url, map.prefix)
