@@ -18,14 +18,14 @@ ghost use Rattle.site_check.specs.Totals.{totals_of};
 ghost use Rattle.site_check.specs.Unlisted.{unlisted_in};
 ghost use Rattle.site_check.specs.Unreached.{unreached_in};
 
-use crate::anchors::anchor_rows;
+use crate::anchors::push_anchors;
 use crate::base::base_hint;
 use crate::file_entries::leave_out;
 use crate::ignored::unused;
 use crate::input::CheckInput;
-use crate::invalid::{InvalidText, invalid_rows, invalid_texts};
+use crate::invalid::{InvalidText, invalid_texts, push_texts};
 use crate::leads::{Lead, Maps, link_indices, targets};
-use crate::leaving::{Outside, outside_leads, outside_rows, outside_urls};
+use crate::leaving::{Outside, outside_leads, outside_urls, push_outside};
 use crate::linked::{Linked, linked_results};
 use crate::located::{TargetPlace, by_number};
 use crate::missing_anchors::{MissingAnchor, missing_anchors, sort_by_anchor};
@@ -364,13 +364,25 @@ fn broken_all(
     let invalid = anchors.saturating_add(others.invalid.len());
     let mut found = by_number(alloc, places, invalid.saturating_add(others.outside.len()))?;
     let found = found.as_mut_slice();
-    let rows = missing_rows(alloc, input, site, linked, found)?;
-    let anchor = anchor_rows(alloc, input.ignores, others.anchors, pages, found)?;
-    let text = invalid_rows(alloc, input.ignores, others.invalid, anchors, found)?;
-    let outside = outside_rows(alloc, input, others.outside, invalid, found)?;
-    let rows = joined(rows, anchor)?;
-    let rows = joined(rows, text)?;
-    joined(rows, outside)
+    let mut all = missing_rows(alloc, input, site, linked, found)?;
+    push_anchors(alloc, input.ignores, others.anchors, pages, found, &mut all)?;
+    push_texts(
+        alloc,
+        input.ignores,
+        others.invalid,
+        anchors,
+        found,
+        &mut all,
+    )?;
+    push_outside(
+        alloc,
+        input.ignores,
+        others.outside,
+        invalid,
+        found,
+        &mut all,
+    )?;
+    Ok(all)
 }
 
 /// The rows of the missing pages. Which pages have a file name is only looked up if a page is missing.
@@ -413,21 +425,6 @@ fn has_none(linked: &[Linked<'_>]) -> bool
     true
 }
 
-/// Some rows, and then others that are not of pages.
-fn joined(rows: Vec<Broken>, others: Vec<Broken>) -> Result<Vec<Broken>, NoMemory>
-    ensures rows { IfOk result (λ all. rows_in all.items ≡ rows_in rows.items ++ rows_in others.items) }
-    ensures names { IfOk result (λ all. (front : List ℕ) (files : SiteFiles) → AreNamed front files rows.items → AreNamed front files others.items → AreNamed front files all.items) }
-    ensures hints { IfOk result (λ all. hints_in all.items ≡ hints_in rows.items ++ hints_in others.items) }
-    ensures anchors { IfOk result (λ all. anchors_in all.items ≡ anchors_in rows.items ++ anchors_in others.items) }
-    ensures invalid { IfOk result (λ all. invalid_rows_in all.items ≡ invalid_rows_in rows.items ++ invalid_rows_in others.items) }
-    ensures leaving { IfOk result (λ all. leaving_in all.items ≡ leaving_in rows.items ++ leaving_in others.items) }
-{
-    let mut all = rows;
-    let mut others = others;
-    all.append(&mut others)?;
-    Ok(all)
-}
-
 /// The entries that match no missing page, none of these others, and no location of these rows.
 fn unused_entries(
     alloc: Global,
@@ -440,7 +437,7 @@ fn unused_entries(
 {
     let mut texts = anchor_texts(alloc, others.anchors)?;
     push_invalid(others.invalid, &mut texts)?;
-    push_outside(others.outside, &mut texts)?;
+    push_urls(others.outside, &mut texts)?;
     push_missing(input.front, linked, &mut texts)?;
     let all = unused(alloc, input.ignores, texts.as_slice(), rows)?;
     Ok(all)
@@ -468,7 +465,7 @@ fn push_invalid<'a>(invalid: &[InvalidText<'a>], texts: &mut Vec<&'a str>) -> Re
 }
 
 /// Appends the URLs outside the site, as they are printed.
-fn push_outside<'a>(outside: &'a [Outside<'_>], texts: &mut Vec<&'a str>) -> Result<(), NoMemory>
+fn push_urls<'a>(outside: &'a [Outside<'_>], texts: &mut Vec<&'a str>) -> Result<(), NoMemory>
     ensures { OnOk result (pointed texts.new.items ≡ pointed texts.old.items ++ map shown_at outside.now) }
 {
     for one in outside {

@@ -271,29 +271,29 @@ fn outside_number(ignores: &[String], number: usize, one: &Outside<'_>) -> Optio
     }
 }
 
-/// The rows of these URLs, in order, without those that an entry matches. `found` has the locations of the links to each, after those
-/// of `before` other targets.
-pub(crate) fn outside_rows(
+/// Appends the rows of these URLs, in order, without those that an entry matches. `found` has the locations of the links to each, after
+/// those of `before` other targets.
+pub(crate) fn push_outside(
     alloc: Global,
-    input: CheckInput<'_>,
+    ignores: &[String],
     outside: &[Outside<'_>],
     before: usize,
     found: &mut [Vec<Place>],
-) -> Result<Vec<Broken>, NoMemory>
-    ensures rows { IfOk result (λ all. rows_in all.items ≡ []) }
-    ensures names { IfOk result (λ all. (front : List ℕ) (files : SiteFiles) → AreNamed front files all.items) }
-    ensures anchors { IfOk result (λ all. anchors_in all.items ≡ []) }
-    ensures invalid { IfOk result (λ all. invalid_rows_in all.items ≡ []) }
-    ensures leaving { IfOk result (λ all. leaving_in all.items ≡ flat_map (row_at (map string_bytes input.entry.ignores.now)) (map outside_at outside.now)) }
-    ensures hints { IfOk result (λ all. hints_in all.items ≡ []) }
+    all: &mut Vec<Broken>,
+) -> Result<(), NoMemory>
+    ensures rows { OnOk result (rows_in all.new.items ≡ rows_in all.old.items) }
+    ensures names { OnOk result ((front : List ℕ) (files : SiteFiles) → AreNamed front files all.old.items → AreNamed front files all.new.items) }
+    ensures anchors { OnOk result (anchors_in all.new.items ≡ anchors_in all.old.items) }
+    ensures invalid { OnOk result (invalid_rows_in all.new.items ≡ invalid_rows_in all.old.items) }
+    ensures leaving { OnOk result (leaving_in all.new.items ≡ leaving_in all.old.items ++ flat_map (row_at (map string_bytes ignores.now)) (map outside_at outside.now)) }
+    ensures hints { OnOk result (hints_in all.new.items ≡ hints_in all.old.items) }
 {
-    let mut all = Vec::new(alloc);
     for (index, one) in outside.iter().enumerate() {
         let number = before.saturating_add(index);
         let places = take_places(alloc, found, number, one.text.as_str());
-        push_row(alloc, input.ignores, one, places, &mut all)?;
+        push_row(alloc, ignores, one, places, all)?;
     }
-    Ok(all)
+    Ok(())
 }
 
 /// Appends the row of a URL, unless an entry matches it.
