@@ -679,6 +679,20 @@ KNOWN = [
         ({"kind": "hint", "base": "/p/", "paths": 2, "of": 4},), settings=NO_BASE,
     ),
     Known(
+        "folders of paths from the root that have another text in a URL, or a dot in front",
+        {"index.html": "<a href='/a b/x'><a href='/a b/y'><a href=/../c/x><a href=/../c/y><a href=/.d/x><a href=/.d/y><a href=/%41/x><a href=/%41/y><a href=/a-b_c.d~1/z>"},
+        [
+            "%41/x index.html:1:103", "%41/y index.html:1:118", ".d/x index.html:1:75", ".d/y index.html:1:89", "a%20b/x index.html:1:10", "a%20b/y index.html:1:27",
+            "a-b_c.d~1/z index.html:1:133", "c/x index.html:1:43", "c/y index.html:1:59",
+        ],
+        settings=NO_BASE, without=("hint",),
+    ),
+    Known(
+        "the folder of a path from the root with signs of URLs", {"index.html": "<a href='/a b/x'><a href=/a-b_c.d~1/y><a href='\t/a-b_c.d~1/z'>"},
+        ["a%20b/x index.html:1:10", "a-b_c.d~1/y index.html:1:26", "a-b_c.d~1/z index.html:1:48"],
+        ({"kind": "hint", "base": "/a-b_c.d~1/", "paths": 2, "of": 2},), settings=NO_BASE,
+    ),
+    Known(
         "documents that no sitemap lists",
         {
             "index.html": "<a href=gone><a href=f>", "a.html": "", "b.html": "", "c.html": "", "404.html": "", "d/index.html": "<a href=e.html?x>", "d/404.html": "", "d/e.html": "", "f": "<html>",

@@ -20,7 +20,7 @@ Row = Dict[str, Any]
 FRAGMENT = "\"<>`"  # percent-encoded in a fragment, in addition to controls, spaces and everything beyond ASCII
 MOST_FILES = 10  # the number of files in the list of files with the most broken links
 ERROR_PAGE = "404.html"  # the last name of the URL of a page that no sitemap has to list
-ROOT_FOLDER = re.compile("/([^/?#]+)/")  # the first folder of a path from the root
+ROOT_FOLDER = re.compile("/([A-Za-z0-9_~-][A-Za-z0-9_.~-]*)/")  # the first folder of a path from the root, if it has the same text in a URL
 LINE_LIMIT = 4096  # the most bytes in a line of a saved web
 FILE_LIMIT = 1 << 30  # the most bytes of a file that is read
 
