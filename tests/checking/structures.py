@@ -83,7 +83,7 @@ class Link(NamedTuple):
 
     def rule(self) -> str:
         """The rule that is broken."""
-        return message(self.row).replace("no such ", "missing ").replace("in a ", "in ").replace(" ", "-").lower()
+        return message(self.row).partition(",")[0].replace("no such ", "missing ").replace("in a ", "in ").replace(" ", "-").lower()
 
 
 def links_of(rows: List[Row]) -> List[Link]:
