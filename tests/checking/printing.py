@@ -14,7 +14,7 @@ ESCAPES = re.compile("(?:%[0-9A-Fa-f]{2})+")
 CONTROL = "[\0-\x1f\x7f-\x9f\u2028\u2029\u202a-\u202e\u2066-\u2069]"
 REASONS = {
     "not_url": "not a URL", "unknown_scheme": "unknown scheme", "local_file": "local file",
-    "above_folder": "leaves the folder", "outside_base": "outside BASE, on the same host",
+    "above_folder": "leaves the folder", "outside_base": "outside BASE, on the same host", "not_in_map": "no such page in the mapped folder",
 }
 UNLISTED = "not in a sitemap"
 KINDS = ("broken", "invalid", "leaving")
