@@ -55,17 +55,16 @@ class Fixer:
                 yield url, response.url
 
     def moves_by_file(self) -> Dict[str, Moves]:
-        """By file, the missing pages that have one candidate and to which a reported link of the file leads."""
+        """By file, the missing pages without a query that have one candidate and to which a reported link of the file leads."""
         names, found = self.model.names(), {}
         for row in self.model.missing_pages(self.model.linking()):
             if row["kind"] == "broken":
                 same = row["same_name"]
                 continue
-            path, mark, query = self.whole(row["target"]).partition("?")
-            candidate = names[last_of(path)][0] if same is not None else ""
-            is_kept = not mark or not self.model.settings.exact and not self.model.settings.queries
-            if candidate and "?" not in candidate and is_kept and last_of(path) not in self.model.settings.indices:
-                found.setdefault(row["file"], {})[path + mark + query] = candidate + mark + query
+            url = self.whole(row["target"])
+            candidate = names[last_of(url)][0] if same is not None else ""
+            if candidate and "?" not in url + candidate and last_of(url) not in self.model.settings.indices:
+                found.setdefault(row["file"], {})[url] = candidate
         return found
 
     def whole(self, target: str) -> str:
@@ -153,7 +152,7 @@ class Page:
         rest = written[len(path):]
         if lead in self.redirects:
             return path + "/" + rest
-        new = self.new_path(written, self.moves[lead].partition("?")[0])
+        new = self.new_path(written, self.moves[lead])
         is_right = written.startswith(("/", "\\")) or SCHEME.match(written) or self.leads_to(written, lead) and self.leads_to(new + rest, self.moves[lead])
         return new + rest if is_right and PLAIN.fullmatch(new) else None
 

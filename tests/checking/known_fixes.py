@@ -31,7 +31,7 @@ FIXED = [
     page("another spelling of a folder without its slash", "<a href=%64><a href=d>", "<a href=%64><a href=d/>"),
     page("a folder without an index file", "<a href=e>", "<a href=e>", 0, "e/x.png"),
     page("a page that was moved", "<a href='old/a.html'><a href=a.html#x?y><img src=\"old/b.png\">", "<a href='new/a.html'><a href=new/a.html#x?y><img src=\"new/b.png\">"),
-    page("a page that was moved, with a query", "<a href=a.html?x#y>", "<a href=new/a.html?x#y>"),
+    page("a page that was moved, with a query", "<a href=a.html?x#y><a href='a.html#?x'>", "<a href=a.html?x#y><a href='new/a.html#?x'>"),
     page("a path from the root, without BASE", "<a href=/old/a.html><a href='\\old\\a.html'>", "<a href=/new/a.html><a href='/new/a.html'>"),
     page("two pages with the name", "<a href=a.html>", "<a href=a.html>", 0, "e/a.html"),
     page("a suggestion that is an index file", "<a href=e/index.htm>", "<a href=e/index.htm>", 0, "f/index.htm"),
@@ -60,10 +60,10 @@ FIXED = [
     Fixed(
         "the forms of links, with BASE",
         {
-            "index.html": "<a href=/p/a.html><a href=//docs.test/p/old/a.html?q><a href=HTTP://docs.test:80/p/a.html#x><a href=http:a.html><a href=//docs.test/p/d><a href=/p/d#x>",
+            "index.html": "<a href=/p/a.html><a href=//docs.test/p/old/a.html#q><a href=HTTP://docs.test:80/p/a.html#x><a href=http:a.html><a href=//docs.test/p/d><a href=/p/d#x>",
             "new/a.html": "", "d/index.html": "",
         },
-        {"index.html": "<a href=/p/new/a.html><a href=//docs.test/p/new/a.html?q><a href=http://docs.test/p/new/a.html#x><a href=http://docs.test/p/new/a.html><a href=//docs.test/p/d/><a href=/p/d/#x>"},
+        {"index.html": "<a href=/p/new/a.html><a href=//docs.test/p/new/a.html#q><a href=http://docs.test/p/new/a.html#x><a href=http://docs.test/p/new/a.html><a href=//docs.test/p/d/><a href=/p/d/#x>"},
         settings=(("base", "http://docs.test/p/"),),
     ),
     Fixed(
