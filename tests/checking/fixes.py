@@ -56,7 +56,8 @@ class Fixer:
 
     def moves_by_file(self) -> Dict[str, Moves]:
         """By file, the missing pages without a query that have one candidate and to which a reported link of the file leads."""
-        names, found = self.model.names(), {}
+        names = self.model.names()
+        found: Dict[str, Moves] = {}
         for row in self.model.missing_pages(self.model.linking()):
             if row["kind"] == "broken":
                 same = row["same_name"]
@@ -74,7 +75,9 @@ class Fixer:
 
     def fixes(self) -> Fixes:
         """What is done with the folder."""
-        changes, notes, kinds = [], [], []
+        changes: List[Change] = []
+        notes: List[str] = []
+        kinds: List[str] = []
         pages = {response.name: url for url, response in self.model.responses.items() if isinstance(response, Found)}
         for name in sorted(pages):
             if self.site.form(name) in DOCUMENTS and self.site.document(name) is not None:
@@ -146,7 +149,8 @@ class Page:
 
     def new_text(self, written: str, lead: str) -> Optional[str]:
         """The new text of a link that leads to a URL with a move, if it is certain."""
-        path = PATH.match(written)[0]  # type: ignore[index]
+        found = PATH.match(written)
+        path = found[0] if found else ""
         if not path:
             return None
         rest = written[len(path):]
@@ -173,7 +177,8 @@ class Page:
 
     def checked(self, edits: List[Edit]) -> bytes:
         """The new bytes, or the old ones if a link of the new document leads elsewhere than it did and than it is to lead."""
-        parts, at = [], 0
+        parts: List[str] = []
+        at = 0
         for edit in edits:
             assert self.text is not None
             parts += [self.text[at:edit.at], edit.new]
