@@ -6,9 +6,11 @@ small folders with known results, the shipped site, each FOLDER, and random fold
 elements, encodings, redirects, and symbolic links. Without a FOLDER it takes the documentation folders that are installed
 (DOCUMENTATION in tests/checking/loading.py). The saved webs of random folders are compared with those of the converter,
 tests/checking/converter.py, with the model's tokenizer. Of each random folder, a random list of its pages is checked, too, with
---index. Some random folders have links to others, which the check finds with --map. In every eighth random folder, the other forms
-of the report are compared, and in others a check whose options are in a configuration file. With --model, only the model is tested: with the known results, the pages that the converter finds, the answers of
-Python's static server, and the definitions of a server and of feeds that the proofs cite (tests/checking/twins.py, feed_twins.py).
+--index. Many of them have links to other random folders, which are checked with --map. In every eighth, the other forms of the
+report are compared, in others a check whose options are in a configuration file, and in others the files that --fix rewrites after
+some files were moved. With --model, only the model is tested: with the known results, the pages that the converter finds, the
+answers of Python's static server, and the definitions of a server and of feeds that the proofs cite (tests/checking/twins.py,
+feed_twins.py).
 
 A random folder depends only on the seed and its number. The first folders that differ are kept, and their paths are printed, with
 the commands that compare only these.
