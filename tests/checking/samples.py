@@ -6,6 +6,7 @@ import contextlib
 import http.client
 import http.server
 import os
+import re
 import threading
 from collections import defaultdict
 from functools import lru_cache, partial
