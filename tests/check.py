@@ -6,9 +6,11 @@ small folders with known results, the shipped site, each FOLDER, and random fold
 elements, encodings, redirects, and symbolic links. Without a FOLDER it takes the documentation folders that are installed
 (DOCUMENTATION in tests/checking/loading.py). The saved webs of random folders are compared with those of the converter,
 tests/checking/converter.py, with the model's tokenizer. Of each random folder, a random list of its pages is checked, too, with
---index. In every eighth random folder, the other forms of the report are compared, and in others a check whose options are in a
-configuration file. With --model, only the model is tested: with the known results, the pages that the converter finds, the answers of
-Python's static server, and the definitions of a server and of feeds that the proofs cite (tests/checking/twins.py, feed_twins.py).
+--index. Many of them have links to other random folders, which are checked with --map. In every eighth, the other forms of the
+report are compared, in others a check whose options are in a configuration file, and in others the files that --fix rewrites after
+some files were moved. With --model, only the model is tested: with the known results, the pages that the converter finds, the
+answers of Python's static server, and the definitions of a server and of feeds that the proofs cite (tests/checking/twins.py,
+feed_twins.py).
 
 A random folder depends only on the seed and its number. The first folders that differ are kept, and their paths are printed, with
 the commands that compare only these.
@@ -24,6 +26,7 @@ import json
 import os
 import re
 import shlex
+import stat
 import subprocess
 import sys
 import tempfile
@@ -32,14 +35,15 @@ from concurrent.futures import ProcessPoolExecutor
 from functools import lru_cache, partial
 from pathlib import Path
 from random import Random
-from typing import Any, Callable, Dict, Iterator, List, NamedTuple, Optional, Sequence, Tuple
+from typing import Any, Callable, Dict, Iterator, List, NamedTuple, Optional, Sequence, Tuple, Union
 from urllib.parse import quote, unquote_to_bytes
 
 import drawn
-from checking import archives, drawing, feed_twins, forms, loading, printing, samples, structures, twins
+from checking import archives, drawing, feed_twins, fixes, forms, loading, printing, samples, structures, twins
 from checking.documents import TOOL, form_of
 from checking.known import KNOWN, Known, To, Zeros
-from checking.model import FLAGS, INDEX_FILES, NOWHERE, Model, Moved, Row, Settings, Site, is_short
+from checking.known_fixes import FIXED, Fixed
+from checking.model import FLAGS, INDEX_FILES, NOWHERE, Map, Model, Moved, Row, Settings, Site, is_short
 from checking.tags import document_tags
 from checking.webs import Converter, first_difference, model_fault
 
@@ -50,9 +54,9 @@ SHOWN, LONGEST = 5, 4000  # the number of differences that a series prints, and 
 EVERY = 8  # one of this number of random folders has its other forms compared
 # What 1,000 random folders must have at least LEAST times
 KINDS = "brokenpage brokenanchor placepage placeanchor hint worst redirect unreached unlisted external unused with_aliases error in_sheets in_xml in_feeds".split()
-KINDS += "written hint_fallback hint_index_file".split()
+KINDS += "written hint_fallback hint_index_file mapped fixed_redirect fixed_name fix_left fix_link".split()
 KINDS += [kind + reason for kind in ("invalid", "invalid_place") for reason in ("not_url", "unknown_scheme", "local_file")]
-KINDS += [kind + reason for kind in ("leaving", "leaving_place") for reason in ("above_folder", "outside_base")]
+KINDS += [kind + reason for kind in ("leaving", "leaving_place") for reason in ("above_folder", "outside_base", "not_in_map")]
 LEAST = 5
 PARTS = ("known", "folders", "random")
 ONLY_FOLDERS = ("--part", "folders")
@@ -79,6 +83,7 @@ def arguments(settings: Settings, folder: str, scratch: str, form: Sequence[str]
     words += [flag.option for flag in FLAGS if getattr(settings, flag.setting) == flag.value(True) and not (flag.setting == "exact" and settings.host)]
     words += host_options(settings)
     words += [f"--seed={seed}" for seed in settings.seeds]
+    words += [f"--map={one.prefix}={one.folder}" for one in settings.maps]
     words += [f"--workers={settings.workers}"] if settings.workers > 1 else []
     if settings.ignores:
         entries = Path(scratch, "ignores")
@@ -119,6 +124,11 @@ def printed_rows(program: str, settings: Settings, folder: str, more: Sequence[s
     with tempfile.TemporaryDirectory() as scratch:
         words = [*arguments(settings, folder, scratch), *more]
         done = run(program, with_file(words, not settings.is_rooted(), scratch) if in_file else words)
+    return rows_of(done)
+
+
+def rows_of(done: "subprocess.CompletedProcess[bytes]") -> List[Row]:
+    """The rows that a check has printed, or its error."""
     if done.returncode == 1 and not done.stdout:
         return [{"kind": "error", "message": done.stderr.decode(errors="replace").splitlines()[-1]}]
     rows = [json.loads(line) for line in done.stdout.splitlines()]
@@ -183,7 +193,7 @@ def broken_links(rows: List[Row]) -> List[str]:
     return sorted(found + [row["target"] for row in rows if row["kind"] == "broken" and row["target"] not in placed])
 
 
-def write_known(known: Known, top: Path) -> str:
+def write_known(known: Union[Known, Fixed], top: Path) -> str:
     """Writes the files to a folder and returns its path."""
     top.mkdir()
     for name, content in known.files.items():
@@ -221,6 +231,7 @@ def known_faults(program: Optional[str], number: int) -> Faults:
     with tempfile.TemporaryDirectory() as scratch:
         folder = write_known(known, Path(scratch, "site"))
         settings = Settings(BASE)._replace(**dict(known.settings))
+        settings = settings._replace(maps=tuple(Map(prefix, os.path.join(scratch, name)) for prefix, name in settings.maps))
         shown = settings if settings.front else settings._replace(front=BASE)
         faults = [(f"{known.name}, model", known_fault(known, Model(folder, shown).rows()))]
         if program:
@@ -228,15 +239,32 @@ def known_faults(program: Optional[str], number: int) -> Faults:
         return faults
 
 
+def fixed_faults(program: Optional[str], number: int) -> Faults:
+    """Compares what the model's --fix does in a folder with the known results, and with the program, if there is one."""
+    fixed = FIXED[number]
+    with tempfile.TemporaryDirectory() as scratch:
+        folder = write_known(fixed, Path(scratch, "site"))
+        settings = Settings(BASE)._replace(**dict(fixed.settings))
+        found = fixes.fixes_of(Model(folder, settings))
+        actual = {os.fsdecode(change.name): change.new for change in found.changes}
+        expected = {name: content if isinstance(content, bytes) else content.encode() for name, content in fixed.changed.items()}
+        fault = f"{actual} {found.notes}, expected {expected} {fixed.notes}"
+        faults: Faults = [(f"{fixed.name}, model", None if (actual, found.notes) == (expected, fixed.notes) else fault)]
+        if program:
+            faults.append((fixed.name, fix_fault(program, settings, folder)))
+        return faults
+
+
 def compare_known(program: Optional[str], jobs: int, name: Optional[str]) -> None:
     """Compares the folders with known results, or only the one with this name, with several processes."""
     series = Series("folders with known results")
-    numbers = [number for number, known in enumerate(KNOWN) if name in (None, known.name)]
     with ProcessPoolExecutor(jobs) as pool:
-        for number, faults in zip(numbers, pool.map(partial(known_faults, program), numbers)):
-            again = ["--part", "known", "--known", KNOWN[number].name, *([] if program else ["--model"])]
-            for what, fault in faults:
-                series.add(what, fault, again)
+        for folders, compare in ((KNOWN, known_faults), (FIXED, fixed_faults)):
+            numbers = [number for number, known in enumerate(folders) if name in (None, known.name)]
+            for number, faults in zip(numbers, pool.map(partial(compare, program), numbers)):
+                again = ["--part", "known", "--known", folders[number].name, *([] if program else ["--model"])]
+                for what, fault in faults:
+                    series.add(what, fault, again)
     series.end()
 
 
@@ -295,7 +323,32 @@ def draw_number(seed: int, number: int, above: str) -> Drawn:
         site = Site(str(folder), settings)
         found = [seed for seed in settings.seeds if site.response(site.start_of(seed))]
         settings = settings._replace(seeds=tuple(found))
-    return Drawn(str(folder), settings, drawing.random_options(draw))
+    options = drawing.random_options(draw)
+    maps = draw_maps(Random(f"maps {seed} {number}"), Path(above), settings.base)
+    return Drawn(str(folder), settings._replace(maps=maps), options)
+
+
+def draw_maps(draw: Random, above: Path, base: str) -> Tuple[Map, ...]:
+    """Makes random folders for links that leave the site in `above`, and adds a document with links to their files. Some sites have none."""
+    prefixes = drawing.random_prefixes(draw, base == NOWHERE) if base != BASE and draw.random() < 0.6 else []
+    maps = []
+    for number, prefix in enumerate(prefixes):
+        folder = above / f"map{number}/site"
+        folder.mkdir(parents=True)
+        drawing.draw_folder(draw, drawing.Documents(0.1), folder)
+        maps.append(Map(prefix, str(folder)))
+    if maps:
+        drawing.add_links_out(draw, above / "site", [(one.prefix, Path(one.folder)) for one in maps])
+    return tuple(maps)
+
+
+def draw_moved(seed: int, number: int, above: str) -> Drawn:
+    """Makes the random folder with this number, and moves some of its files. Symbolic links out of it are not followed."""
+    made = draw_number(seed, number, above)
+    settings = made.settings._replace(follow=False, seeds=())
+    root = "/" if settings.is_rooted() else settings.base[len(BASE) - 1:]
+    drawing.move_files(Random(f"moves {seed} {number}"), Path(made.folder), root)
+    return made._replace(settings=settings)
 
 
 class Outcome(NamedTuple):
@@ -369,13 +422,81 @@ FORMS: Dict[str, Tuple[Tuple[str, ...], Callable[[str, List[Row], str], Optional
 
 def list_fault(program: str, draw: Random, folder: str, settings: Settings) -> Optional[str]:
     """An error in the check of a random list of a folder's pages."""
-    with_base = settings._replace(base=BASE, front="") if settings.is_rooted() else settings
+    with_base = settings._replace(base=BASE, front="", maps=()) if settings.is_rooted() else settings
     listed = archives.draw_list(draw, folder, with_base)
     expected = archives.expected_rows(folder, listed)
     with tempfile.TemporaryDirectory() as scratch:
         index = Path(scratch, "index.txt")
         index.write_bytes(listed.text)
         return difference(printed_rows(program, listed.settings, folder, ["--index", str(index)]), expected)
+
+
+def snapshot(folder: str) -> Dict[str, Any]:
+    """By path, the bytes and the mode of each file of a folder. Of symbolic links, devices and folders only that they are there."""
+    found: Dict[str, Any] = {}
+    for path in Path(folder).rglob("*"):
+        status = path.lstat()
+        is_read = stat.S_ISREG(status.st_mode) and status.st_size < 1 << 20
+        found[os.path.relpath(path, folder)] = (path.read_bytes() if is_read else None, status.st_mode)
+    return found
+
+
+FIX_NOTE = re.compile(r"^mercator: (.*: (?:links left as they are: [0-9]+|links rewritten: [0-9]+|not rewritten, .*))$", re.M)
+
+
+def fix_notes(done: "subprocess.CompletedProcess[bytes]") -> List[str]:
+    """The notes of --fix on standard error."""
+    return FIX_NOTE.findall(done.stderr.decode(errors="replace"))
+
+
+def dry_fault(program: str, words: List[str], expected: fixes.Fixes, folder: str) -> Optional[str]:
+    """An error of --fix --dry-run: in its output, its status or its notes, or a change of the folder."""
+    before = snapshot(folder)
+    done = run(program, [*words, "--fix", "--dry-run"])
+    diff = fixes.diff_of(expected.changes)
+    if done.stdout != diff or done.returncode != (4 if diff else 0):
+        return f"diff: status {done.returncode}, actual {done.stdout!r}, expected {diff!r}, {done.stderr!r}"
+    if fix_notes(done) != expected.notes:
+        return f"notes of --dry-run: actual {fix_notes(done)}, expected {expected.notes}"
+    return None if snapshot(folder) == before else "--dry-run changed the folder"
+
+
+def fix_fault(program: str, settings: Settings, folder: str) -> Optional[str]:
+    """An error of --fix, which changes the folder: other changes or notes than the model's, or another report than that of the changed folder."""
+    model = Model(folder, settings)
+    expected = fixes.fixes_of(model)
+    with tempfile.TemporaryDirectory() as scratch:
+        words = arguments(settings, folder, scratch)
+        fault = dry_fault(program, words, expected, folder) if model.fault is None else None
+        if fault:
+            return fault
+        before = snapshot(folder)
+        done = run(program, [*words, "--fix"])
+        for change in expected.changes:
+            name = os.fsdecode(change.name)
+            before[name] = (change.new, before[name][1])
+        after = snapshot(folder)
+        others = sorted(name for name in {*before, *after} if before.get(name) != after.get(name))
+        if others:
+            return f"{others[0]}: actual {after.get(others[0])}, expected {before.get(others[0])}, {done.stderr!r}"
+        notes = expected.notes + [f"{printing.shown(os.fsdecode(change.name))}: links rewritten: {change.links}" for change in expected.changes]
+        if sorted(fix_notes(done)) != sorted(notes):
+            return f"notes: actual {fix_notes(done)}, expected {notes}"
+        changed = Model(folder, settings)
+        fault = difference(rows_of(done), changed.rows())
+        return fault or (dry_fault(program, words, fixes.fixes_of(changed), folder) if changed.fault is None else None)
+
+
+def moved_fault(program: str, seed: int, number: int, kinds: Counter[str]) -> Optional[str]:
+    """An error of --fix in the random folder with this number, in which files were moved. Counts the links that are rewritten, and the notes."""
+    with tempfile.TemporaryDirectory() as above:
+        made = draw_moved(seed, number, above)
+        model = Model(made.folder, made.settings)
+        found = fixes.fixes_of(model)
+        kinds.update(found.kinds)
+        kinds["fix_left"] += sum(": links left" in note for note in found.notes)
+        kinds["fix_link"] += sum("symbolic link" in note for note in found.notes)
+        return fix_fault(program, made.settings, made.folder)
 
 
 def details(row: Row) -> Iterator[str]:
@@ -396,7 +517,8 @@ def compare_number(program: str, seed: int, number: int) -> Outcome:
         faults: Faults = []
         try:
             faults.append((f"site {' '.join(options)}", web_fault(program, folder, options)))
-            rows = Model(folder, settings).rows()
+            model = Model(folder, settings)
+            rows = model.rows()
             faults.append((f"check --index {settings}", list_fault(program, Random(f"list {seed} {number}"), folder, settings)))
         except drawn.NotPlain:
             return Outcome(number, faults, Counter(), True)
@@ -406,7 +528,13 @@ def compare_number(program: str, seed: int, number: int) -> Outcome:
         if number % EVERY == 1:
             faults.append((f"check --config {settings}", difference(printed_rows(program, settings, folder, in_file=True), rows)))
         kinds = Counter(map(kind_of, rows))
+        if number % EVERY in (2, 6):
+            try:
+                faults.append((f"check --fix {settings}", moved_fault(program, seed, number, kinds)))
+            except drawn.NotPlain:
+                kinds["fix_skipped"] += 1
         kinds["with_aliases"] += rows[0].get("aliases", 0) > 0
+        kinds["mapped"] += sum(response is None and model.mapped.has(url) for url, response in model.others.items())
         kinds.update(kind for row in rows for kind in details(row))
         return Outcome(number, faults, kinds, False)
 
@@ -416,7 +544,7 @@ def compare_models(seed: int, number: int) -> Outcome:
     with tempfile.TemporaryDirectory() as above:
         folder, settings, _ = draw_number(seed, number, above)
         try:
-            model = Model(folder, settings._replace(base=BASE, seeds=()))
+            model = Model(folder, settings._replace(base=BASE, seeds=(), maps=()))
             served = Model(folder, SERVER)
         except drawn.NotPlain:
             return Outcome(number, [], Counter(), True)

@@ -985,7 +985,7 @@ VALUES = {
     "workers": "2", "max-pending": "9", "within": "a.test", "seeds": LIST, "ignore": LIST, "index": LIST,
     "config": f"/dev/null {LIST} none", "seed": "./ ..", "index-file": "index.html x", "fallback": "html", "log": "log .", "compact": "new",
     "format": "text json html github junit sarif pdf", "source-url": "http://b.test/", "host": "nginx github netlify plain apache",
-    "part": "0/2 2/2", "wait": "1", "list": "pending in-progress done stats all",
+    "part": "0/2 2/2", "wait": "1", "list": "pending in-progress done stats all", "map": "../x=. ..=none x",
 }
 ARGUMENTS = (
     *COMMANDS, "help", "play", "-", "--", "", "=", "-x", "-h", "--help", "--version", "--workers",
@@ -1010,6 +1010,7 @@ def command_lines(draw: Random) -> list[Case]:
     command = draw.choice([*COMMANDS])
     options = options_of(command)
     words = draw.sample(options, min(len(options), draw.randrange(4)))
+    words += ["--dry-run"] if "--fix" in words and "--dry-run" not in words else []  # no file is written
     words += [draw.choice(values.split()) for values in COMMANDS[command]]
     draw.shuffle(words)
     words.insert(0, command)

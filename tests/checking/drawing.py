@@ -318,6 +318,76 @@ def linked_path(draw: Random, place: str) -> str:
     return path_to(draw, spelled(draw, path), place and place + "/") + draw.choice([*ENDS[:14], "#x", "#y"])
 
 
+# The prefixes of links that leave a folder: without BASE, and with the BASE http://docs.test/manual/
+PREFIXES = {
+    True: ["../x", "../x/", "../x/y", "..", "../..", "../../doc", "../site/", "../\u00fc", "../%C3%BC/z", "../a b", "../sub//", "../../../q%3Fr"],
+    False: ["/x", "../x/y", "/", "http://docs.test/", "//docs.test/guide/", "http://DOCS.test:80/sub", "../\u00fc/", "/guide/sub", "/m%61nual", "/manual2", "/e f"],
+}
+SAME = [{"../x", "../x/"}, {"/", "http://docs.test/"}]  # prefixes that are the same
+
+
+def random_prefixes(draw: Random, is_rooted: bool) -> List[str]:
+    """One to three different prefixes."""
+    prefixes = draw.sample(PREFIXES[is_rooted], draw.choice((1, 1, 2, 3)))
+    return prefixes[:1] if any(len(same.intersection(prefixes)) > 1 for same in SAME) else prefixes
+
+
+def add_links_out(draw: Random, top: Path, maps: List[Tuple[str, Path]]) -> None:
+    """Adds two documents with links to the files of other folders, each below a prefix."""
+    for place in ("", "out/"):
+        links = [link_out(draw, prefix, folder, place) for prefix, folder in maps for _ in range(draw.randint(1, 6))]
+        write(top / place / "out.html", "\n".join(f'<a href="{html.escape(link)}">x</a>' for link in links).encode("utf-8", "replace"))
+
+
+def link_out(draw: Random, prefix: str, folder: Path, place: str) -> str:
+    """A link from a document in the folder `place` to a file of another folder, or to one that is not there."""
+    names = sorted(os.fsdecode(os.path.relpath(path, folder)) for path in folder.rglob("*"))
+    name = draw.choice([*names, *names, "", "gone.html", "index.html", "sub/", "../x"])
+    up = "../" * place.count("/") if prefix.startswith(".") else ""
+    slash = "" if prefix.endswith("/") or not name and draw.random() < 0.5 else "/"
+    return up + prefix + slash + spelled(draw, name) + draw.choice([*ENDS[:14], "#gone"])
+
+
+# Where files are moved
+NEW_FOLDERS = ["moved/", "moved/", "moved/\u00fc/", "new name/", "sub/deep/", "a&b/", "it's/", "100%/", ""]
+# Around a link in a document with moved links
+AROUND = [
+    '<a href="{}">x</a>', "<a href='{}'>", "<a href={}>", "<a href=' {}'>", "<a href='{} '>", "<a\r\nhref='{}'>\r\n", "\u00fc<img src='{}'>\n", "<img srcset='{} 1x, {} 2x'>",
+    "<img srcset='{0} 1x, a 2x' src='{0}'>", "<p style='a:url({})'>", "<style>a{{b:url( \"{}\" )}}</style>\n", "<meta http-equiv=refresh content='0;url={}'>", "<svg><a xlink:href='{}'/></svg>",
+    "<a href='{}'>{}</a>\U0001f514", "<!-- <a href='{}'> -->", "<template><a href='{}'></template>", "<link rel=stylesheet href='{}'>", "<a name='{}'>",
+]
+MOVED_HEADS = ["", "", "", "", "<!doctype html>\n", "<meta charset=l1>", "<meta charset=koi8-r>", "<base href='{}'>", "\ufeff"]
+
+
+def move_files(draw: Random, top: Path, root: str) -> None:
+    """Moves some files of a folder to other folders, and adds documents with links to where they were, and to folders. `root` is the path of BASE."""
+    files = sorted(path for path in top.rglob("*") if path.is_file() and not path.is_symlink() and path.name.isprintable())
+    names = []
+    for path in draw.sample(files, min(len(files), draw.randint(1, 4))):
+        new = top / draw.choice(NEW_FOLDERS) / draw.choice([path.name, path.name, f"m{len(names)}.html", f"m{len(names)}.svg"])
+        if not os.path.lexists(new) and not any(os.path.lexists(up) and not up.is_dir() for up in new.parents):
+            new.parent.mkdir(parents=True, exist_ok=True)
+            path.rename(new)
+            names.append(draw.choice(["", "", "old/", "sub/"]) + new.name if draw.random() < 0.5 else path.relative_to(top).as_posix())
+    names += 2 * sorted(os.path.relpath(path.parent, top) for path in top.rglob("index.html") if path.parent != top)
+    for place in draw.sample(["", "sub/", "fixed/deep/", "moved/"], draw.randint(1, 3)):
+        text = draw.choice(MOVED_HEADS).format(draw.choice(BASES)) + "".join(moved_link(draw, names, place, root) for _ in range(draw.randint(1, 8)))
+        name = draw.choice(["fixed.html", "fixed.html", "fixed.xhtml", "fix it.html", "fixed\n.html"])
+        write(top / place / name, text.encode(draw.choice(["utf-8"] * 5 + ["cp1252"]), "replace"))
+        if draw.random() < 0.2 and (top / place / name).is_file() and not os.path.lexists(top / place / "linked.html"):
+            os.symlink(name, top / place / "linked.html")
+
+
+def moved_link(draw: Random, names: List[str], place: str, root: str) -> str:
+    """Markup with a link from a document in the folder `place` to one of these names, in a random form."""
+    name = spelled(draw, draw.choice(names)) if names and draw.random() < 0.9 else draw.choice(["gone.html", "x/index.html", "."])
+    front = draw.choice(["../" * place.count("/")] * 4 + [root, root.replace("/", "\\"), "//docs.test" + root, "http://docs.test" + root, "HTTP:/" + root])
+    link = front + name + draw.choice(["", "", "", "#x", "?q", "?q#x", "#x?q", "/", "?"])
+    around = draw.choice(AROUND)
+    link = html.escape(link) if draw.random() < 0.8 or '"' in link or "'" in link else link.replace(".", "&#46;", 1)
+    return around.replace("{}", link) if "{}" in around and "{{" not in around else around.format(link)
+
+
 class Host(NamedTuple):
     """Random rules of a host."""
 

@@ -584,6 +584,35 @@ KNOWN = [
         ({"kind": "total", "leaving": 1}, {"kind": "unused", "name": "../d"}),
         settings=(*NO_BASE, ("ignores", ("../../doc/", "../d"))),
     ),
+    Known(
+        "links to mapped folders",
+        {
+            "index.html": "<a href=../x/a.html>\n<a href=../x/%61.html?q#no>\n<a href=../x>\n<a href=../x/>\n<a href=../x/d>\n<a href=../x/e/>\n<a href=../x/gone.html>\n"
+            "<a href=../xa/a.html>\n<a href=../x/y/c.html>\n<a href=../x/y/a.html>\n<a href=../z.html>\n<a href=../x?q>\n<a href=../x/up.html>",
+            "d/e.html": "<a href=../../x//a.html>\n<a href=../../x/y>\n<a href=../../x/none>", "../x/index.html": "", "../x/a.html": "<a href=no><a href=../site/>",
+            "../x/d/index.html": "", "../x/e/b.html": "", "../x/y/a.html": "", "../y/c.html": "", "../z.html": "", "../x/up.html": To("../z.html"),
+        },
+        [
+            "../x/e/ index.html:6:9", "../x/gone.html index.html:7:9", "../x/none d/e.html:3:9", "../x/up.html index.html:13:9", "../x/y d/e.html:2:9", "../x/y/a.html index.html:10:9",
+            "../x?q index.html:12:9", "../xa/a.html index.html:8:9", "../z.html index.html:11:9",
+        ],
+        (
+            {"kind": "total", "pages": 2, "files": 0, "links": 16, "redirects": 0, "aliases": 0, "broken": 0, "leaving": 9, "external": 0},
+            {"kind": "leaving", "target": "../x/gone.html", "reason": "not_in_map", "pages": 1}, {"kind": "leaving", "target": "../x/y", "reason": "not_in_map", "pages": 1},
+            {"kind": "leaving", "target": "../x?q", "reason": "above_folder", "pages": 1}, {"kind": "unused", "name": "../x/a"},
+        ),
+        settings=(*NO_BASE, ("maps", (("../x", "x"), ("../x/y/", "y"))), ("ignores", ("../x/a",))),
+    ),
+    Known(
+        "links to mapped folders, with BASE",
+        {
+            "index.html": "<a href=/x/a.html><a href=../x/no><a href=//docs.test:80/x>\n<a href=/c><a href=/c/><a href=https://docs.test/x/no><a href=/p>\n<a href=/%70/x><a href=/%70/index.html>",
+            "../x/index.htm": "", "../x/a.html": "", "../y/c.html": "",
+        },
+        ["http://docs.test/%70/x index.html:3:9", "http://docs.test/c/ index.html:2:20", "http://docs.test/p index.html:2:63", "http://docs.test/x/no index.html:1:27"],
+        ({"kind": "leaving", "target": "http://docs.test/p", "reason": "not_in_map", "pages": 1}, {"kind": "total", "leaving": 4, "broken": 0, "external": 1}),
+        settings=(("base", "http://docs.test/p/"), ("maps", (("/x/", "x"), ("http://docs.test", "y"))), ("fallback", True), ("external", True)),
+    ),
     Known("a seed without a page", {"index.html": ""}, [], error("x.html: no such page to start at"), settings=(("seeds", ("./", "x.html")),)),
     Known(
         "a sitemap",
@@ -677,6 +706,20 @@ KNOWN = [
         "the first of two folders", {"index.html": "<a href=/q/a><a href=/p/b><a href=/p/c><a href=/q/d#x>"},
         ["p/b index.html:1:22", "p/c index.html:1:35", "q/a index.html:1:9", "q/d index.html:1:48"],
         ({"kind": "hint", "base": "/p/", "paths": 2, "of": 4},), settings=NO_BASE,
+    ),
+    Known(
+        "folders of paths from the root that have another text in a URL, or a dot in front",
+        {"index.html": "<a href='/a b/x'><a href='/a b/y'><a href=/../c/x><a href=/../c/y><a href=/.d/x><a href=/.d/y><a href=/%41/x><a href=/%41/y><a href=/a-b_c.d~1/z>"},
+        [
+            "%41/x index.html:1:103", "%41/y index.html:1:118", ".d/x index.html:1:75", ".d/y index.html:1:89", "a%20b/x index.html:1:10", "a%20b/y index.html:1:27",
+            "a-b_c.d~1/z index.html:1:133", "c/x index.html:1:43", "c/y index.html:1:59",
+        ],
+        settings=NO_BASE, without=("hint",),
+    ),
+    Known(
+        "the folder of a path from the root with signs of URLs", {"index.html": "<a href='/a b/x'><a href=/a-b_c.d~1/y><a href='\t/a-b_c.d~1/z'>"},
+        ["a%20b/x index.html:1:10", "a-b_c.d~1/y index.html:1:26", "a-b_c.d~1/z index.html:1:48"],
+        ({"kind": "hint", "base": "/a-b_c.d~1/", "paths": 2, "of": 2},), settings=NO_BASE,
     ),
     Known(
         "documents that no sitemap lists",

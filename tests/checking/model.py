@@ -20,7 +20,7 @@ Row = Dict[str, Any]
 FRAGMENT = "\"<>`"  # percent-encoded in a fragment, in addition to controls, spaces and everything beyond ASCII
 MOST_FILES = 10  # the number of files in the list of files with the most broken links
 ERROR_PAGE = "404.html"  # the last name of the URL of a page that no sitemap has to list
-ROOT_FOLDER = re.compile("/([^/?#]+)/")  # the first folder of a path from the root
+ROOT_FOLDER = re.compile("/([A-Za-z0-9_~-][A-Za-z0-9_.~-]*)/")  # the first folder of a path from the root, if it has the same text in a URL
 LINE_LIMIT = 4096  # the most bytes in a line of a saved web
 FILE_LIMIT = 1 << 30  # the most bytes of a file that is read
 
@@ -87,6 +87,14 @@ HOSTS: Dict[str, Dict[str, Any]] = {
 
 SCHEMES = frozenset(known_schemes())
 
+
+class Map(NamedTuple):
+    """Another folder, in which the links are looked up that lead to the URLs below a prefix."""
+
+    prefix: str  # a link on the top
+    folder: str
+
+
 # The top of a folder whose URL is not known: a host of its own, and more folders than a link leads up
 NOWHERE = "http://folder.invalid/" + 32 * "-/"
 
@@ -112,6 +120,7 @@ class Settings(NamedTuple):
     indices: Tuple[str, ...] = INDEX_FILES  # the names of index files; in each folder the first one counts
     fallback: bool = False  # a file is also found without its suffix .html
     host: str = ""  # the host whose rules the last two settings and `exact` are, if the option names one
+    maps: Tuple[Map, ...] = ()
 
     def is_rooted(self) -> bool:
         """Whether no BASE is given. Then a path that begins with a slash is a path in the folder."""
@@ -407,16 +416,22 @@ class Site:
         return is_page(self.path(name)) or self.form(name) == "" and self.document(name) is not None
 
     def response(self, url: str) -> Response:
+        """What a server returns for a URL, or None if the line of the page in a saved web would be too long."""
+        served = self.served(url)
+        own = self.own[served.name] if isinstance(served, (Found, Alias)) else url
+        return served if is_short("page", url) and is_short("page", own) else None
+
+    def served(self, url: str) -> Response:
         """What a server returns for a URL."""
         key = self.key_of(url)
-        if key is None or not is_short("page", url):
+        if key is None:
             return None
         if key.path + b"/" in self.names and key.query is None:
             return Moved(self.url(key._replace(path=key.path + b"/")) + drawn.url_of(url).query)
         name = self.by_url.get(url) or self.files.get(key)
         if name is None and self.settings.fallback and os.path.basename(key.path):
             name = self.files.get(key._replace(path=key.path + b".html"))
-        if name is None or not is_short("page", self.own[name]):
+        if name is None:
             return None
         return Found(name) if url == self.own[name] else Alias(name, self.own[name])
 
@@ -511,11 +526,39 @@ class Site:
         return os.fsdecode(name)
 
 
+class Mapped:
+    """Folders in which links are looked up that leave the site."""
+
+    def __init__(self, settings: Settings) -> None:
+        self.folders: Dict[str, str] = {}  # by the URL of its top, which ends with a slash
+        self.sites: Dict[str, Site] = {}
+        for one in settings.maps:
+            top = url_of(one.prefix if one.prefix.endswith("/") else one.prefix + "/", drawn.url_of(settings.base))
+            assert top is not None and top not in self.folders
+            self.folders[top] = one.folder
+            self.sites[top] = Site(one.folder, settings._replace(base=top))
+
+    def top_of(self, url: str) -> Optional[str]:
+        """The longest prefix under which a URL is."""
+        return max((top for top in self.folders if url.startswith(top) or url + "/" == top), key=len, default=None)
+
+    def folder_of(self, url: str) -> Optional[str]:
+        """The folder in which a URL is looked up."""
+        top = self.top_of(url)
+        return None if top is None else self.folders[top]
+
+    def has(self, url: str) -> bool:
+        """Whether a server of the folder has a page or a redirect at a URL. The top without its slash is the top."""
+        top = self.top_of(url)
+        return top is not None and self.sites[top].served(top if url + "/" == top else url) is not None
+
+
 class Model:
     """A search from the top of a folder and from its documents, and the broken links that it finds."""
 
     def __init__(self, folder: str, settings: Settings, site: Optional[Site] = None) -> None:
         self.settings, self.site = settings, site or Site(folder, settings)
+        self.mapped = Mapped(settings)
         self.responses: Dict[str, Response] = {}
         self.others: Dict[str, Response] = {}  # of URLs of the site's origin that are not below the top
         self.links: Dict[str, List[Link]] = {}  # by the own URL of each file
@@ -669,8 +712,9 @@ class Model:
         return linking
 
     def leaving_urls(self, linking: Dict[str, Set[str]]) -> List[str]:
-        """The URLs of the site's origin without a page that are not below the top and to which pages link, in order."""
-        return sorted((url for url in linking if url in self.others and self.others[url] is None), key=str.encode)
+        """The URLs of the site's origin without a page, also in mapped folders, that are not below the top and to which pages link, in order."""
+        missing = (url for url in linking if url in self.others and self.others[url] is None)
+        return sorted((url for url in missing if not self.mapped.has(url)), key=str.encode)
 
     def leaving_links(self, linking: Dict[str, Set[str]]) -> Iterator[Row]:
         """The rows of links that leave the site, and of their locations."""
@@ -679,8 +723,10 @@ class Model:
             target = self.shown_outside(url)
             left = self.left(target, places.get(url, {}))
             if left is not None:
-                shown = {"target": target, "reason": "above_folder" if self.settings.is_rooted() else "outside_base"}
-                yield {"kind": "leaving", **shown, "pages": len(linking[url])}
+                folder = self.mapped.folder_of(url)
+                usual = "above_folder" if self.settings.is_rooted() else "outside_base"
+                shown = {"target": target, "reason": "not_in_map" if folder else usual}
+                yield {"kind": "leaving", **shown, "pages": len(linking[url]), **({"hint": folder} if folder else {})}
                 yield from self.place_rows({"kind": "leaving_place", **shown}, left)
 
     def shown_outside(self, url: str) -> str:

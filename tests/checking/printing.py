@@ -14,7 +14,7 @@ ESCAPES = re.compile("(?:%[0-9A-Fa-f]{2})+")
 CONTROL = "[\0-\x1f\x7f-\x9f\u2028\u2029\u202a-\u202e\u2066-\u2069]"
 REASONS = {
     "not_url": "not a URL", "unknown_scheme": "unknown scheme", "local_file": "local file",
-    "above_folder": "leaves the folder", "outside_base": "outside BASE",
+    "above_folder": "leaves the folder", "outside_base": "outside BASE, on the same host", "not_in_map": "no such page in the mapped folder",
 }
 UNLISTED = "not in a sitemap"
 KINDS = ("broken", "invalid", "leaving")
@@ -114,6 +114,11 @@ def line_of(row: Row, place: Row) -> str:
     return f"{place['file']}:{place['line']}:{place['column']}: {named(row)}: {message(row)}{as_written(row, place)}{advice(row)}"
 
 
+def rest_text(count: int) -> str:
+    """How many links to a target are not listed, and the option that lists them."""
+    return "1 more link (--all-sources lists it)" if count == 1 else f"{count} more links (--all-sources lists them)"
+
+
 def broken_lines(rows: List[Row], options: Options) -> Iterator[str]:
     """The lines of broken links."""
     limited = [(row, places, len(places) if options.all_sources else LISTED) for row, places in in_order(targets(rows))]
@@ -123,12 +128,12 @@ def broken_lines(rows: List[Row], options: Options) -> Iterator[str]:
                 yield f"{named(row)}: {message(row)}{advice(row)}"
             yield from (line_of(row, place) for place in places[:limit])
             if len(places) > limit:
-                yield f"  and {len(places) - limit} more"
+                yield f"  and {rest_text(len(places) - limit)}"
         return
     listed = [(row, place) for row, places, limit in limited for place in places[:limit]]
     yield from (line_of(row, place) for row, place in sorted(listed, key=lambda one: place_order(one[1])))
     yield from (f"{named(row)}: {message(row)}{advice(row)}" for row, places, _ in limited if not places)
-    yield from (f"{named(row)}: {message(row)}: {len(places) - limit} more" for row, places, limit in limited if len(places) > limit)
+    yield from (f"{named(row)}: {message(row)}: {rest_text(len(places) - limit)}" for row, places, limit in limited if len(places) > limit)
 
 
 COUNTS = {"unreached": "unreached files", "unlisted": "documents that no sitemap lists", "external": "external URLs"}
@@ -136,7 +141,8 @@ COUNTS = {"unreached": "unreached files", "unlisted": "documents that no sitemap
 
 def totals(total: Row) -> Iterator[str]:
     """The two lines of totals."""
-    first = [f"{name} {total[name]}" for name in ("pages", "files", "links", "redirects", "aliases")]
+    names = {"files": "other files"}
+    first = [f"{names.get(name, name)} {total[name]}" for name in ("pages", "files", "links", "redirects", "aliases")]
     first += [f"{text} {total[name]}" for name, text in COUNTS.items() if name in total]
     yield ", ".join(first)
     second = [f"broken links {total['broken']}", f"missing pages {total['missing_pages']}", f"missing anchors {total['missing_anchors']}"]
@@ -160,7 +166,7 @@ def list_line(row: Row) -> str:
 
 
 HEADINGS = {
-    "worst": "files with the most broken links:", "redirect": "links to redirects:", "unreached": "unreached files:", "unlisted": "documents that no sitemap lists:",
+    "worst": "files with the most broken links:", "redirect": "links to redirects (not errors):", "unreached": "unreached files:", "unlisted": "documents that no sitemap lists:",
     "external": "external links (not checked):", "unused": "unused --ignore entries:",
 }
 

@@ -6,12 +6,13 @@ import contextlib
 import http.client
 import http.server
 import os
+import re
 import threading
 from collections import defaultdict
 from functools import lru_cache, partial
 from pathlib import Path
 from typing import Any, Dict, Iterator, List, NamedTuple, Optional
-from urllib.parse import quote, unquote, urlsplit
+from urllib.parse import quote, unquote
 
 from checking.documents import Document, document_of, form_of, sheet_text, text_of
 from checking.printing import REASONS
@@ -117,10 +118,10 @@ class Folder:
         """A note if the link leads out of the folder, or names the host on which it is served."""
         value = self.value(finding)
         if value.startswith(("http:", "https:", "//")):
-            return [f"names a host: {urlsplit(value).netloc}"]
+            return [f"names a host: {re.split('[/?#]', value.partition('//')[2])[0]}"]
         if value.startswith("/"):
             return ["begins with a slash"]
-        path = os.path.normpath(os.path.join(os.path.dirname(finding.file), unquote(urlsplit(value).path)))
+        path = os.path.normpath(os.path.join(os.path.dirname(finding.file), unquote(re.split("[?#]", value)[0])))
         if not path.startswith(".."):
             return []
         exists = "exists" if os.path.exists(os.path.join(self.top, path)) else "does not exist"

@@ -18,6 +18,11 @@ SEGMENT = PCHAR.replace(":@", "@")
 RELATIVE = re.compile(rf"(?:/?{SEGMENT}+(?:/{PCHAR}*)*)?(?:\?(?:{PCHAR}|[/?])*)?(?:#(?:{PCHAR}|[/?])*)?")
 ABSOLUTE = re.compile(rf"[A-Za-z][A-Za-z0-9+.\-]*:(?://[A-Za-z0-9\-._~!$&'()*+,;=:@\[\]%]*)?(?:/{PCHAR}*)*")
 LEVELS = ("none", "note", "warning", "error")
+# The names of the rules, by what is missing, by the reason or by the kind of a row
+RULES = {
+    "page": "missing-page", "anchor": "missing-anchor", "not_url": "not-a-url", "unknown_scheme": "unknown-scheme", "local_file": "local-file",
+    "above_folder": "leaves-the-folder", "outside_base": "outside-base", "not_in_map": "not-in-map", "unlisted": "not-in-sitemap",
+}
 
 
 class Element(NamedTuple):
@@ -83,7 +88,7 @@ class Link(NamedTuple):
 
     def rule(self) -> str:
         """The rule that is broken."""
-        return message(self.row).replace("no such ", "missing ").replace("in a ", "in ").replace(" ", "-").lower()
+        return RULES[self.row.get("missing") or self.row.get("reason") or self.row["kind"]]
 
 
 def links_of(rows: List[Row]) -> List[Link]:

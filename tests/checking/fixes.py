@@ -1,0 +1,231 @@
+"""The links that `check --fix` rewrites, by the rules in the manual: the new bytes of each file, the diff and the notes.
+
+A link with a move leads to a redirect from a folder without its last slash, or to a missing page that has one candidate.
+"""
+
+from __future__ import annotations
+
+import os
+import re
+from typing import Dict, Iterator, List, NamedTuple, Optional, Tuple
+
+import drawn
+from checking.documents import TOOL, Document, document_of, with_query_in
+from checking.model import Base, Found, Model, Moved, begins_path, last_of, origin_of
+from checking.printing import shown
+
+SCHEME = re.compile("[A-Za-z][A-Za-z0-9+.-]*:")
+# What a new link may consist of: no quotes, references, parentheses, commas or white space
+PLAIN = re.compile(r"[A-Za-z0-9._~%/:@!$*+;=\[\]^{}|-]*")
+PATH = re.compile("[^?#]*")
+DOCUMENTS = ("html", "xml", "")  # the forms of files whose links are rewritten
+
+Moves = Dict[str, str]  # where links lead, and where they are to lead
+
+
+class Change(NamedTuple):
+    """A file with its bytes before and after."""
+
+    name: bytes
+    old: bytes
+    new: bytes
+    links: int  # how many are rewritten
+
+
+class Fixes(NamedTuple):
+    """What --fix does with a folder."""
+
+    changes: List[Change]
+    notes: List[str]
+    kinds: List[str]  # of each link that is rewritten
+
+
+class Fixer:
+    """Rewrites the links of a folder's documents, as far as it is certain where they are to lead."""
+
+    def __init__(self, model: Model) -> None:
+        self.model, self.site = model, model.site
+        self.redirects = dict(self.folders_without_slash())
+        self.candidates = self.moves_by_file()
+
+    def folders_without_slash(self) -> Iterator[Tuple[str, str]]:
+        """The URLs that redirect to a page whose URL has one more slash at its end."""
+        for url, response in self.model.responses.items():
+            if isinstance(response, Moved) and response.url == url + "/" and self.model.responses.get(response.url) is not None:
+                yield url, response.url
+
+    def moves_by_file(self) -> Dict[str, Moves]:
+        """By file, the missing pages without a query that have one candidate and to which a reported link of the file leads."""
+        names = self.model.names()
+        found: Dict[str, Moves] = {}
+        for row in self.model.missing_pages(self.model.linking()):
+            if row["kind"] == "broken":
+                same = row["same_name"]
+                continue
+            url = self.whole(row["target"])
+            candidate = names[last_of(url)][0] if same is not None else ""
+            if candidate and "?" not in url + candidate and last_of(url) not in self.model.settings.indices:
+                found.setdefault(row["file"], {})[url] = candidate
+        return found
+
+    def whole(self, target: str) -> str:
+        """The URL of a target of the report."""
+        front = self.model.settings.front
+        return target if not front or target.startswith(("http://", "https://")) else front + ("" if target == "./" else target)
+
+    def fixes(self) -> Fixes:
+        """What is done with the folder."""
+        changes: List[Change] = []
+        notes: List[str] = []
+        kinds: List[str] = []
+        pages = {response.name: url for url, response in self.model.responses.items() if isinstance(response, Found)}
+        for name in sorted(pages):
+            if self.site.form(name) in DOCUMENTS and self.site.document(name) is not None:
+                page = Page(self, name, pages[name])
+                edits = page.edits()
+                new = page.checked(edits)
+                if new != page.body and self.has_link(name):
+                    notes.append(f"{shown(os.fsdecode(name))}: not rewritten, because its path has a symbolic link")
+                    continue
+                left = page.left(new)
+                notes += [f"{shown(os.fsdecode(name))}: links left as they are: {left}"] if left else []
+                changes += [Change(name, page.body, new, len(edits))] if new != page.body else []
+                kinds += [edit.kind for edit in edits] if new != page.body else []
+        return Fixes(changes, notes, kinds)
+
+    def has_link(self, name: bytes) -> bool:
+        """Whether a part of the path of a file is a symbolic link."""
+        parts = name.split(b"/")
+        return any(os.path.islink(os.path.join(self.site.folder, *parts[:count])) for count in range(1, len(parts) + 1))
+
+
+class Edit(NamedTuple):
+    """A text that replaces another one in a file."""
+
+    at: int
+    old: str
+    new: str
+    kind: str
+
+
+class Page:
+    """A document and its links."""
+
+    def __init__(self, fixer: Fixer, name: bytes, url: str) -> None:
+        self.model, self.name, self.url = fixer.model, name, url
+        self.form = fixer.site.form(name) or "html"
+        self.body = fixer.site.body(name)
+        self.text = utf8(self.body)
+        self.lines = (self.text or "").split("\n")
+        document = fixer.site.document(name)
+        assert document is not None
+        self.document = document
+        self.redirects = fixer.redirects
+        self.moves = {**fixer.redirects, **fixer.candidates.get(os.fsdecode(name), {})}
+        self.leads = self.leads_of(document)
+
+    def leads_of(self, document: Document) -> List[str]:
+        """Where each link of a version of the document leads: to a URL, or the text of one that is neither http nor https."""
+        page = Base(drawn.url_of(self.url), False, "")
+        base = page if document.base is None else self.model.base_of(TOOL.cleaned(document.base), page)
+        texts = [with_query_in(TOOL.cleaned(link.text), document.charset) for link in document.links]
+        return [self.model.target_of(text, base) or text for text in texts]
+
+    def edits(self) -> List[Edit]:
+        """The changes of the document in the order of its text. Of the links at one location the first one that can be rewritten counts."""
+        found: Dict[int, Edit] = {}
+        for link, lead in zip(self.document.links, self.leads):
+            at = self.position(*self.document.lines.place(link.at))
+            written = TOOL.cleaned(link.text)
+            new = self.new_text(written, lead) if lead in self.moves else None
+            if self.text is not None and at is not None and new is not None and self.text.startswith(written, at):
+                found.setdefault(at, Edit(at, written, new, "fixed_redirect" if lead in self.redirects else "fixed_name"))
+        return [found[at] for at in sorted(found)]
+
+    def position(self, line: int, column: int) -> Optional[int]:
+        """The position of a location in the bytes as UTF-8, if there is one. Another encoding of the document does not matter."""
+        begin = sum(len(text) + 1 for text in self.lines[:line - 1])
+        return begin + column - 1 if line <= len(self.lines) and column <= len(self.lines[line - 1]) + 1 else None
+
+    def new_text(self, written: str, lead: str) -> Optional[str]:
+        """The new text of a link that leads to a URL with a move, if it is certain."""
+        found = PATH.match(written)
+        path = found[0] if found else ""
+        if not path:
+            return None
+        rest = written[len(path):]
+        if lead in self.redirects:
+            return path + "/" + rest
+        new = self.new_path(written, self.moves[lead])
+        is_right = written.startswith(("/", "\\")) or SCHEME.match(written) or self.leads_to(written, lead) and self.leads_to(new + rest, self.moves[lead])
+        return new + rest if is_right and PLAIN.fullmatch(new) else None
+
+    def leads_to(self, text: str, url: str) -> bool:
+        """Whether a text in the document leads to a URL if no base element changes that."""
+        return self.model.target_of(text, Base(drawn.url_of(self.url), False, "")) == url
+
+    def new_path(self, written: str, target: str) -> str:
+        """The new text before the query and the fragment, in the form of the old one."""
+        if SCHEME.match(written):
+            return target
+        if begins_path(written):
+            top = self.model.site.base
+            return "/" + target[len(str(top) if self.model.settings.is_rooted() else origin_of(top)):]
+        if written.startswith(("/", "\\")):
+            return target.partition(":")[2]
+        return relative(self.url.partition("?")[0], target)
+
+    def checked(self, edits: List[Edit]) -> bytes:
+        """The new bytes, or the old ones if a link of the new document leads elsewhere than it did and than it is to lead."""
+        parts: List[str] = []
+        at = 0
+        for edit in edits:
+            assert self.text is not None
+            parts += [self.text[at:edit.at], edit.new]
+            at = edit.at + len(edit.old)
+        new = ("".join(parts) + (self.text or "")[at:]).encode() if edits else self.body
+        leads = self.leads_of(self.read(new))
+        is_right = len(leads) == len(self.leads) and all(now in (old, self.moves.get(old)) for now, old in zip(leads, self.leads))
+        is_all = sum(now != old for now, old in zip(leads, self.leads)) == len(edits)
+        return new if is_right and is_all else self.body
+
+    def read(self, body: bytes) -> Document:
+        """Reads another version of the document."""
+        return document_of(body, self.form, self.model.settings.styles)
+
+    def left(self, new: bytes) -> int:
+        """How many links with a move lead where they led."""
+        return sum(now in self.moves and now == old for now, old in zip(self.leads_of(self.read(new)), self.leads))
+
+
+def utf8(body: bytes) -> Optional[str]:
+    """The text of bytes in UTF-8 without a byte order mark."""
+    try:
+        return None if body.startswith(b"\xef\xbb\xbf") else body.decode("utf-8")
+    except UnicodeError:
+        return None
+
+
+def relative(own: str, target: str) -> str:
+    """A link from one URL to another on the same host."""
+    shared = os.path.commonprefix([own, target]).rpartition("/")[0] + "/"
+    return "../" * own.count("/", len(shared)) + target[len(shared):]
+
+
+def fixes_of(model: Model) -> Fixes:
+    """What --fix does with the folder of a model."""
+    return Fixes([], [], []) if model.fault is not None else Fixer(model).fixes()
+
+
+def diff_of(changes: List[Change]) -> bytes:
+    """The changes as a diff, with one hunk for each changed line. A tab ends a name with a space, so that `patch` reads all of it."""
+    lines: List[bytes] = []
+    for change in changes:
+        name = shown(os.fsdecode(change.name)).encode() + b"\t" * (b" " in change.name)
+        lines += [b"--- a/%b\n" % name, b"+++ b/%b\n" % name]
+        pairs = zip(change.old.split(b"\n"), change.new.split(b"\n"))
+        last = change.old.count(b"\n") + 1
+        for number, (old, new) in enumerate(pairs, 1):
+            end = b"\n\\ No newline at end of file\n" if number == last else b"\n"
+            lines += [b"@@ -%d +%d @@\n" % (number, number), b"-", old, end, b"+", new, end] if old != new else []
+    return b"".join(lines)
