@@ -4,7 +4,7 @@ use check_report::{
     Redirect, Totals, print_annotations, print_json, print_junit, print_page, print_sarif,
     print_text,
 };
-use std::alloc::Global;
+use std::alloc::{AllocError, Global};
 
 /// A target, what is wrong with it, the suggested page, and the locations of its links.
 type Target = (
@@ -656,6 +656,14 @@ fn ends_with(bytes: &[u8], first: &[u8], second: &str, third: &[u8]) -> Option<b
     Some(rest.strip_suffix(second.as_bytes())?.ends_with(first))
 }
 
+/// Whether the form was printed, and ends with these three.
+fn shows(form: Result<Vec<u8>, NoMemory>, first: &[u8], second: &str, third: &[u8]) -> bool {
+    match form {
+        Ok(form) => ends_with(form.as_slice(), first, second, third) == Some(true),
+        Err(_) => false,
+    }
+}
+
 /// A missing page without locations, and an unused entry of an ignore list.
 #[derive(Drop)]
 struct Named {
@@ -690,13 +698,13 @@ fn seen(alloc: Global, row: &Seen) -> Option<[bool; 3]> {
         folder: "",
         source_url: "",
     };
-    let text = print_text(alloc, &named.findings(), contents, false).ok()?;
-    let page = print_page(alloc, &named.findings(), contents).ok()?;
-    let command = print_annotations(alloc, &named.findings(), contents).ok()?;
+    let text = print_text(alloc, &named.findings(), contents, false);
+    let page = print_page(alloc, &named.findings(), contents);
+    let command = print_annotations(alloc, &named.findings(), contents);
     Some([
-        ends_with(text.as_slice(), b":\n  ", row.1, b"\n")?,
-        ends_with(page.as_slice(), b"<pre>\n", row.1, AFTER_NAME)?,
-        ends_with(command.as_slice(), b"::error::", row.1, b": no such page\n")?,
+        shows(text, b":\n  ", row.1, b"\n"),
+        shows(page, b"<pre>\n", row.1, AFTER_NAME),
+        shows(command, b"::error::", row.1, b": no such page\n"),
     ])
 }
 
@@ -744,22 +752,34 @@ fn is_headed(alloc: Global, row: &Heading) -> Option<bool> {
     Some(has_heading && is_red == row.4.contains("bad"))
 }
 
+/// The location of a link in `NAMES`.
+fn named_place(alloc: Global, file: &str, written: &'static str) -> Option<Place> {
+    let written = if written.is_empty() { ENDING } else { written };
+    let file = text(alloc, file)?;
+    let written = Some(text(alloc, written)?);
+    Some(Place {
+        file,
+        line: 1,
+        column: 1,
+        written,
+    })
+}
+
+/// The locations of these links, in the reverse order.
+fn named_places(
+    alloc: Global,
+    names: &'static [(&'static str, &'static str)],
+) -> Option<Vec<Place>> {
+    let mut places = Vec::new(alloc);
+    for (file, written) in names.iter().rev() {
+        places.push(named_place(alloc, file, *written)?).ok()?;
+    }
+    Some(places)
+}
+
 /// The page of `NAMES`, with the links in the reverse order.
 fn named_target(alloc: Global) -> Option<Broken> {
-    let mut places = Vec::new(alloc);
-    for (file, written) in NAMES.iter().rev() {
-        let written = if written.is_empty() { ENDING } else { *written };
-        let file = text(alloc, file)?;
-        let written = Some(text(alloc, written)?);
-        places
-            .push(Place {
-                file,
-                line: 1,
-                column: 1,
-                written,
-            })
-            .ok()?;
-    }
+    let places = named_places(alloc, NAMES)?;
     let target = text(alloc, NAMED_URL)?;
     let same_name = Some(text(alloc, "%C3%A4%0A.html")?);
     let hint = Some(text(alloc, "about.html exists: --fallback html")?);
@@ -773,20 +793,25 @@ fn named_target(alloc: Global) -> Option<Broken> {
     })
 }
 
-/// The lines of the links in `NAMES`.
-fn named_lines(alloc: Global) -> Option<String> {
+/// Appends the line of a link in `NAMES`.
+fn push_named_line(lines: &mut String, file: &str, written: &str) -> Result<(), AllocError> {
+    lines.push_str(file)?;
+    lines.push_str(":1:1: ")?;
+    lines.push_str(NAMED)?;
+    lines.push_str(": no such page")?;
+    if !written.is_empty() {
+        lines.push_str(" (written as ")?;
+        lines.push_str(written)?;
+        lines.push_str(")")?;
+    }
+    lines.push_str(ADVICE)
+}
+
+/// The lines of these links.
+fn named_lines(alloc: Global, names: &'static [(&'static str, &'static str)]) -> Option<String> {
     let mut lines = String::new(alloc);
-    for (file, written) in NAMES {
-        lines.push_str(file).ok()?;
-        lines.push_str(":1:1: ").ok()?;
-        lines.push_str(NAMED).ok()?;
-        lines.push_str(": no such page").ok()?;
-        if !written.is_empty() {
-            lines.push_str(" (written as ").ok()?;
-            lines.push_str(written).ok()?;
-            lines.push_str(")").ok()?;
-        }
-        lines.push_str(ADVICE).ok()?;
+    for (file, written) in names {
+        push_named_line(&mut lines, file, written).ok()?;
     }
     Some(lines)
 }
@@ -814,7 +839,7 @@ fn is_by_file(alloc: Global) -> Option<bool> {
         folder: "",
         source_url: "",
     };
-    let lines = named_lines(alloc)?;
+    let lines = named_lines(alloc, NAMES)?;
     let text = print_text(alloc, &findings, contents, false).ok()?;
     Some(text.as_slice().ends_with(lines.as_str().as_bytes()))
 }
