@@ -77,7 +77,7 @@ or_more false so_far test = refl
 -- ---- one page more
 
 -- with a filter before it
-filter_twice : {X : Type 0} (p q both : X → Bool) → ((x : X) → both x ≡ (q x && p x)) → (xs : List X) → filter p (filter q xs) ≡ filter both xs
+pub filter_twice : {X : Type 0} (p q both : X → Bool) → ((x : X) → both x ≡ (q x && p x)) → (xs : List X) → filter p (filter q xs) ≡ filter both xs
 filter_twice p q both is [] = refl
 filter_twice p q both is (x ∷ xs) =
     elim (cases_Bool (q x)) [
@@ -90,7 +90,7 @@ filter_twice p q both is (x ∷ xs) =
           ∙ ap (λ b. cond b (x ∷ filter both xs) (filter both xs)) (sym (is x ∙ ap (λ b. b && p x) no))
     ]
 
-neither : (a b : Bool) → not (a || b) ≡ (not b && not a)
+pub neither : (a b : Bool) → not (a || b) ≡ (not b && not a)
 neither true true = refl
 neither true false = refl
 neither false true = refl

@@ -162,7 +162,7 @@ fn is_mark(byte: u8) -> bool
 }
 
 /// The numbers of paths by their first folders.
-type PathCounts<'a> = BTreeMap<&'a [u8], u64>;
+pub(crate) type PathCounts<'a> = BTreeMap<&'a [u8], u64>;
 
 /// The hint, if at least half and at least two of the paths have the same first folder, and the site does not have that.
 #[tactic(auto, using(crate::proofs::RootFolders::hint_lacks))]
@@ -186,7 +186,10 @@ fn hint_among(
 
 /// Counts how many of the paths have each folder.
 #[tactic(auto, using(crate::proofs::RootFolders::counts_more, crate::proofs::RootFolders::counts_end))]
-fn path_counts<'a>(alloc: Global, folders: &[&'a str]) -> Result<PathCounts<'a>, NoMemory>
+pub(crate) fn path_counts<'a>(
+    alloc: Global,
+    folders: &[&'a str],
+) -> Result<PathCounts<'a>, NoMemory>
     ensures { IfOk result (λ counts. (folder : List ℕ) → count_at counts folder ≡ path_count (pointed folders.now) folder) }
 {
     let mut counts = BTreeMap::new(alloc);
@@ -197,7 +200,7 @@ fn path_counts<'a>(alloc: Global, folders: &[&'a str]) -> Result<PathCounts<'a>,
 }
 
 /// Counts a path with this first folder.
-fn count_path<'a>(folder: &'a str, counts: &mut PathCounts<'a>) -> Result<(), NoMemory>
+pub(crate) fn count_path<'a>(folder: &'a str, counts: &mut PathCounts<'a>) -> Result<(), NoMemory>
     ensures { OnOk result (count_at counts.old folder.now + 1 < 2 ^ 64 → (other : List ℕ) → count_at counts.new other ≡ one_if (bytes_eq folder.now other) + count_at counts.old other) }
 {
     let count = count_at(counts, folder).saturating_add(1);
@@ -206,7 +209,7 @@ fn count_path<'a>(folder: &'a str, counts: &mut PathCounts<'a>) -> Result<(), No
 }
 
 /// The number of paths with this first folder so far.
-fn count_at<'a>(counts: &PathCounts<'a>, folder: &'a str) -> u64
+pub(crate) fn count_at<'a>(counts: &PathCounts<'a>, folder: &'a str) -> u64
     ensures { result ≡ count_at counts.now folder.now }
 {
     counts.get(&folder.as_bytes()).copied().unwrap_or(0)
