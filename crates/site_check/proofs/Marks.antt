@@ -1,6 +1,6 @@
 -- The marks of files, and the first pages of files without one.
 use Rattle.site_check.proofs.Prelude.{◌≡◌, ◌∙◌, ℕ, ◌+◌, ◌<◌, ◌≤◌, Bool, true, false, not, ◌||◌, ◌&&◌, cond, List, [], ◌∷◌, ◌++◌, Option, Some, None, length, map, filter, drop, get_or, slice_get, refl, sym, ap, inl, inr, arith, cases_Bool, cond-true, cond-false, append_assoc, PageFile, shown}
-use Rattle.std.proofs.Common.{◌==◌, eq-eqb, eqb-true, nat_lt, ne_eqb, replicate, set}
+use Rattle.std.proofs.Common.{◌==◌, eq-eqb, nat_lt, ne_eqb, replicate, set}
 use Rattle.std.proofs.Math.Bool.{or-false}
 use Rattle.std.proofs.lemmas.Bool.{cases_eq, cases_lt, le-ltb, lt-ltb, or_right}
 use Rattle.std.proofs.lemmas.List.{drop_all, get_or-replicate, get_or-set_other, get_or-set_same, get_or_default, get_or_past, length-replicate}

@@ -1,5 +1,5 @@
 //! The files with most broken links.
-ghost use Rattle.std.specs.Prelude.{◌≡◌, ◌==◌, ◌||◌, ◌++◌, ℕ, List, [], IfOk, OnOk, bytes_eq, fold, length, map, not, string_bytes, take_while};
+ghost use Rattle.std.specs.Prelude.{◌≡◌, ◌||◌, ◌++◌, ℕ, List, [], false, IfOk, OnOk, bytes_eq, fold, length, map, not, string_bytes, take_while};
 ghost use Rattle.std.specs.Cmp.Lexicographic.{slice_cmp};
 ghost use Rattle.std.specs.Ordering.{is_lt, nat_cmp};
 ghost use Rattle.crawl_sources.specs.Tallies.{pointed};

@@ -1,4 +1,4 @@
-use Rattle.site_check.proofs.Prelude.{◌≡◌, ◌+◌, ◌<◌, ◌^◌, ◌∙◌, ap, arith, bytes_eq, cond-false, cond-true, count_at, map, sym}
+use Rattle.site_check.proofs.Prelude.{◌≡◌, ◌∙◌, ap, arith, bytes_eq, cond-false, cond-true, count_at, map, sym}
 use Rattle.std.proofs.Common.{◌==◌, eqb-true}
 use Rattle.std.proofs.lemmas.Bool.{not-false}
 use Rattle.site_check.proofs.WorstFiles.{done_again, done_more}

@@ -1,4 +1,4 @@
-use Rattle.site_check.proofs.Prelude.{Vec, Global, ◌∙◌, [], IfOk-weaker, ap, fold, map, path_count, pointed, sym}
+use Rattle.site_check.proofs.Prelude.{Vec, Global, ◌∙◌, [], IfOk-weaker, ap, false, fold, map, path_count, pointed}
 use Rattle.check_report.specs.declared.value.FileCount.{FileCount}
 use Rattle.site_check.proofs.WorstFiles.{all_undone, ten_of_all}
 use Rattle.site_check.proofs.worst.worst.Goals as goal
