@@ -12,10 +12,10 @@ use Rattle.site_check.specs.Unreached.{first_pages, is_file, is_left, is_marked,
 -- ---- one mark more
 
 or_yes : (before is : Bool) → is ≡ true → (before || is) ≡ true
-or_yes before is yes = or_right before is yes
+or_yes before is passes = or_right before is passes
 
 or_no : (before is : Bool) → is ≡ false → (before || is) ≡ before
-or_no before is no = ap (λ b. before || b) no ∙ or-false before
+or_no before is fails = ap (λ b. before || b) fails ∙ or-false before
 
 pub marked : (marks : List Bool) (own index : ℕ) → own < length marks → is_marked (set marks own true) index ≡ (is_marked marks index || own == index)
 marked marks own index within =
@@ -81,13 +81,13 @@ pub filter_twice : {X : Type 0} (p q both : X → Bool) → ((x : X) → both x 
 filter_twice p q both is [] = refl
 filter_twice p q both is (x ∷ xs) =
     elim (cases_Bool (q x)) [
-      | inl yes ↦
-          ap (filter p) (cond-true (q x) (x ∷ filter q xs) (filter q xs) yes)
+      | inl passes ↦
+          ap (filter p) (cond-true (q x) (x ∷ filter q xs) (filter q xs) passes)
           ∙ (λ i. cond (p x) (x ∷ filter_twice p q both is xs i) (filter_twice p q both is xs i))
-          ∙ ap (λ b. cond b (x ∷ filter both xs) (filter both xs)) (sym (is x ∙ ap (λ b. b && p x) yes))
-      | inr no ↦
-          ap (filter p) (cond-false (q x) (x ∷ filter q xs) (filter q xs) no) ∙ filter_twice p q both is xs
-          ∙ ap (λ b. cond b (x ∷ filter both xs) (filter both xs)) (sym (is x ∙ ap (λ b. b && p x) no))
+          ∙ ap (λ b. cond b (x ∷ filter both xs) (filter both xs)) (sym (is x ∙ ap (λ b. b && p x) passes))
+      | inr fails ↦
+          ap (filter p) (cond-false (q x) (x ∷ filter q xs) (filter q xs) fails) ∙ filter_twice p q both is xs
+          ∙ ap (λ b. cond b (x ∷ filter both xs) (filter both xs)) (sym (is x ∙ ap (λ b. b && p x) fails))
     ]
 
 pub neither : (a b : Bool) → not (a || b) ≡ (not b && not a)

@@ -17,8 +17,8 @@ within_files p [] = omega arith
 within_files p (x ∷ xs) =
     let rest : length (take_while p xs) ≤ length xs = within_files p xs in
     elim (cases_Bool (p x)) [
-      | inl yes ↦ omega (arith, rest, ap length (cond-true (p x) (x ∷ take_while p xs) [] yes))
-      | inr no ↦ omega (arith, ap length (cond-false (p x) (x ∷ take_while p xs) [] no))
+      | inl passes ↦ omega (arith, rest, ap length (cond-true (p x) (x ∷ take_while p xs) [] passes))
+      | inr fails ↦ omega (arith, ap length (cond-false (p x) (x ∷ take_while p xs) [] fails))
     ]
 
 abbrev comes_first : code.Count → code.Count → Bool

@@ -101,7 +101,7 @@ fn first_folder(path: &str) -> Option<&str>
     ensures { option_map (λ folder. folder.now) result ≡ named_folder (to_slash path.now) }
 {
     match path.split_once('/') {
-        Some((folder, more)) => if is_folder(folder.as_bytes()) {
+        Some((folder, more)) => if is_folder(folder) {
             Some(folder)
         } else {
             None
@@ -111,10 +111,10 @@ fn first_folder(path: &str) -> Option<&str>
 }
 
 /// Whether a name is plain: it is not empty, does not begin with a dot, and has only bytes that its URL has as well.
-fn is_folder(name: &[u8]) -> bool
+fn is_folder(name: &str) -> bool
     ensures { result ≡ (begins_name name.now && not (list_any is_special name.now)) }
 {
-    begins_name(name) && !has_special(name)
+    begins_name(name.as_bytes()) && !has_special(name.as_bytes())
 }
 
 /// Whether a name begins with another byte than a dot.
