@@ -1,4 +1,4 @@
-use Rattle.site_check.proofs.Prelude.{Vec, Global, ◌∙◌, ◌||◌, IfOk-weaker, ap, list_any, pages_of}
+use Rattle.site_check.proofs.Prelude.{Vec, Global, ◌∙◌, ◌||◌, IfOk-weaker, list_any, pages_of}
 use Rattle.std.specs.Prelude.{String}
 use Rattle.site_check.proofs.unreached.unreached_of.Goals as goal
 use Rattle.site_check.specs.Unreached.{is_marked, is_page_of, left_among}
