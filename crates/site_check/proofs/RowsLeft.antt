@@ -78,7 +78,7 @@ unused_seen : (front : List ℕ) (entries : List (List ℕ)) (results : List Pag
 unused_seen front entries results links others rows whole all same own =
     record {
       anchors = own.anchors;
-      told_anchors = flat_seen (λ (row : TargetRow). if_anchor row.kind row.target) rows whole same ∙ own.told_anchors;
+      row_anchors = flat_seen (λ (row : TargetRow). if_anchor row.kind row.target) rows whole same ∙ own.row_anchors;
       exact =
           own.exact
           ∙ sym (λ i. filter (λ entry. not (cond (names_file entry) (any_seen (matches_seen (file_in entry) (target_in entry)) rows whole same i) (list_any (matches entry) (((own.anchors ++ links) ++ others) ++ missing_texts front results)))) entries);

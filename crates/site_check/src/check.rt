@@ -135,7 +135,7 @@ pub fn check_site<'f, R: Threads + Sync, B: FileBytes + Sync>(
     let all = linked.as_slice();
     let sought = sought_by(rt, alloc, input, site, all)?;
     let places = locate_by(rt, alloc, site, sought.leads.as_slice(), bytes)?;
-    told(alloc, input, site, all, &sought, places)
+    results_of(alloc, input, site, all, &sought, places)
 }
 
 /// Puts together what the threads of a check read: the results, the anchors and aliases, and the files of the site.
@@ -231,7 +231,7 @@ fn page_leads<'p, R: Threads + Sync>(
 }
 
 /// The results of a check, with the locations of the links.
-fn told(
+fn results_of(
     alloc: Global,
     input: CheckInput<'_>,
     site: Site<'_, '_>,
