@@ -10,7 +10,7 @@ use Rattle.site_check.proofs.RowsLeft.{filter_all}
 use Rattle.site_check.specs.Worst.{FileLinks, counted, each_once, is_before, is_done, links_of, put, put_ten, put_undone, undone}
 use Rattle.site_check.specs.declared.worst.Count as code
 
--- ---- where a file is inserted
+-- ---- a file is inserted
 
 pub within_files : {X : Type 0} (p : X → Bool) (xs : List X) → length (take_while p xs) ≤ length xs
 within_files p [] = omega arith

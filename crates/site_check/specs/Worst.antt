@@ -32,7 +32,7 @@ counted files file = record { file = file; links = path_count files file }
 
 -- ---- the order
 
--- one file comes before another: with more locations, or with as many and a lesser name
+-- one file comes before another: it has more locations, or equally many and a lesser name
 abbrev pub is_before : FileLinks → FileLinks → Bool
 is_before a b = nat_lt b.links a.links || (a.links == b.links && is_lt (slice_cmp nat_cmp a.file b.file))
 
