@@ -29,13 +29,13 @@ put_here c [] = refl
 put_here c (x ∷ xs) =
     let rest = take_while (comes_first c) xs in
     let is = is_before (links_of c) (links_of x) in
-    let now = links_of c ∷ links_of x ∷ map links_of xs in
+    let here = links_of c ∷ links_of x ∷ map links_of xs in
     let later = links_of x ∷ put (map links_of xs) (links_of c) in
     elim (cases_Bool is) [
-      | inl before ↦ ap (λ l. map links_of (insert (x ∷ xs) (length l) c)) (cond-false (comes_first c x) (x ∷ rest) [] (ap not before)) ∙ sym (cond-true is now later before)
+      | inl before ↦ ap (λ l. map links_of (insert (x ∷ xs) (length l) c)) (cond-false (comes_first c x) (x ∷ rest) [] (ap not before)) ∙ sym (cond-true is here later before)
       | inr after ↦
           ap (λ l. map links_of (insert (x ∷ xs) (length l) c)) (cond-true (comes_first c x) (x ∷ rest) [] (ap not after)) ∙ ap (λ l. links_of x ∷ l) (put_here c xs)
-          ∙ sym (cond-false is now later after)
+          ∙ sym (cond-false is here later after)
     ]
 
 pub put_there : (xs : List code.Count) (c : code.Count) (place : ℕ) → place ≡ length (take_while (λ other. not (is_before (links_of c) (links_of other))) xs) →
@@ -92,7 +92,7 @@ undone_front : (old new : List ℕ → Bool) (file : List ℕ) (more : List (Lis
     undone old (file ∷ more) ≡ cond (not (old file)) (file ∷ undone new more) (undone new more)
 undone_front old new file more marks =
     ap (λ l. cond (not (old file)) (file ∷ l) l)
-    (filter_twice (λ other. not (old other)) (λ other. not (bytes_eq file other)) (λ other. not (new other)) (λ other. ap not (marks other) ∙ neither (old other) (bytes_eq file other)) (each_once more))
+    (filter_twice (λ (other : List ℕ). not (old other)) (λ (other : List ℕ). not (bytes_eq file other)) (λ (other : List ℕ). not (new other)) (λ other. ap not (marks other) ∙ neither (old other) (bytes_eq file other)) (each_once more))
 
 fold_front : (done : Bool) (all : List (List ℕ)) (file : List ℕ) (rest : List (List ℕ)) (so_far : List FileLinks) →
     fold put_ten so_far (map (counted all) (cond (not done) (file ∷ rest) rest)) ≡ fold put_ten (put_undone done so_far (counted all file)) (map (counted all) rest)
@@ -116,4 +116,4 @@ files_end files i done all so_far whole past before = sym (ap (λ l. fold put_te
 -- ---- all files
 
 pub all_undone : (files : List (List ℕ)) → undone (λ _. false) files ≡ each_once files
-all_undone files = filter_all (λ _. true) (λ _. refl) (each_once files)
+all_undone files = filter_all (λ (_ : List ℕ). true) (λ _. refl) (each_once files)
