@@ -3,7 +3,9 @@ use Rattle.site_check.proofs.Prelude.{common_steps, ◌≡◌, ◌∙◌, ℕ, z
 use Rattle.std.proofs.Common.{◌==◌, insert, ne_eqb, take_while}
 use Rattle.std.proofs.Math.Bool.{or-false}
 use Rattle.std.proofs.lemmas.Bool.{or_right}
-use Rattle.std.proofs.lemmas.List.{drop_all, take-map, take-take}
+use Rattle.std.proofs.lemmas.List.{drop_all, length-take, take-map, take-take}
+use Rattle.std.proofs.lemmas.List.Folds.{length-prefix_len}
+use Rattle.std.specs.List.{prefix_len}
 use Rattle.site_check.proofs.Marks.{filter_twice, neither}
 use Rattle.site_check.proofs.RootFolders.{cut_here}
 use Rattle.site_check.proofs.RowsLeft.{filter_all}
@@ -13,34 +15,33 @@ use Rattle.site_check.specs.declared.worst.Count as code
 -- ---- a file is inserted
 
 pub within_files : {X : Type 0} (p : X → Bool) (xs : List X) → length (take_while p xs) ≤ length xs
-within_files p [] = omega arith
-within_files p (x ∷ xs) =
-    let rest : length (take_while p xs) ≤ length xs = within_files p xs in
-    elim (cases_Bool (p x)) [
-      | inl passes ↦ omega (arith, rest, ap length (cond-true (p x) (x ∷ take_while p xs) [] passes))
-      | inr fails ↦ omega (arith, ap length (cond-false (p x) (x ∷ take_while p xs) [] fails))
-    ]
+within_files p xs = omega (arith, length-take (prefix_len p xs) xs)
 
 abbrev comes_first : code.Count → code.Count → Bool
 comes_first c other = not (is_before (links_of c) (links_of other))
 
-put_here : (c : code.Count) (xs : List code.Count) → map links_of (insert xs (length (take_while (comes_first c) xs)) c) ≡ put (map links_of xs) (links_of c)
+one_plus : (n : ℕ) → 1 + n ≡ suc n
+one_plus n = omega arith
+
+put_here : (c : code.Count) (xs : List code.Count) → map links_of (insert xs (prefix_len (comes_first c) xs) c) ≡ put (map links_of xs) (links_of c)
 put_here c [] = refl
 put_here c (x ∷ xs) =
-    let rest = take_while (comes_first c) xs in
+    let n = prefix_len (comes_first c) xs in
     let is = is_before (links_of c) (links_of x) in
     let here = links_of c ∷ links_of x ∷ map links_of xs in
     let later = links_of x ∷ put (map links_of xs) (links_of c) in
     elim (cases_Bool is) [
-      | inl before ↦ ap (λ l. map links_of (insert (x ∷ xs) (length l) c)) (cond-false (comes_first c x) (x ∷ rest) [] (ap not before)) ∙ sym (cond-true is here later before)
+      | inl before ↦ ap (λ k. map links_of (insert (x ∷ xs) k c)) (cond-false (comes_first c x) (1 + n) 0 (ap not before)) ∙ sym (cond-true is here later before)
       | inr after ↦
-          ap (λ l. map links_of (insert (x ∷ xs) (length l) c)) (cond-true (comes_first c x) (x ∷ rest) [] (ap not after)) ∙ ap (λ l. links_of x ∷ l) (put_here c xs)
+          ap (λ k. map links_of (insert (x ∷ xs) k c)) (cond-true (comes_first c x) (1 + n) 0 (ap not after) ∙ one_plus n) ∙ ap (λ l. links_of x ∷ l) (put_here c xs)
           ∙ sym (cond-false is here later after)
     ]
 
 pub put_there : (xs : List code.Count) (c : code.Count) (place : ℕ) → place ≡ length (take_while (λ other. not (is_before (links_of c) (links_of other))) xs) →
     map links_of (take 10 (insert xs place c)) ≡ put_ten (map links_of xs) (links_of c)
-put_there xs c place is = ap (λ p. map links_of (take 10 (insert xs p c))) is ∙ sym (take-map links_of 10 (insert xs (length (take_while (comes_first c) xs)) c)) ∙ ap (take 10) (put_here c xs)
+put_there xs c place is =
+    let n = prefix_len (comes_first c) xs in
+    ap (λ p. map links_of (take 10 (insert xs p c))) (is ∙ length-prefix_len (comes_first c) xs) ∙ sym (take-map links_of 10 (insert xs n c)) ∙ ap (take 10) (put_here c xs)
 
 -- ---- ten of all
 
