@@ -4,7 +4,7 @@ use Rattle.crawl_pages.proofs.StableSort.{filter-kept, filter-dropped}
 use Rattle.crawl_pages.specs.Pages.{is_found, is_missing}
 use Rattle.site_check.specs.Leaving.{LeavingRow}
 use Rattle.site_check.specs.declared.input.MapName.{MapName}
-use Rattle.site_check.specs.declared.leaving.Outside.{Outside}
+use Rattle.site_check.specs.declared.outside.Outside.{Outside}
 use Rattle.site_check.specs.declared.linked.Linked as code
 
 -- what fails the test gives nothing

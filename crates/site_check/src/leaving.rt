@@ -19,6 +19,7 @@ use crate::leads::{Lead, Maps, Target, TargetNumbers, insert_all, link_indices, 
 use crate::linked::{Linked, linked_among};
 use crate::located::take_places;
 use crate::maps::folder_of;
+use crate::outside::Outside;
 use crate::shown::{begins, is_below};
 use crate::site_pages::Site;
 use crate::threads::leads_by;
@@ -28,20 +29,6 @@ use site_files::SiteFiles;
 use std::alloc::Global;
 use std::collections::BTreeMap;
 use std::thread::Threads;
-
-/// A URL on the site's host that is not below its top.
-#[derive(Drop)]
-pub(crate) struct Outside<'a> {
-    /// The result with this URL, and how many of the site's results link to it.
-    pub(crate) linked: Linked<'a>,
-    /// The URL as it is shown.
-    pub(crate) text: String,
-    /// The kind of its row.
-    pub(crate) kind: Kind,
-    /// The folder in which it was looked up.
-    pub(crate) folder: Option<&'a str>,
-    ghost is_its_kind: { is_leaving kind ≡ true },
-}
 
 /// The missing results on the site's host that are not below its top, in order, each with how many of the site's results link to its URL.
 #[tactic(auto, using(crate::proofs::Outsides::none_outside))]
