@@ -6,6 +6,8 @@ pub mod Linked
 pub mod LinkedPages
 pub mod Meaning
 pub mod Pages
+pub mod Served
 pub mod SiteTexts
 pub mod Sitemaps
+pub mod TaskPages
 pub mod WebTexts

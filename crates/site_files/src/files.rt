@@ -118,7 +118,7 @@ impl<'a> SiteFiles<'a> {
     }
 
     /// Adds the notes about the files and listed URLs without a page.
-    pub fn copy_doubles(&self, notes: &mut Vec<Note>) -> Result<(), AllocError> {
+    pub fn copy_notes(&self, notes: &mut Vec<Note>) -> Result<(), AllocError> {
         for note in &self.notes {
             notes.push(note.copy()?)?;
         }
