@@ -7,7 +7,7 @@ use Rattle.site_check.proofs.TextsOnce.{are_unused}
 use Rattle.site_check.specs.Reported.{AreReported, AreRows}
 use Rattle.site_check.specs.declared.input.MapName.{MapName}
 use Rattle.site_check.specs.declared.invalid.InvalidText.{InvalidText}
-use Rattle.site_check.specs.declared.leaving.Outside.{Outside}
+use Rattle.site_check.specs.declared.outside.Outside.{Outside}
 use Rattle.site_check.specs.declared.linked.Linked as code
 use Rattle.site_check.specs.declared.missing_anchors.MissingAnchor.{MissingAnchor}
 

@@ -4,7 +4,7 @@ use Rattle.crawl_pages.proofs.StableSort.{filter-kept, filter-dropped}
 use Rattle.crawl_pages.specs.Pages.{is_found, is_missing}
 use Rattle.site_check.specs.Leaving.{LeavingRow}
 use Rattle.site_check.specs.declared.input.MapName.{MapName}
-use Rattle.site_check.specs.declared.leaving.Outside.{Outside}
+use Rattle.site_check.specs.declared.outside.Outside.{Outside}
 use Rattle.site_check.specs.declared.linked.Linked as code
 
 -- what fails the test gives nothing
@@ -46,7 +46,7 @@ ways_of_all front results = grind (arith, common_steps, flat_linked, no_way, fou
 
 pub own_row : (front : List ℕ) (entries : List (List ℕ)) (url : List ℕ) (pages : ℕ) (page : Page) → (is_missing page && not (is_ignored entries (shown front url))) ≡ true →
     rows_at front entries url pages page ≡ record { text = shown front url; pages = pages } ∷ []
-own_row front entries url pages page told = grind (arith, common_steps, cases_Bool)
+own_row front entries url pages page reported = grind (arith, common_steps, cases_Bool)
 
 pub other_row : (front : List ℕ) (entries : List (List ℕ)) (url : List ℕ) (pages : ℕ) (page : Page) → (is_missing page && not (is_ignored entries (shown front url))) ≡ false →
     rows_at front entries url pages page ≡ []
@@ -54,7 +54,7 @@ other_row front entries url pages page other = grind (arith, common_steps, cases
 
 pub own_hint : (front : List ℕ) (entries : List (List ℕ)) (files : SiteFiles) (url : List ℕ) (page : Page) → (is_missing page && not (is_ignored entries (shown front url))) ≡ true →
     hints_of_page front entries files url page ≡ hint_of files url ∷ []
-own_hint front entries files url page told = grind (arith, common_steps, cases_Bool)
+own_hint front entries files url page reported = grind (arith, common_steps, cases_Bool)
 
 pub other_hint : (front : List ℕ) (entries : List (List ℕ)) (files : SiteFiles) (url : List ℕ) (page : Page) → (is_missing page && not (is_ignored entries (shown front url))) ≡ false →
     hints_of_page front entries files url page ≡ []

@@ -17,3 +17,4 @@ pub mod RootFolders
 pub mod RowsLeft
 pub mod TextsOnce
 pub mod Verdicts
+pub mod WorstFiles

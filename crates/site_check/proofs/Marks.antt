@@ -1,6 +1,6 @@
 -- The marks of files, and the first pages of files without one.
 use Rattle.site_check.proofs.Prelude.{◌≡◌, ◌∙◌, ℕ, ◌+◌, ◌<◌, ◌≤◌, Bool, true, false, not, ◌||◌, ◌&&◌, cond, List, [], ◌∷◌, ◌++◌, Option, Some, None, length, map, filter, drop, get_or, slice_get, refl, sym, ap, inl, inr, arith, cases_Bool, cond-true, cond-false, append_assoc, PageFile, shown}
-use Rattle.std.proofs.Common.{◌==◌, eq-eqb, eqb-true, nat_lt, ne_eqb, replicate, set}
+use Rattle.std.proofs.Common.{◌==◌, eq-eqb, nat_lt, ne_eqb, replicate, set}
 use Rattle.std.proofs.Math.Bool.{or-false}
 use Rattle.std.proofs.lemmas.Bool.{cases_eq, cases_lt, le-ltb, lt-ltb, or_right}
 use Rattle.std.proofs.lemmas.List.{drop_all, get_or-replicate, get_or-set_other, get_or-set_same, get_or_default, get_or_past, length-replicate}
@@ -12,10 +12,10 @@ use Rattle.site_check.specs.Unreached.{first_pages, is_file, is_left, is_marked,
 -- ---- one mark more
 
 or_yes : (before is : Bool) → is ≡ true → (before || is) ≡ true
-or_yes before is yes = or_right before is yes
+or_yes before is passes = or_right before is passes
 
 or_no : (before is : Bool) → is ≡ false → (before || is) ≡ before
-or_no before is no = ap (λ b. before || b) no ∙ or-false before
+or_no before is fails = ap (λ b. before || b) fails ∙ or-false before
 
 pub marked : (marks : List Bool) (own index : ℕ) → own < length marks → is_marked (set marks own true) index ≡ (is_marked marks index || own == index)
 marked marks own index within =
@@ -77,20 +77,20 @@ or_more false so_far test = refl
 -- ---- one page more
 
 -- with a filter before it
-filter_twice : {X : Type 0} (p q both : X → Bool) → ((x : X) → both x ≡ (q x && p x)) → (xs : List X) → filter p (filter q xs) ≡ filter both xs
+pub filter_twice : {X : Type 0} (p q both : X → Bool) → ((x : X) → both x ≡ (q x && p x)) → (xs : List X) → filter p (filter q xs) ≡ filter both xs
 filter_twice p q both is [] = refl
 filter_twice p q both is (x ∷ xs) =
     elim (cases_Bool (q x)) [
-      | inl yes ↦
-          ap (filter p) (cond-true (q x) (x ∷ filter q xs) (filter q xs) yes)
+      | inl passes ↦
+          ap (filter p) (cond-true (q x) (x ∷ filter q xs) (filter q xs) passes)
           ∙ (λ i. cond (p x) (x ∷ filter_twice p q both is xs i) (filter_twice p q both is xs i))
-          ∙ ap (λ b. cond b (x ∷ filter both xs) (filter both xs)) (sym (is x ∙ ap (λ b. b && p x) yes))
-      | inr no ↦
-          ap (filter p) (cond-false (q x) (x ∷ filter q xs) (filter q xs) no) ∙ filter_twice p q both is xs
-          ∙ ap (λ b. cond b (x ∷ filter both xs) (filter both xs)) (sym (is x ∙ ap (λ b. b && p x) no))
+          ∙ ap (λ b. cond b (x ∷ filter both xs) (filter both xs)) (sym (is x ∙ ap (λ b. b && p x) passes))
+      | inr fails ↦
+          ap (filter p) (cond-false (q x) (x ∷ filter q xs) (filter q xs) fails) ∙ filter_twice p q both is xs
+          ∙ ap (λ b. cond b (x ∷ filter both xs) (filter both xs)) (sym (is x ∙ ap (λ b. b && p x) fails))
     ]
 
-neither : (a b : Bool) → not (a || b) ≡ (not b && not a)
+pub neither : (a b : Bool) → not (a || b) ≡ (not b && not a)
 neither true true = refl
 neither true false = refl
 neither false true = refl

@@ -4,7 +4,7 @@ use Rattle.std.proofs.Common.{codes, ◌≢◌, eqb, eq-eqb, eqb-true, ne_eqb}
 use Rattle.site_check.proofs.LeadsFound.{no_more}
 use Rattle.site_check.specs.Leaving.{outside_row, path_after, path_from, steps_up}
 use Rattle.site_check.specs.declared.input.MapName.{MapName}
-use Rattle.site_check.specs.declared.leaving.Outside.{Outside}
+use Rattle.site_check.specs.declared.outside.Outside.{Outside}
 
 -- ---- on the host
 

@@ -10,7 +10,7 @@ pub use Rattle.site_check.specs.Ignored.{anchors_in, entries_in, entry_in, is_us
 pub use Rattle.site_check.specs.Invalid.{AreInvalid, AreTexts, ascends, ascends_after, invalid_at, invalid_in, invalid_rows_in, invalid_with, link_text, link_texts, next_text, once, once_after, once_next, rises, rises_after, row_of, text_of, texts_if, texts_in}
 pub use Rattle.site_check.specs.Leads.{HasNoLink, Indices, Numbers, Target, indices_at, indices_in, indices_with, lead_to, leads_at, leads_from, leads_of, missing_from, moved_target, number_at, number_in, number_with, own_number, target_at, targets_of, to_number}
 pub use Rattle.site_check.specs.Leaving.{is_outside, leaving_in, leaving_of, leaving_row_in, outside_at, outside_linked, outside_number, outside_of, outside_row, outside_targets, outside_text, outside_texts, path_after, path_from, row_at, shown_at, step_up, steps_up}
-pub use Rattle.site_check.specs.Names.{AreNamed, IsKnown, Names, behind_slashes, has_name, is_slash, known_at, known_with, named_at, only_told, stands_in}
+pub use Rattle.site_check.specs.Names.{AreNamed, IsKnown, Names, after_slashes, has_name, is_slash, known_at, known_with, named_at, only_name, has_place_in}
 pub use Rattle.site_check.specs.Anchors.{anchor_text}
 pub use Rattle.site_check.specs.Reported.{TargetRow, is_gone, places_left, rows_left, target_row, with_left}
 pub use Rattle.site_check.specs.Told.{rows_in, way_of}

@@ -124,7 +124,7 @@ count_fits counts folder more folders small are =
     omega (arith, small, all, one, most, same, path_more folder more folder.now)
 
 -- what is left from an index on
-cut_here : (folders : List (Bor (List ℕ))) (i : ℕ) (folder : Bor (List ℕ)) → i < length folders → folder ≡ get_or folders i folder → drop i folders ≡ folder ∷ drop (i + 1) folders
+pub cut_here : (folders : List (Bor (List ℕ))) (i : ℕ) (folder : Bor (List ℕ)) → i < length folders → folder ≡ get_or folders i folder → drop i folders ≡ folder ∷ drop (i + 1) folders
 cut_here folders i folder below is =
     drop-cons folders i folder below ∙ ap (λ x. x ∷ drop (suc i) folders) (sym is) ∙ ap (λ n. folder ∷ drop n folders) (sym (add-one i))
 

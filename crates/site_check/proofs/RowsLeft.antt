@@ -25,7 +25,7 @@ none_matches (entry ∷ entries) target file none =
     let parts = or_parts (names_file entry) (list_any names_file entries) none in
     λ i. (parts.0 i && (matches (target_in entry) target && fits (file_in entry) file)) || none_matches entries target file parts.1 i
 
-filter_all : {X : Type 0} (p : X → Bool) → ((x : X) → p x ≡ true) → (xs : List X) → filter p xs ≡ xs
+pub filter_all : {X : Type 0} (p : X → Bool) → ((x : X) → p x ≡ true) → (xs : List X) → filter p xs ≡ xs
 filter_all p passes [] = refl
 filter_all p passes (x ∷ xs) = cond-true (p x) (x ∷ filter p xs) (filter p xs) (passes x) ∙ ap (λ l. x ∷ l) (filter_all p passes xs)
 
@@ -78,7 +78,7 @@ unused_seen : (front : List ℕ) (entries : List (List ℕ)) (results : List Pag
 unused_seen front entries results links others rows whole all same own =
     record {
       anchors = own.anchors;
-      told_anchors = flat_seen (λ (row : TargetRow). if_anchor row.kind row.target) rows whole same ∙ own.told_anchors;
+      row_anchors = flat_seen (λ (row : TargetRow). if_anchor row.kind row.target) rows whole same ∙ own.row_anchors;
       exact =
           own.exact
           ∙ sym (λ i. filter (λ entry. not (cond (names_file entry) (any_seen (matches_seen (file_in entry) (target_in entry)) rows whole same i) (list_any (matches entry) (((own.anchors ++ links) ++ others) ++ missing_texts front results)))) entries);

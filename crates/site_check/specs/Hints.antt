@@ -8,7 +8,7 @@ use Rattle.crawl_pages.specs.declared.page.Page.{Page}
 use Rattle.crawl_pages.specs.declared.page.Page.TheVariants.{Missing}
 use Rattle.crawl_pages.specs.declared.page.PageResult.{PageResult}
 use Rattle.site_check.specs.Broken.{is_ignored, shown}
-use Rattle.site_check.specs.Names.{behind_slashes, is_slash}
+use Rattle.site_check.specs.Names.{after_slashes, is_slash}
 use Rattle.site_files.specs.Files.{name_at}
 use Rattle.site_files.specs.Hints.{hint_at}
 use Rattle.site_files.specs.declared.files.SiteFiles.{SiteFiles}
@@ -19,13 +19,13 @@ use Rattle.site_files.specs.declared.hint.Hint.TheVariants.{HtmlFallback, IndexF
 
 -- the folder of a file's name, without the slash
 abbrev pub folder_in : List ℕ → List ℕ
-folder_in name = if list_any is_slash name then take (length name - length (behind_slashes name) - 1) name else codes "."
+folder_in name = if list_any is_slash name then take (length name - length (after_slashes name) - 1) name else codes "."
 
 abbrev pub fallback_text : List ℕ → List ℕ
 fallback_text name = name ++ codes " exists: --fallback html"
 
 abbrev pub index_text : List ℕ → List ℕ
-index_text name = folder_in name ++ codes "/ has " ++ behind_slashes name ++ codes ": --index-file " ++ behind_slashes name
+index_text name = folder_in name ++ codes "/ has " ++ after_slashes name ++ codes ": --index-file " ++ after_slashes name
 
 -- the name of the file with this index
 abbrev pub name_in : SiteFiles → ℕ → List ℕ

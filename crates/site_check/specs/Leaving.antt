@@ -11,7 +11,7 @@ use Rattle.site_check.specs.Leads.{Target, to_number}
 use Rattle.site_check.specs.Maps.{folder_of}
 use Rattle.site_check.specs.Totals.{is_leaving}
 use Rattle.site_check.specs.declared.input.MapName.{MapName}
-use Rattle.site_check.specs.declared.leaving.Outside.{Outside}
+use Rattle.site_check.specs.declared.outside.Outside.{Outside}
 use Rattle.site_files.specs.declared.files.SiteFiles.{SiteFiles}
 
 -- ---- which URLs are outside

@@ -14,3 +14,4 @@ pub mod Told
 pub mod Totals
 pub mod Unlisted
 pub mod Unreached
+pub mod Worst

@@ -14,7 +14,7 @@ use Rattle.site_check.specs.Names.{AreNamed}
 use Rattle.site_check.specs.Told.{rows_in}
 use Rattle.site_check.specs.declared.input.MapName.{MapName}
 use Rattle.site_check.specs.declared.invalid.InvalidText.{InvalidText}
-use Rattle.site_check.specs.declared.leaving.Outside.{Outside}
+use Rattle.site_check.specs.declared.outside.Outside.{Outside}
 use Rattle.site_check.specs.declared.linked.Linked as code
 use Rattle.site_check.specs.declared.missing_anchors.MissingAnchor.{MissingAnchor}
 use Rattle.site_files.specs.declared.files.SiteFiles.{SiteFiles}

@@ -1,5 +1,5 @@
 //! The hint at a missing BASE.
-ghost use Rattle.std.specs.Prelude.{◌≡◌, ◌<◌, ◌+◌, ◌^◌, ◌&&◌, ◌∷◌, ◌++◌, ℕ, List, [], IfOk, OnOk, Some, bytes_eq, length, not, option_map, slice_get, string_bytes};
+ghost use Rattle.std.specs.Prelude.{◌≡◌, ◌<◌, ◌+◌, ◌^◌, ◌&&◌, ◌∷◌, ◌++◌, ℕ, List, [], IfOk, OnOk, Some, bytes_eq, not, option_map, slice_get, string_bytes};
 ghost use Rattle.std.specs.List.{flat_map, list_any};
 ghost use Rattle.crawl_sources.specs.Tallies.{pointed};
 ghost use Rattle.site_files.specs.Files.{PageFile, pages_of};
@@ -101,7 +101,7 @@ fn first_folder(path: &str) -> Option<&str>
     ensures { option_map (λ folder. folder.now) result ≡ named_folder (to_slash path.now) }
 {
     match path.split_once('/') {
-        Some((folder, more)) => if is_folder(folder.as_bytes()) {
+        Some((folder, more)) => if is_folder(folder) {
             Some(folder)
         } else {
             None
@@ -111,10 +111,10 @@ fn first_folder(path: &str) -> Option<&str>
 }
 
 /// Whether a name is plain: it is not empty, does not begin with a dot, and has only bytes that its URL has as well.
-fn is_folder(name: &[u8]) -> bool
+fn is_folder(name: &str) -> bool
     ensures { result ≡ (begins_name name.now && not (list_any is_special name.now)) }
 {
-    begins_name(name) && !has_special(name)
+    begins_name(name.as_bytes()) && !has_special(name.as_bytes())
 }
 
 /// Whether a name begins with another byte than a dot.
@@ -162,7 +162,7 @@ fn is_mark(byte: u8) -> bool
 }
 
 /// The numbers of paths by their first folders.
-type PathCounts<'a> = BTreeMap<&'a [u8], u64>;
+pub(crate) type PathCounts<'a> = BTreeMap<&'a [u8], u64>;
 
 /// The hint, if at least half and at least two of the paths have the same first folder, and the site does not have that.
 #[tactic(auto, using(crate::proofs::RootFolders::hint_lacks))]
@@ -186,7 +186,10 @@ fn hint_among(
 
 /// Counts how many of the paths have each folder.
 #[tactic(auto, using(crate::proofs::RootFolders::counts_more, crate::proofs::RootFolders::counts_end))]
-fn path_counts<'a>(alloc: Global, folders: &[&'a str]) -> Result<PathCounts<'a>, NoMemory>
+pub(crate) fn path_counts<'a>(
+    alloc: Global,
+    folders: &[&'a str],
+) -> Result<PathCounts<'a>, NoMemory>
     ensures { IfOk result (λ counts. (folder : List ℕ) → count_at counts folder ≡ path_count (pointed folders.now) folder) }
 {
     let mut counts = BTreeMap::new(alloc);
@@ -197,7 +200,7 @@ fn path_counts<'a>(alloc: Global, folders: &[&'a str]) -> Result<PathCounts<'a>,
 }
 
 /// Counts a path with this first folder.
-fn count_path<'a>(folder: &'a str, counts: &mut PathCounts<'a>) -> Result<(), NoMemory>
+pub(crate) fn count_path<'a>(folder: &'a str, counts: &mut PathCounts<'a>) -> Result<(), NoMemory>
     ensures { OnOk result (count_at counts.old folder.now + 1 < 2 ^ 64 → (other : List ℕ) → count_at counts.new other ≡ one_if (bytes_eq folder.now other) + count_at counts.old other) }
 {
     let count = count_at(counts, folder).saturating_add(1);
@@ -206,7 +209,7 @@ fn count_path<'a>(folder: &'a str, counts: &mut PathCounts<'a>) -> Result<(), No
 }
 
 /// The number of paths with this first folder so far.
-fn count_at<'a>(counts: &PathCounts<'a>, folder: &'a str) -> u64
+pub(crate) fn count_at<'a>(counts: &PathCounts<'a>, folder: &'a str) -> u64
     ensures { result ≡ count_at counts.now folder.now }
 {
     counts.get(&folder.as_bytes()).copied().unwrap_or(0)

@@ -17,6 +17,7 @@ ghost use Rattle.site_check.specs.Told.{rows_in, way_of};
 ghost use Rattle.site_check.specs.Totals.{totals_of};
 ghost use Rattle.site_check.specs.Unlisted.{unlisted_in};
 ghost use Rattle.site_check.specs.Unreached.{unreached_in};
+ghost use Rattle.site_check.specs.Worst.{file_links, worst_of};
 
 use crate::anchors::push_anchors;
 use crate::base::base_hint;
@@ -25,11 +26,12 @@ use crate::ignored::unused;
 use crate::input::CheckInput;
 use crate::invalid::{InvalidText, invalid_texts, push_texts};
 use crate::leads::{Lead, Maps, link_indices, targets};
-use crate::leaving::{Outside, outside_leads, outside_urls, push_outside};
+use crate::leaving::{outside_leads, outside_urls, push_outside};
 use crate::linked::{Linked, linked_results};
 use crate::located::{TargetPlace, by_number};
 use crate::missing_anchors::{MissingAnchor, missing_anchors, sort_by_anchor};
 use crate::names::{Named, names_of};
+use crate::outside::Outside;
 use crate::rows::{broken_rows, redirect_rows};
 use crate::shown::shown;
 use crate::site_pages::{Pages, Site, documents_of};
@@ -116,6 +118,8 @@ pub fn check_site<'f, R: Threads + Sync, B: FileBytes + Sync>(
     ensures redirects { IfOk result (λ checked. map way_of checked.redirects.items ≡ redirects_of input.entry.front.now results.now) }
     // The unreached files are those of which a search from the starts found no page, by the first URL of each, in order, if they are listed.
     ensures unreached { IfOk result (λ checked. map string_bytes checked.unreached.items ≡ unreached_in input.entry.front.now files.now input.entry.reached) }
+    // The worst files are the first ten of those with locations, in the order of the number of their locations and then of their names.
+    ensures worst { IfOk result (λ checked. map file_links checked.worst.items ≡ worst_of checked.broken.items) }
     // The unlisted documents are those of which no sitemap lists the own URL or an alias, in order, without `404.html`, if they are listed.
     ensures unlisted { IfOk result (λ checked. map string_bytes checked.unlisted.items ≡ unlisted_in input.entry.front.now input.entry.aliases.now input.entry.documents.now input.entry.listed) }
     // The hint of BASE is the first folder that at least half and at least two of the paths from the root in the rows of missing pages
@@ -132,7 +136,7 @@ pub fn check_site<'f, R: Threads + Sync, B: FileBytes + Sync>(
     let all = linked.as_slice();
     let sought = sought_by(rt, alloc, input, site, all)?;
     let places = locate_by(rt, alloc, site, sought.leads.as_slice(), bytes)?;
-    told(alloc, input, site, all, &sought, places)
+    results_of(alloc, input, site, all, &sought, places)
 }
 
 /// Puts together what the threads of a check read: the results, the anchors and aliases, and the files of the site.
@@ -228,7 +232,7 @@ fn page_leads<'p, R: Threads + Sync>(
 }
 
 /// The results of a check, with the locations of the links.
-fn told(
+fn results_of(
     alloc: Global,
     input: CheckInput<'_>,
     site: Site<'_, '_>,
@@ -238,6 +242,7 @@ fn told(
 ) -> Result<Checked, NoMemory>
     ensures rows { IfOk result (λ checked. AreRows input.entry.front.now (map string_bytes input.entry.ignores.now) site.entry.files.now linked.now sought.now.anchors.items sought.now.invalid.items sought.now.outside.items checked.broken.items (map string_bytes checked.unused_ignores.items)) }
     ensures redirects { IfOk result (λ checked. map way_of checked.redirects.items ≡ flat_map (ways_with input.entry.front.now) (map linked_at linked.now)) }
+    ensures worst { IfOk result (λ checked. map file_links checked.worst.items ≡ worst_of checked.broken.items) }
     ensures unreached { IfOk result (λ checked. map string_bytes checked.unreached.items ≡ unreached_in input.entry.front.now site.entry.files.now input.entry.reached) }
     ensures unlisted { IfOk result (λ checked. map string_bytes checked.unlisted.items ≡ unlisted_in input.entry.front.now input.entry.aliases.now input.entry.documents.now input.entry.listed) }
     ensures base_hint { IfOk result (λ checked. option_map hint_at checked.base_hint ≡ base_hint_of input.entry.rooted site.entry.files.now checked.broken.items) }

@@ -15,7 +15,6 @@ pub fn all_rows_stay_without_file_entries()
 {}
 
 /// So the reported rows are rows for exactly the missing pages, anchors, invalid links and URLs outside the site that no entry matches.
-#[tactic(auto, using(crate::proofs::RowsLeft::reported_all))]
 pub fn all_rows_are_reported_without_file_entries()
     ensures { (front : List ℕ) (entries links : List (List ℕ)) (rooted : Bool) (maps : List MapName) (files : SiteFiles) (results found : List PageResult) (rows : List Broken) (unused_ones : List (List ℕ)) → list_any names_file entries ≡ false → AreReported front entries links rooted maps files results found rows unused_ones → AreAllRows front entries links rooted maps files results found rows unused_ones }
 {}

@@ -1,9 +1,9 @@
 //! Links that lead out of the site: to URLs on its host that are not below its top.
-ghost use Rattle.std.specs.Prelude.{◌≡◌, ◌∷◌, ◌++◌, ◌+◌, ◌<◌, ◌^◌, ℕ, List, [], true, IfOk, MatchOption, OnOk, length, map, option_map, string_bytes};
+ghost use Rattle.std.specs.Prelude.{◌≡◌, ◌++◌, ◌+◌, ◌<◌, ◌^◌, ℕ, List, true, IfOk, MatchOption, OnOk, length, map, option_map, string_bytes};
 ghost use Rattle.std.specs.List.{flat_map};
 ghost use Rattle.crawl_sources.specs.Tallies.{pointed};
 ghost use Rattle.site_files.specs.declared.files.SiteFiles.{SiteFiles};
-ghost use Rattle.site_check.specs.Broken.{begins, linked_at};
+ghost use Rattle.site_check.specs.Broken.{linked_at};
 ghost use Rattle.site_check.specs.Hints.{hints_in};
 ghost use Rattle.site_check.specs.Ignored.{anchors_in};
 ghost use Rattle.site_check.specs.Invalid.{invalid_rows_in};
@@ -19,6 +19,7 @@ use crate::leads::{Lead, Maps, Target, TargetNumbers, insert_all, link_indices, 
 use crate::linked::{Linked, linked_among};
 use crate::located::take_places;
 use crate::maps::folder_of;
+use crate::outside::Outside;
 use crate::shown::{begins, is_below};
 use crate::site_pages::Site;
 use crate::threads::leads_by;
@@ -28,20 +29,6 @@ use site_files::SiteFiles;
 use std::alloc::Global;
 use std::collections::BTreeMap;
 use std::thread::Threads;
-
-/// A URL on the site's host that is not below its top.
-#[derive(Drop)]
-pub(crate) struct Outside<'a> {
-    /// The result with this URL, and how many of the site's results link to it.
-    pub(crate) linked: Linked<'a>,
-    /// The URL as it is shown.
-    pub(crate) text: String,
-    /// The kind of its row.
-    pub(crate) kind: Kind,
-    /// The folder in which it was looked up.
-    pub(crate) folder: Option<&'a str>,
-    ghost is_its_kind: { is_leaving kind ≡ true },
-}
 
 /// The missing results on the site's host that are not below its top, in order, each with how many of the site's results link to its URL.
 #[tactic(auto, using(crate::proofs::Outsides::none_outside))]

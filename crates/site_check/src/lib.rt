@@ -17,6 +17,7 @@ mod located;
 mod maps;
 mod missing_anchors;
 mod names;
+mod outside;
 mod pattern;
 mod rows;
 mod shown;

@@ -34,8 +34,7 @@ fn unreached_of(
     ensures { IfOk result (λ all. map string_bytes all.items ≡ unreached_of front.now files.now results.now) }
 {
     let mut marks = no_marks(alloc, files)?;
-    mark_results(files, results, &mut marks);
-    left_pages(alloc, front, files, &mut marks)
+    unmarked(alloc, front, files, results, &mut marks)
 }
 
 /// A mark for each file, none of them set.
@@ -45,6 +44,21 @@ fn no_marks(alloc: Global, files: &SiteFiles<'_>) -> Result<Vec<bool>, NoMemory>
 {
     let marks = vec![in alloc; false; files.name_count()]?;
     Ok(marks)
+}
+
+/// The first URL of each file that is not marked and of which none of these results found a page, in order, as they are printed. Marks
+/// all files.
+fn unmarked(
+    alloc: Global,
+    front: &str,
+    files: &SiteFiles<'_>,
+    results: &[PageResult],
+    marks: &mut [bool],
+) -> Result<Vec<String>, NoMemory>
+    ensures { IfOk result (λ all. map string_bytes all.items ≡ left_among (λ index. is_marked marks.old index || list_any (is_page_of files.now index) results.now) front.now (pages_of files.now)) }
+{
+    mark_results(files, results, marks);
+    left_pages(alloc, front, files, marks)
 }
 
 /// Marks the files of which one of these results found a page.
