@@ -1,9 +1,8 @@
 -- Maps and their folders, one by one.
-use Rattle.mercator_site.proofs.Prelude.{◌≡◌, ℕ, ◌+◌, ◌∙◌, ap, false, get_or, length, map, refl, string_bytes, subst, sym, take, Bool, List, [], ◌∷◌, ◌++◌, Ok, Result, resolve}
-use Rattle.std.specs.Prelude.{◌<◌, All}
-use Rattle.std.specs.List.{AllZip}
+use Rattle.mercator_site.proofs.Prelude.{◌≡◌, ℕ, ◌+◌, ◌∙◌, ap, false, get_or, length, map, string_bytes, subst, sym, take, List, [], ◌∷◌, ◌++◌, Ok, Result, resolve}
+use Rattle.std.specs.Prelude.{◌<◌, All, Bool}
 use Rattle.std.proofs.lemmas.List.{map-append, take_more}
-use Rattle.std.proofs.lemmas.List.Elements.{All-push, AllZip-push}
+use Rattle.std.proofs.lemmas.List.Elements.{All-push}
 use Rattle.crawl_keys.specs.declared.error.KeyError.{KeyError}
 use Rattle.mercator_site.specs.Maps.{AreMapped, AreMapsAt, IsMapped, folder_in, link_in}
 use Rattle.mercator_site.specs.declared.mapped.MapNames.{MapNames}
@@ -29,6 +28,12 @@ map_more top rooted texts text maps more m were resolved named out is =
     })
 
 -- one folder more
+zip_push : (maps : List FolderMap) (folders : List MappedFolder) (m : FolderMap) (folder : MappedFolder) → AreMapped maps folders → IsMapped m folder → AreMapped (maps ++ m ∷ []) (folders ++ folder ∷ [])
+zip_push [] [] m folder were is = (is, tt)
+zip_push [] (g ∷ folders) m folder were is = absurd were
+zip_push (n ∷ maps) [] m folder were is = absurd were
+zip_push (n ∷ maps) (g ∷ folders) m folder were is = (were.0, zip_push maps folders m folder were.1 is)
+
 pub mapped_more : (names : List MapNames) (i : ℕ) (one : MapNames) (folders more : List MappedFolder) (folder : MappedFolder) → i < length names → one ≡ get_or names i one
     → AreMapped (map (λ n. n.map.now) (take i names)) folders → IsMapped one.map.now folder → more ≡ folders ++ folder ∷ [] → AreMapped (map (λ n. n.map.now) (take (i + 1) names)) more
 mapped_more names i one folders more folder below at were mapped is =
@@ -36,4 +41,4 @@ mapped_more names i one folders more folder below at were mapped is =
     let steps : map of (take (i + 1) names) ≡ map of (take i names) ++ of one ∷ [] =
     ap (map of) (take_more names i one below) ∙ map-append of (take i names) (get_or names i one ∷ []) ∙ ap (λ n. map of (take i names) ++ of n ∷ []) (sym at) in
     subst (λ ms. AreMapped ms more) (sym steps)
-    (subst (λ fs. AreMapped (map of (take i names) ++ of one ∷ []) fs) (sym is) (AllZip-push IsMapped (map of (take i names)) folders (of one) folder were mapped))
+    (subst (λ fs. AreMapped (map of (take i names) ++ of one ∷ []) fs) (sym is) (zip_push (map of (take i names)) folders (of one) folder were mapped))

@@ -1,6 +1,6 @@
 -- Folders in which links that lead out of the site are looked up.
-use Rattle.std.specs.Prelude.{◌≡◌, ◌==◌, ◌-◌, ℕ, Bool, true, false, not, ◌||◌, ◌&&◌, if◌then◌else◌, List, [], ◌∷◌, ◌++◌, length, drop, nat_lt, codes, map, flat_map, string_bytes, bytes_eq, All, Ok}
-use Rattle.std.specs.List.{AllZip, after_first, before_first, list_all, list_any}
+use Rattle.std.specs.Prelude.{◌≡◌, ◌==◌, ◌-◌, ℕ, Bool, true, false, not, ◌&&◌, if◌then◌else◌, List, [], ◌∷◌, ◌++◌, length, drop, nat_lt, codes, map, flat_map, string_bytes, bytes_eq, All, Ok}
+use Rattle.std.specs.List.{AllZip, after_first, before_first, list_any}
 use Rattle.crawl_keys.specs.CanonicalText.{canonical, resolve}
 use Rattle.crawl_pages.specs.declared.page.Page.{Page}
 use Rattle.crawl_pages.specs.declared.page.Page.TheVariants as page
@@ -64,13 +64,16 @@ AreMapped maps folders = AllZip IsMapped maps folders
 abbrev pub names_of : List MappedFolder → List MapName
 names_of folders = map (λ folder. folder.name) folders
 
--- the prefix is longer
-abbrev pub is_longer : MappedFolder → MappedFolder → Bool
-is_longer folder other = nat_lt (length other.name.prefix.now) (length folder.name.prefix.now)
+-- the URL is that of this folder or below it, and its prefix is longer than that of the other
+abbrev pub is_nearer : List ℕ → MappedFolder → MappedFolder → Bool
+is_nearer url other folder = is_under url folder.name && nat_lt (length other.name.prefix.now) (length folder.name.prefix.now)
+
+abbrev pub has_nearer : List MappedFolder → List ℕ → MappedFolder → Bool
+has_nearer folders url folder = list_any (λ other. is_nearer url folder other) folders
 
 -- the URL is that of the folder or below it, and of no folder with a longer prefix
 abbrev pub is_nearest : List MappedFolder → List ℕ → MappedFolder → Bool
-is_nearest folders url folder = is_under url folder.name && list_all (λ other. not (is_longer other folder && is_under url other.name)) folders
+is_nearest folders url folder = is_under url folder.name && not (has_nearer folders url folder)
 
 -- what is looked up for a URL: for the folder without its slash the folder
 abbrev pub looked_up : MappedFolder → List ℕ → List ℕ

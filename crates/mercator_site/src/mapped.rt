@@ -1,7 +1,7 @@
 //! The folders of maps: their files, and whether they have a page at a URL out of the site.
 ghost use Rattle.std.specs.Prelude.{◌≡◌, ◌++◌, IfErr, IfOk, OnOk, false, map, nat_lt, length, string_bytes};
 ghost use Rattle.mercator_site.specs.Faults.{is_unfinished};
-ghost use Rattle.mercator_site.specs.Maps.{AreMapped, IsMapped, has_page, is_found_in, is_longer, is_mapped, is_nearest, left_at, left_for, looked_up, names_of, unmapped};
+ghost use Rattle.mercator_site.specs.Maps.{AreMapped, IsMapped, has_nearer, has_page, is_found_in, is_mapped, is_nearer, is_nearest, left_at, left_for, looked_up, names_of, unmapped};
 
 use crate::fault::SiteFault;
 use crate::maps::FolderMap;
@@ -230,16 +230,21 @@ fn is_found_in(
 fn is_nearest(folders: &[MappedFolder<'_>], url: &CanonUrl, folder: &MappedFolder<'_>) -> bool
     ensures { result ≡ is_nearest folders.now url.now folder.now }
 {
-    is_under(url.as_str(), folder.name)
-        && folders.iter().all(|other| !(is_longer(other, folder)
-            && is_under(url.as_str(), other.name)))
+    is_under(url.as_str(), folder.name) && !has_nearer(folders, url, folder)
 }
 
-/// Whether a folder has a longer prefix than another one.
-fn is_longer(folder: &MappedFolder<'_>, other: &MappedFolder<'_>) -> bool
-    ensures { result ≡ is_longer folder.now other.now }
+/// Whether a URL is that of a folder with a longer prefix than this one, or below it.
+fn has_nearer(folders: &[MappedFolder<'_>], url: &CanonUrl, folder: &MappedFolder<'_>) -> bool
+    ensures { result ≡ has_nearer folders.now url.now folder.now }
 {
-    other.name.prefix.len() < folder.name.prefix.len()
+    folders.iter().any(|other| is_nearer(url, folder, other))
+}
+
+/// Whether a URL is that of a folder or below it, and its prefix is longer than that of another one.
+fn is_nearer(url: &CanonUrl, other: &MappedFolder<'_>, folder: &MappedFolder<'_>) -> bool
+    ensures { result ≡ is_nearer url.now other.now folder.now }
+{
+    is_under(url.as_str(), folder.name) && other.name.prefix.len() < folder.name.prefix.len()
 }
 
 /// The URL that is looked up in a folder for a URL: for that of the folder without its slash that of the folder.

@@ -121,7 +121,6 @@ fn maps_at(
 }
 
 /// Appends the map of a text, which has another prefix than the maps before it.
-#[tactic(auto, using(crate::proofs::FolderMaps::map_more))]
 fn push_map(
     alloc: Global,
     top: &CanonUrl,

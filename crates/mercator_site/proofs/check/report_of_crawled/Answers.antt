@@ -1,4 +1,4 @@
-use Rattle.mercator_site.proofs.Prelude.{List, map, refl, sym, ap, subst, ◌∙◌, ◌≡◌, ◌==◌, ◌&&◌, ◌||◌, not, length, string_bytes, AreOthersListed, host_root}
+use Rattle.mercator_site.proofs.Prelude.{map, sym, ap, subst, ◌∙◌, ◌≡◌, ◌==◌, ◌&&◌, ◌||◌, not, length, string_bytes, AreOthersListed, host_root}
 use Rattle.mercator_site.specs.Maps.{names_of, unmapped}
 use Rattle.site_check.specs.Broken.{redirects_of}
 use Rattle.site_check.specs.Invalid.{texts_if}

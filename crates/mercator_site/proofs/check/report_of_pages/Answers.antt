@@ -1,4 +1,4 @@
-use Rattle.mercator_site.proofs.Prelude.{List, Ok, map, refl, sym, ap, subst, ◌∙◌, ◌≡◌, string_bytes, err_from_is_err_and, canonical, IsFindings, asks_in, own_of}
+use Rattle.mercator_site.proofs.Prelude.{Ok, refl, sym, ap, subst, ◌∙◌, ◌≡◌, string_bytes, err_from_is_err_and, canonical, IsFindings, asks_in, own_of}
 use Rattle.std.proofs.Common.{true≢false}
 use Rattle.mercator_site.proofs.TopCrawls.{same_url}
 use Rattle.mercator_site.proofs.check.report_of_pages.Goals as goal

@@ -1,4 +1,4 @@
-use Rattle.mercator_site.proofs.Prelude.{ℕ, Bool, List, Result, Ok, Err, IfErr, IfOk, map, string_bytes, sym, true, ◌≡◌, err_from_is_err_and, Asks, AreAliasesIn, IsCheck, IsIncompleteAt, IsSiteCheck, IsTopIncomplete, is_unfinished, Alias}
+use Rattle.mercator_site.proofs.Prelude.{ℕ, Bool, List, Result, Ok, Err, IfErr, IfOk, sym, true, ◌≡◌, err_from_is_err_and, Asks, AreAliasesIn, IsCheck, IsIncompleteAt, IsSiteCheck, IsTopIncomplete, is_unfinished, Alias}
 use Rattle.std.proofs.Common.{true≢false}
 use Rattle.mercator_site.specs.declared.check.CheckReport.{CheckReport}
 use Rattle.mercator_site.specs.declared.fault.SiteFault.{SiteFault}

@@ -1,4 +1,4 @@
-use Rattle.mercator_site.proofs.Prelude.{List, ℕ, Result, Ok, Err, IfOk, map, string_bytes, subst, ◌≡◌, ◌∙◌, ap, sym}
+use Rattle.mercator_site.proofs.Prelude.{List, ℕ, Result, IfOk, map, string_bytes, subst, ◌≡◌, ◌∙◌, ap}
 use Rattle.mercator_site.specs.Ends.{IsCheckOf}
 use Rattle.mercator_site.specs.declared.check.CheckReport.{CheckReport}
 use Rattle.mercator_site.specs.declared.fault.SiteFault.{SiteFault}
