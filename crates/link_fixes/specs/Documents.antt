@@ -6,8 +6,8 @@ use Rattle.link_fixes.specs.declared.edits.Edit.{Edit}
 use Rattle.link_fixes.specs.Edits.{fixed_text}
 use Rattle.link_fixes.specs.Links.{all_lead_on}
 
--- the new document is the old one after some edits, and each of its links leads where the one with the same index in the old document
--- led, or to the URL of a move. What the links of a document are, `document_links` says
+-- the new document is the old one after some edits, and each of its links has the text or the URL of the link with the same index in the
+-- old document, or the URL of a move of that. What the links of a document are, `document_links` says
 pub record IsFixed (input : FixInput) (old new : List ℕ) : Type 0 where
   pub edits : List Edit
   pub text : new ≡ fixed_text old edits
