@@ -131,7 +131,7 @@ abbrev pub verdict : Totals → List ℕ
 verdict t = if is_broken t then red else green
 
 -- the second line of the totals
-unfoldable pub broken_total : Bool → Totals → List ℕ
+abbrev pub broken_total : Bool → Totals → List ℕ
 broken_total colour t =
     code colour (verdict t) ++ counted (codes "broken links ") t.broken_links ++ code colour plain
     ++ counted (codes ", missing pages ") t.broken_urls ++ counted (codes ", missing anchors ") t.broken_anchors
@@ -143,7 +143,7 @@ optional_total c =
     counted_if (codes ", unreached files ") c.unreached ++ counted_if (codes ", documents that no sitemap lists ") c.unlisted ++ counted_if (codes ", external URLs ") c.external
 
 -- the first line of the totals
-unfoldable pub site_total : Totals → Counts → List ℕ
+abbrev pub site_total : Totals → Counts → List ℕ
 site_total t c =
     counted (codes "pages ") t.pages ++ counted (codes ", other files ") t.files ++ counted (codes ", links ") t.links ++ counted (codes ", redirects ") t.moved
     ++ counted (codes ", aliases ") t.aliases ++ optional_total c

@@ -56,7 +56,6 @@ fn put_total(
 }
 
 /// Appends the first line of the totals, without its LF. An optional count that is absent is omitted.
-#[tactic(auto, unfolding(crate::specs::Text::site_total))]
 fn put_site_total(out: &mut Vec<u8>, totals: Totals, counts: Counts) -> Result<(), NoMemory>
     ensures { OnOk result (out.new.items ≡ out.old.items ++ site_total totals counts) }
 {

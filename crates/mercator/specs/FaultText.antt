@@ -124,6 +124,7 @@ fault_text file wrong.CannotReadSeeds = codes "cannot read " ++ file
 fault_text file wrong.CannotReadIgnores = codes "cannot read " ++ file
 fault_text file wrong.CannotReadIndex = codes "cannot read " ++ file
 fault_text file wrong.CannotWrite = codes "cannot write"
+fault_text file wrong.CannotFix = codes "cannot rewrite every file of " ++ file
 fault_text file wrong.NoMemory = codes "out of memory"
 fault_text file wrong.BadSuffix = codes "bad suffix"
 fault_text file (wrong.Url refusal) = codes "URL: " ++ message refusal

@@ -22,6 +22,17 @@ pub enum CheckForm {
     Sarif,
 }
 
+/// Whether links are rewritten.
+#[derive(Clone, Copy, Debug, PartialEq, Eq)]
+pub enum Fix {
+    /// No.
+    Off,
+    /// No, but the changes are printed as a diff, in place of the report.
+    Diff,
+    /// Yes, before the check.
+    Write,
+}
+
 impl Default for CheckForm {
     fn default() -> CheckForm {
         CheckForm::Text { colour: false }
@@ -80,4 +91,6 @@ pub struct CheckOptions {
     pub seeds: Vec<String>,
     /// Whether only what the search reaches is checked, and not all documents.
     pub reachable: bool,
+    /// Whether links are rewritten.
+    pub fix: Fix,
 }

@@ -5,12 +5,14 @@ ghost use Rattle.mercator.specs.Formats.{form_named, format_of, has_links};
 use crate::commands::arguments::{
     Flag, Valued, command_with, flag_of, option, push, push_flags, push_options, workers,
 };
-use crate::commands::folder_words::{base, folder, push_folder_options, site_options, styles};
+use crate::commands::folder_words::{
+    base, folder, push_folder_options, site_options, styles, with_rivals,
+};
 use crate::commands::option_values::OptionValues;
 use clap::builder::ValueParser;
 use clap::{Arg, ArgAction, ArgGroup, ArgMatches, Command};
 use mercator_site::{
-    CheckForm, CheckOptions, FolderMap, Lists, MapError, ReportOptions, read_maps,
+    CheckForm, CheckOptions, Fix, FolderMap, Lists, MapError, ReportOptions, read_maps,
 };
 use std::alloc::{AllocError, Global};
 
@@ -55,6 +57,7 @@ fn push_check_args<'a>(alloc: Global, args: &mut Vec<Arg<'a>>) -> Result<(), All
     push_report_args(alloc, args)?;
     push_scope_args(alloc, args)?;
     push_folder_options(alloc, args)?;
+    push_fix_args(alloc, args)?;
     push_places(alloc, args)
 }
 
@@ -109,6 +112,29 @@ fn push_scope_args<'a>(alloc: Global, args: &mut Vec<Arg<'a>>) -> Result<(), All
     push(args, seed(alloc).help_heading(SCOPE))?;
     push_flags(alloc, args, Some(SCOPE), SCOPE_FLAGS)?;
     push(args, styles(alloc).help_heading(SCOPE))
+}
+
+/// The heading in the help for rewriting links.
+const FIXES: &str = "Rewriting links";
+
+/// Appends the options for rewriting links.
+fn push_fix_args<'a>(alloc: Global, args: &mut Vec<Arg<'a>>) -> Result<(), AllocError> {
+    push(args, fix(alloc)?)?;
+    push(args, dry_run(alloc)?)
+}
+
+/// The option to rewrite links.
+fn fix<'a>(alloc: Global) -> Result<Arg<'a>, AllocError> {
+    let help = "Rewrite links to redirects, and to missing pages with one candidate, then check";
+    with_rivals(flag_of(alloc, "fix", help).help_heading(FIXES), "fix")
+}
+
+/// The option to print what would be rewritten.
+fn dry_run<'a>(alloc: Global) -> Result<Arg<'a>, AllocError> {
+    let help = "With --fix, print the changes as a diff and write nothing";
+    flag_of(alloc, "dry-run", help)
+        .help_heading(FIXES)
+        .requires_arg("fix")
 }
 
 /// The names of the formats of a report.
@@ -265,7 +291,19 @@ pub fn check_options(
         maps,
         seeds: values.strings(alloc, "seed")?,
         reachable: values.flag("reachable"),
+        fix: fix_of(values.line),
     })
+}
+
+/// Whether links are rewritten.
+fn fix_of(found: &ArgMatches<'_>) -> Fix {
+    if !found.get_flag("fix") {
+        Fix::Off
+    } else if found.get_flag("dry-run") {
+        Fix::Diff
+    } else {
+        Fix::Write
+    }
 }
 
 /// What the report lists.

@@ -36,6 +36,10 @@ impl fmt::Display for FaultText<'_> {
                 write!(f, "cannot read {file}")
             }
             Fault::CannotWrite => f.write_str("cannot write"),
+            Fault::CannotFix => {
+                let file = self.file;
+                write!(f, "cannot rewrite every file of {file}")
+            }
             Fault::NoMemory => f.write_str("out of memory"),
             Fault::BadSuffix => f.write_str("bad suffix"),
             Fault::Url(why) => {

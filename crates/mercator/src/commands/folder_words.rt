@@ -120,7 +120,7 @@ fn index<'a>(alloc: Global) -> Result<Arg<'a>, AllocError> {
 }
 
 /// The option with this name, which cannot be used together with its rivals.
-fn with_rivals<'a>(option: Arg<'a>, name: &str) -> Result<Arg<'a>, AllocError> {
+pub fn with_rivals<'a>(option: Arg<'a>, name: &str) -> Result<Arg<'a>, AllocError> {
     let mut option = option;
     for pair in RIVALS {
         if pair.0 == name {

@@ -1,10 +1,8 @@
 use Rattle.check_report.proofs.Prelude.{◌++◌, codes, ap, ◌∙◌, code, counted, counted_some, plain, verdict}
-use Rattle.check_report.specs.Text.{broken_total}
 use Rattle.check_report.proofs.Adding.{joined, last_joined}
 use Rattle.check_report.proofs.as_text.put_broken_total.Goals as goal
 
 pub returns : goal.returns
-unfolding broken_total
 returns c =
     let t = c.args.totals in
     let colour = c.args.colour in
