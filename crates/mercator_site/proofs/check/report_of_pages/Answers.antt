@@ -11,7 +11,7 @@ returns-clause-checked g c = λ web source.
     let crawl = c.in_ok-crawls.ensures.found base web canon source in
     let same_top : c.in_ok-top.top ≡ crawl.url = same_url _ _ _ canon crawl.canon in
     let crawled = c.crawled_site-crawled.result in
-    let ensures = c.crawled_site-crawled.ensures in
+    let known = c.crawled_site-crawled.ensures in
     let report = c.in_ok-report.report in
     let asks = asks_in c.args.settings in
     let name = c.args.settings.name.now in
@@ -19,12 +19,12 @@ returns-clause-checked g c = λ web source.
       pages = pages;
       crawled = crawl;
       own = crawled.own.now;
-      are_own = ensures.own crawl.found.ascends ∙ ap (λ o. own_of o pages) same_top;
+      are_own = known.own crawl.found.ascends ∙ ap (λ o. own_of o pages) same_top;
       site = c.args.files.now;
       site_top = refl;
       findings =
-          subst (λ ps. IsFindings name c.args.files.now crawled.own.now ps c.args.site.aliases.items asks report.is_broken report.text.items) ensures.pages
-          (subst (λ s. IsFindings name c.args.files.now crawled.own.now crawled.pages.now s.aliases.items asks report.is_broken report.text.items) ensures.site c.in_ok-report.ensures);
+          subst (λ ps. IsFindings name c.args.files.now crawled.own.now ps c.args.site.aliases.items asks report.is_broken report.text.items) known.pages
+          (subst (λ s. IsFindings name c.args.files.now crawled.own.now crawled.pages.now s.aliases.items asks report.is_broken report.text.items) known.site c.in_ok-report.ensures);
     }
 
 pub returns-in_err-crawls-clause-incomplete : goal.returns-in_err-crawls-clause-incomplete
