@@ -6,7 +6,7 @@ ghost use Rattle.crawl_session.specs.Sums as spec;
 use crate::log::whole_len;
 use crawl_core::NoMemory;
 use memchr::{memchr, memmem};
-use sip_hash::SipHash;
+use std::hash::{DefaultHasher, Hasher};
 use std::marker::Model;
 
 /// The first byte of a checksum line.
@@ -18,16 +18,15 @@ const SUM_LEN: usize = 10;
 /// The checksum of the bytes of a log, from its beginning up to some point.
 #[derive(Drop)]
 pub struct LogSum {
-    hash: SipHash,
+    hasher: DefaultHasher,
 }
 
 impl Model for LogSum {
     ghost use Rattle.std.specs.declared.hash.DefaultHasher.{DefaultHasher};
-    ghost use Rattle.sip_hash.specs.SipStates.{hash_of};
 
     ghost Value = { DefaultHasher };
 
-    ghost view = { λ s. hash_of s.hash };
+    ghost view = { λ s. s.hasher };
 }
 
 impl LogSum {
@@ -36,7 +35,7 @@ impl LogSum {
         ensures { result ≡ initial }
     {
         LogSum {
-            hash: SipHash::new(),
+            hasher: DefaultHasher::new(),
         }
     }
 
@@ -66,7 +65,7 @@ impl LogSum {
     {
         let from = out.len();
         push_kept(start, bytes, out)?;
-        self.hash.write(&out[from..]);
+        self.hasher.write(&out[from..]);
         Ok(())
     }
 
@@ -75,9 +74,9 @@ impl LogSum {
         ensures gained { OnOk result (out.new.items ≡ out.old.items ++ spec.sum_after self.old) }
         ensures sum { OnOk result (self.new ≡ write self.old (spec.sum_after self.old)) }
     {
-        let line = sum_text(self.hash.finish());
+        let line = sum_text(self.hasher.finish());
         out.extend_from_slice(&line)?;
-        self.hash.write(&line);
+        self.hasher.write(&line);
         Ok(())
     }
 }
@@ -192,7 +191,7 @@ impl SumCheck {
         ensures { result ≡ spec.is_right self.now line.now }
     {
         if is_sum(line) {
-            line == sum_text(self.hash.hash.finish()).as_slice()
+            line == sum_text(self.hash.hasher.finish()).as_slice()
         } else {
             true
         }
@@ -202,7 +201,7 @@ impl SumCheck {
     fn take(&mut self, line: &[u8])
         ensures { self.new ≡ spec.after_line self.old line.now (spec.is_sum line.now) }
     {
-        self.hash.hash.write(line);
+        self.hash.hasher.write(line);
         self.line = self.line.saturating_add(1);
         if is_sum(line) {
             self.right = self.line;

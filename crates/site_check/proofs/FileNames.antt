@@ -1,5 +1,5 @@
 -- The name of a file, cut after its last slash.
-use Rattle.site_check.proofs.Prelude.{common_steps, ◌≡◌, ◌∙◌, ℕ, ◌||◌, Bool, true, false, List, [], ◌∷◌, ◌++◌, length, length-append, take, refl, sym, ap, arith, cond-true, cond-false, list_any, after_slashes, folder_in, is_slash}
+use Rattle.site_check.proofs.Prelude.{common_steps, ◌≡◌, ◌∙◌, ℕ, ◌||◌, true, false, List, [], ◌∷◌, ◌++◌, length, length-append, take, refl, sym, ap, arith, cond-true, cond-false, list_any, after_slashes, folder_in, is_slash}
 use Rattle.std.proofs.Common.{◌-◌, codes}
 use Rattle.std.proofs.Math.Seq.{take-append_seam}
 use Rattle.site_check.proofs.Outsides.{IsName, first_free, more_name}

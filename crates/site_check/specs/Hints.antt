@@ -1,5 +1,5 @@
 -- Hints: what a server with other rules finds for a page that is missing, as it is reported with the page.
-use Rattle.std.specs.Prelude.{ℕ, ◌-◌, Bool, if◌then◌else◌, List, [], ◌∷◌, ◌++◌, codes, length, take, Option, Some, None, unwrap_or, string_bytes, option_map}
+use Rattle.std.specs.Prelude.{ℕ, ◌-◌, if◌then◌else◌, List, [], ◌∷◌, ◌++◌, codes, length, take, Option, Some, None, unwrap_or, string_bytes, option_map}
 use Rattle.std.specs.List.{flat_map, list_any}
 use Rattle.check_report.specs.declared.value.Broken.{Broken}
 use Rattle.check_report.specs.declared.value.Kind.{Kind}

@@ -1,5 +1,6 @@
-use Rattle.mercator_site.proofs.Prelude.{ℕ, Bool, List, Result, Ok, Err, IfErr, IfOk, map, string_bytes, ap, subst, true, ◌≡◌, ◌∙◌, rules, Asks, asks_of, asks_with, seed_link, seeds_of, IsIncompleteAt, IsSiteCheck, IsTop, is_unfinished}
+use Rattle.mercator_site.proofs.Prelude.{ℕ, List, Result, Ok, Err, IfOk, map, string_bytes, ap, subst, true, ◌≡◌, ◌∙◌, rules, Asks, asks_of, asks_with, seed_link, seeds_of, IsIncompleteAt, IsSiteCheck, IsTop, is_unfinished}
 use Rattle.std.proofs.Common.{refl}
+use Rattle.std.specs.Prelude.{Bool, IfErr}
 use Rattle.mercator_site.specs.Checks.{IsAny}
 use Rattle.mercator_site.specs.Ends.{IsCheckOf, front_of, name_of}
 use Rattle.mercator_site.specs.Faults.{IsSiteIncomplete}
