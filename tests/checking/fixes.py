@@ -86,10 +86,10 @@ class Fixer:
                 page = Page(self, name, pages[name])
                 edits = page.edits()
                 new = page.checked(edits)
-                if new != page.body and self.has_link(name):
+                left = page.left(new)
+                if (left or new != page.body) and self.has_link(name):
                     notes.append(f"{shown(os.fsdecode(name))}: not rewritten, because its path has a symbolic link")
                     continue
-                left = page.left(new)
                 notes += [f"{shown(os.fsdecode(name))}: links left as they are: {left}"] if left else []
                 changes += [Change(name, page.body, new, len(edits))] if new != page.body else []
                 kinds += [edit.kind for edit in edits] if new != page.body else []
