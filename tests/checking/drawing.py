@@ -187,11 +187,16 @@ SHEET_PIECES = [
 ]
 
 
+def without_escapes(link: str) -> str:
+    """A link without what would be an escape, or break off a URL, in a style sheet."""
+    return "".join(one for one in link if one not in "\\'\"() \x7f" and one >= " ")
+
+
 def random_sheet(draw: Random, names: List[str], place: str) -> bytes:
     """The bytes of a random style sheet in the folder `place`, without broken strings and URLs, escapes, and functions that end in `url`."""
     text = draw.choice(["", "", "", '@charset "utf-8";', '@charset "L1";', '@charset "koi8-r";', '@charset "utf-16";', "@charset 'l1';"])
     for _ in range(draw.randint(0, 8)):
-        link = "".join(one for one in random_link(draw, names, place) if one not in "\\'\"() \x7f" and one >= " ")
+        link = without_escapes(random_link(draw, names, place))
         text += draw.choice([draw.choice(SHEET_LINKS).format(link), draw.choice(SHEET_PIECES), draw.choice(SHEET_PIECES)])
     encoding = draw.choice(["utf-8"] * 5 + ["cp1252", "utf-16-le", "utf-8-sig"])
     return {"utf-16-le": b"\xff\xfe"}.get(encoding, b"") + text.encode(encoding, "replace") + (b"\xff" if draw.random() < 0.05 else b"")
@@ -384,6 +389,7 @@ def moved_link(draw: Random, names: List[str], place: str, root: str) -> str:
     front = draw.choice(["../" * place.count("/")] * 4 + [root, root.replace("/", "\\"), "//docs.test" + root, "http://docs.test" + root, "HTTP:/" + root])
     link = front + name + draw.choice(["", "", "", "#x", "?q", "?q#x", "#x?q", "/", "?"])
     around = draw.choice(AROUND)
+    link = without_escapes(link) if "url(" in around else link
     link = html.escape(link) if draw.random() < 0.8 or '"' in link or "'" in link else link.replace(".", "&#46;", 1)
     return around.replace("{}", link) if "{}" in around and "{{" not in around else around.format(link)
 

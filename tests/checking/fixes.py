@@ -11,8 +11,8 @@ from typing import Dict, Iterator, List, NamedTuple, Optional, Tuple
 
 import drawn
 from checking.documents import TOOL, Document, document_of, with_query_in
-from checking.model import Base, Found, Model, Moved, begins_path, last_of, origin_of
-from checking.printing import shown
+from checking.model import Base, Found, Model, Moved, Row, begins_path, last_of, origin_of
+from checking.printing import shown, targets
 
 SCHEME = re.compile("[A-Za-z][A-Za-z0-9+.-]*:")
 # What a new link may consist of: no quotes, references, parentheses, commas or white space
@@ -55,18 +55,20 @@ class Fixer:
                 yield url, response.url
 
     def moves_by_file(self) -> Dict[str, Moves]:
-        """By file, the missing pages without a query that have one candidate and to which a reported link of the file leads."""
+        """By file, the missing pages that have one candidate and to which a reported link of the file leads."""
         names = self.model.names()
         found: Dict[str, Moves] = {}
-        for row in self.model.missing_pages(self.model.linking()):
-            if row["kind"] == "broken":
-                same = row["same_name"]
-                continue
+        for row, places in targets(list(self.model.missing_pages(self.model.linking()))):
             url = self.whole(row["target"])
-            candidate = names[last_of(url)][0] if same is not None else ""
-            if candidate and "?" not in url + candidate and last_of(url) not in self.model.settings.indices:
-                found.setdefault(row["file"], {})[url] = candidate
+            if row["same_name"] is not None and self.is_certain(url, names[last_of(url)][0], places):
+                for place in places:
+                    found.setdefault(place["file"], {})[url] = names[last_of(url)][0]
         return found
+
+    def is_certain(self, url: str, candidate: str, places: List[Row]) -> bool:
+        """Whether the links at these locations can only be meant for a candidate: not those with a query, to an index file, or, without BASE, to a path from the root."""
+        is_outside = self.model.settings.is_rooted() and any((place["written"] or "").startswith(("/", "\\")) for place in places)
+        return "?" not in url + candidate and last_of(url) not in self.model.settings.indices and not is_outside
 
     def whole(self, target: str) -> str:
         """The URL of a target of the report."""
@@ -84,10 +86,10 @@ class Fixer:
                 page = Page(self, name, pages[name])
                 edits = page.edits()
                 new = page.checked(edits)
-                if new != page.body and self.has_link(name):
+                left = page.left(new)
+                if (left or new != page.body) and self.has_link(name):
                     notes.append(f"{shown(os.fsdecode(name))}: not rewritten, because its path has a symbolic link")
                     continue
-                left = page.left(new)
                 notes += [f"{shown(os.fsdecode(name))}: links left as they are: {left}"] if left else []
                 changes += [Change(name, page.body, new, len(edits))] if new != page.body else []
                 kinds += [edit.kind for edit in edits] if new != page.body else []

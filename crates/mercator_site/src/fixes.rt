@@ -153,8 +153,7 @@ fn steps_of(
     Ok(steps)
 }
 
-/// The rows of missing pages of which the site has a page with the same name. A name of index files says nothing about a page, and a query
-/// may be meant for another.
+/// The rows of missing pages of which the site has a page with the same name, to which their links may be moved.
 fn namesakes_in(
     alloc: Global,
     files: &SiteFiles<'_>,
@@ -162,9 +161,8 @@ fn namesakes_in(
 ) -> Result<Namesakes, AllocError> {
     let mut namesakes = BTreeMap::new(alloc);
     for (number, row) in rows.iter().enumerate() {
-        let target = row.target.as_str();
-        if has_namesake(row) && !target.contains('?') && !is_index(files, target) {
-            let key = String::from_str(alloc, target)?;
+        if has_namesake(row) && may_move(files, row) {
+            let key = String::from_str(alloc, row.target.as_str())?;
             namesakes.insert(key, number)?;
         }
     }
@@ -174,6 +172,27 @@ fn namesakes_in(
 /// Whether the row is that of a missing page, and the site has a page with the same name.
 fn has_namesake(row: &Broken) -> bool {
     matches!(row.kind, Kind::NoPage) && row.same_name.is_some()
+}
+
+/// Whether the links to the target of a row may be moved to a page with the same name. A name of index files says nothing about a page, and
+/// a query may be meant for another. Without BASE, a path from the root may be meant for another folder of the host.
+fn may_move(files: &SiteFiles<'_>, row: &Broken) -> bool {
+    let target = row.target.as_str();
+    let is_elsewhere = files.rules().rooted && has_root_path(row.places.as_slice());
+    !is_elsewhere && !target.contains('?') && !is_index(files, target)
+}
+
+/// Whether one of the links at these locations is written as a path from the root.
+fn has_root_path(places: &[Place]) -> bool {
+    places.iter().any(|place| is_root_path(place))
+}
+
+/// Whether the link at a location is written as a path from the root.
+fn is_root_path(place: &Place) -> bool {
+    match &place.written {
+        Some(text) => matches!(text.as_bytes(), [b'/' | b'\\', ..]),
+        None => false,
+    }
 }
 
 /// Whether a URL without a query ends with the name of an index file.
