@@ -48,14 +48,14 @@ SECONDS = float(os.environ.get("SECONDS", "30"))
 # The values that are names of files.
 FILES = ("FILE", "LIST", "NEW")
 HELP_COMMAND = re.compile(r"^  (\w+) +(.*)$", re.M)
-HELP_LINE = re.compile(r" +(?:-\w, | {4})--([a-z-]+)(?: <([A-Z/]+)>)? {2,}(.*)")
+HELP_LINE = re.compile(r" +(?:-\w, | {4})--([a-z-]+)(?: <([A-Z/=]+)>)? {2,}(.*)")
 HELP_OPTION = re.compile(r" +(?:-\w, )?--")
 HELP_DEFAULT = re.compile(r"^(.*?) \[default: (.*)\]$")
 MACRO_PART = re.compile(r'(?:"[^"]*"|[^\s"])+')
-PAGE_OPTION = re.compile(r"--([a-z-]+)(?: ([A-Z/]+))?$")
+PAGE_OPTION = re.compile(r"--([a-z-]+)(?: ([A-Z/=]+))?$")
 PAGE_DEFAULT = re.compile(r"(?<= )The default is (.*?)\.(?= |$)")
 MANUAL_HEADING = re.compile(r"^### `mercator ([a-z]+)\b(.*)`$", re.M)
-MANUAL_OPTION = re.compile(r"--([a-z-]+)(?: ([A-Z/]+))?$")
+MANUAL_OPTION = re.compile(r"--([a-z-]+)(?: ([A-Z/=]+))?$")
 FILE = "some_file"
 
 # What a shell offers if the last of these words is being typed.

@@ -1,10 +1,10 @@
--- Bytes that are printed one joined the other.
-use Rattle.check_report.proofs.Prelude.{common_steps, ◌≡◌, ℕ, ◌+◌, ◌<◌, ◌≤◌, List, [], ◌∷◌, ◌++◌, length, map, take, get_or, Result, IfOk, OnOk, Vec, Global, append-nil, sym, ap, subst, ◌∙◌, arith, Bor, Bool, Option, append_assoc, flat_map-map, map-map, map_more, take_more, take_all, flat_map-append, flat_map, Adds, Line, bare_lines, begin, edge, file_lines, finish, in_part, link_line, place, place_lines, rest_lines, target_lines}
+-- Bytes and rows that are appended one after another.
+use Rattle.check_report.proofs.Prelude.{common_steps, ◌≡◌, ℕ, ◌+◌, ◌<◌, ◌≤◌, List, [], ◌∷◌, ◌++◌, length, map, take, get_or, Result, IfOk, OnOk, Vec, Global, append-nil, sym, ap, subst, ◌∙◌, arith, Bor, Bool, Option, append_assoc, flat_map-map, map-map, map_more, take_more, take_all, flat_map-append, flat_map, Adds, Line, bare_lines, begin, edge, file_lines, finish, in_section, link_line, place, place_lines, rest_lines, target_lines}
 use Rattle.check_report.specs.Json.{count_if_at, count_tokens}
 use Rattle.check_report.specs.Order.{link_of, links_by_file, shown_places}
 use Rattle.check_report.specs.declared.form.Form.{Form}
 use Rattle.check_report.specs.declared.ordered.Link.{Link}
-use Rattle.check_report.specs.declared.row.Part.{Part}
+use Rattle.check_report.specs.declared.row.Section.{Section}
 use Rattle.check_report.specs.declared.value.Broken.{Broken}
 use Rattle.check_report.specs.declared.value.Place.{Place}
 use Rattle.check_report.specs.declared.view.View.{View}
@@ -14,11 +14,11 @@ use Rattle.json.specs.Tree.{members_tokens}
 
 -- ---- bytes
 
--- bytes joined bytes
+-- two appended texts are one
 pub joined : {X : Type 0} (old mid new a b : List X) → mid ≡ old ++ a → new ≡ mid ++ b → new ≡ old ++ (a ++ b)
 joined old mid new a b p q = q ∙ ap (λ t. t ++ b) p ∙ append_assoc old a b
 
--- likewise, if the last may run out of memory
+-- as `joined`, if the last call may run out of memory
 pub last_joined : {X V E : Type 0} (answer : Result V E) (old mid new a b : List X) → mid ≡ old ++ a → OnOk answer (new ≡ mid ++ b) → OnOk answer (new ≡ old ++ (a ++ b))
 last_joined answer old mid new a b p q = grind (arith, joined)
 
@@ -51,8 +51,8 @@ pub then_more : {E : Type 0} (how : Form) (answer : Result (Vec ℕ Global) E) (
 then_more how answer out mid xs ys before after = grind (arith, adds_both)
 
 -- a section, if it has rows
-pub part_more : {E : Type 0} (how : Form) (answer : Result (Vec ℕ Global) E) (out begun listed : List ℕ) (of_part : Part) (rows : ℕ) (lines : List Line) → Adds how out begun (edge rows (begin of_part)) → Adds how begun listed lines → IfOk answer (λ more. Adds how listed more.items (edge rows (finish of_part))) → IfOk answer (λ more. Adds how out more.items (in_part of_part rows lines))
-part_more how answer out begun listed of_part rows lines first middle last = grind (arith, then_more, adds_both)
+pub section_more : {E : Type 0} (how : Form) (answer : Result (Vec ℕ Global) E) (out begun listed : List ℕ) (of_section : Section) (rows : ℕ) (lines : List Line) → Adds how out begun (edge rows (begin of_section)) → Adds how begun listed lines → IfOk answer (λ more. Adds how listed more.items (edge rows (finish of_section))) → IfOk answer (λ more. Adds how out more.items (in_section of_section rows lines))
+section_more how answer out begun listed of_section rows lines first middle last = grind (arith, then_more, adds_both)
 
 -- the same rows in other words, after an allocation that may fail
 pub then_same : {E : Type 0} (how : Form) (answer : Result (Vec ℕ Global) E) (out : List ℕ) (xs ys : List Line) → xs ≡ ys → IfOk answer (λ more. Adds how out more.items xs) → IfOk answer (λ more. Adds how out more.items ys)

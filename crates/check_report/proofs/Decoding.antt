@@ -3,21 +3,12 @@ use Rattle.check_report.proofs.Prelude.{◌≡◌, ℕ, ◌-◌, ◌*◌, ◌<�
 use Rattle.std.proofs.lemmas.Str.{IsUtf8-from_is_utf8, is_utf8-from_IsUtf8}
 use Rattle.std.specs.Char.{encode_utf8}
 use Rattle.std.specs.Str.{encode_utf8_all, is_utf8}
-use Rattle.check_report.specs.Names.{at_percent, decoded, escaped_more, is_readable, readable_in, readable_only, unescaped, unescaped_first, unescaped_from}
+use Rattle.check_report.specs.Names.{at_percent, escaped_more, is_readable, readable_in, readable_only, unescaped, unescaped_first, unescaped_from}
 
 not_utf8 : (bytes : List ℕ) → ¬ (IsUtf8 bytes) → is_utf8 bytes ≡ false
 not_utf8 bytes other = elim (cases_Bool (is_utf8 bytes)) [ inl is ↦ absurd (other (IsUtf8-from_is_utf8 bytes is)) | inr not ↦ not ]
 
--- ---- what is decoded
-
-pub decoded_text : (text bytes : List ℕ) → bytes ≡ unescaped text → IsUtf8 bytes → decoded text ≡ bytes
-unfolding decoded
-decoded_text text bytes same utf8 =
-    cond-true (is_utf8 (unescaped text)) _ _ (sym (ap is_utf8 same) ∙ is_utf8-from_IsUtf8 bytes utf8) ∙ sym same
-
-pub decoded_other : (text bytes : List ℕ) → bytes ≡ unescaped text → ¬ (IsUtf8 bytes) → decoded text ≡ text
-unfolding decoded
-decoded_other text bytes same other = cond-false (is_utf8 (unescaped text)) _ _ (sym (ap is_utf8 same) ∙ not_utf8 bytes other)
+-- ---- readable characters
 
 pub readable_text : (bytes : List ℕ) → IsUtf8 bytes → readable_in bytes ≡ readable_only (chars bytes)
 readable_text bytes utf8 = cond-true (is_utf8 bytes) _ _ (is_utf8-from_IsUtf8 bytes utf8)

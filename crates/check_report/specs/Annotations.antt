@@ -1,29 +1,20 @@
 -- A row as a GitHub annotation.
-use Rattle.std.specs.Prelude.{ℕ, ◌-◌, ◌==◌, List, [], ◌++◌, codes, drop, length, nat_eq, nat_lt, slice_get, string_bytes, if◌then◌else◌, Option, None, Some, bytes_eq}
-use Rattle.std.specs.List.{starts_with}
+use Rattle.std.specs.Prelude.{ℕ, ◌-◌, List, [], ◌++◌, codes, length, nat_lt, slice_get, string_bytes, if◌then◌else◌, bytes_eq}
 use Rattle.check_report.specs.Escape.{escaped}
 use Rattle.check_report.specs.Names.{target_in}
+use Rattle.check_report.specs.Paths.{slash_after, without_here}
 use Rattle.check_report.specs.Rows as line
 use Rattle.check_report.specs.Rows.{Line}
 use Rattle.check_report.specs.Text.{counted, wrong_of}
 use Rattle.check_report.specs.declared.escape.Escape.TheVariants as escape
-use Rattle.check_report.specs.declared.row.Part.{Part}
-use Rattle.check_report.specs.declared.row.Part.TheVariants as part
+use Rattle.check_report.specs.declared.row.Section.{Section}
+use Rattle.check_report.specs.declared.row.Section.TheVariants as section
 use Rattle.check_report.specs.declared.value.Broken.{Broken}
 use Rattle.check_report.specs.declared.value.Place.{Place}
 
 -- a target and what is wrong
 abbrev pub message_line : Broken → List ℕ
 message_line b = target_in escape.Data b ++ codes ": " ++ wrong_of escape.Data b ++ codes "\n"
-
--- a folder without a leading `./`
-abbrev pub without_here : List ℕ → List ℕ
-without_here folder = if starts_with nat_eq folder (codes "./") then drop 2 folder else folder
-
--- the slash to put after a folder with this last byte
-abbrev pub slash_after : Option ℕ → List ℕ
-slash_after None = []
-slash_after (Some last) = if last == 47 then [] else codes "/"
 
 -- the text before the names of a folder's files: nothing for an empty name and for the current folder
 abbrev pub front_of : List ℕ → List ℕ
@@ -45,21 +36,21 @@ broken_annotation b = if nat_lt 0 (length b.places.items) then [] else codes "::
 abbrev pub unlisted_annotation : List ℕ → List ℕ
 unlisted_annotation document = codes "::error::" ++ escaped escape.Data document ++ codes ": not in a sitemap\n"
 
--- the same for a name in its section; other sections have none
-abbrev pub name_annotation : Part → List ℕ → List ℕ
-name_annotation part.Broken text = []
-name_annotation part.Worst text = []
-name_annotation part.Redirects text = []
-name_annotation part.Unreached text = []
-name_annotation part.Unlisted text = unlisted_annotation text
-name_annotation part.External text = []
-name_annotation part.Unused text = []
+-- the annotation of a name in its section; names in other sections have none
+abbrev pub name_annotation : Section → List ℕ → List ℕ
+name_annotation section.Broken text = []
+name_annotation section.Worst text = []
+name_annotation section.Redirects text = []
+name_annotation section.Unreached text = []
+name_annotation section.Unlisted text = unlisted_annotation text
+name_annotation section.External text = []
+name_annotation section.Unused text = []
 
 abbrev pub annotation_line : List ℕ → Line → List ℕ
 annotation_line folder (line.total base totals counts) = []
 annotation_line folder (line.hint h) = []
-annotation_line folder (line.begin of_part) = []
-annotation_line folder (line.finish of_part) = []
+annotation_line folder (line.begin of_section) = []
+annotation_line folder (line.finish of_section) = []
 annotation_line folder (line.broken b) = broken_annotation b
 annotation_line folder (line.place b p) = place_annotation folder b p
 annotation_line folder (line.more count) = []
@@ -67,5 +58,5 @@ annotation_line folder (line.rest b count) = []
 annotation_line folder (line.worst c) = []
 annotation_line folder (line.redirect r) = []
 annotation_line folder (line.external e) = []
-annotation_line folder (line.name of_part text) = name_annotation of_part text
+annotation_line folder (line.name of_section text) = name_annotation of_section text
 annotation_line folder line.last = []

@@ -7,11 +7,11 @@ use Rattle.json.specs.Tree.{json_tokens}
 use Rattle.check_report.specs.Rows as line
 use Rattle.check_report.specs.Rows.{Line}
 use Rattle.check_report.specs.declared.row.Counts.{Counts}
-use Rattle.check_report.specs.declared.row.Part.{Part}
-use Rattle.check_report.specs.declared.row.Part.TheVariants as part
+use Rattle.check_report.specs.declared.row.Section.{Section}
+use Rattle.check_report.specs.declared.row.Section.TheVariants as section
 use Rattle.check_report.specs.declared.value.Broken.{Broken}
 use Rattle.check_report.specs.declared.value.Kind.{Kind}
-use Rattle.check_report.specs.declared.value.Kind.TheVariants.{NoPage, NoAnchor, NotUrl, UnknownScheme, LocalFile, Leaves, OutsideBase}
+use Rattle.check_report.specs.declared.value.Kind.TheVariants.{NoPage, NoAnchor, NotUrl, UnknownScheme, LocalFile, Leaves, OutsideBase, NotInMap}
 use Rattle.check_report.specs.declared.value.Place.{Place}
 use Rattle.check_report.specs.declared.value.Totals.{Totals}
 
@@ -52,6 +52,7 @@ is_missing UnknownScheme = false
 is_missing LocalFile = false
 is_missing Leaves = false
 is_missing OutsideBase = false
+is_missing NotInMap = false
 
 -- whether the link leads out of the site
 abbrev pub is_leaving : Kind → Bool
@@ -62,6 +63,18 @@ is_leaving UnknownScheme = false
 is_leaving LocalFile = false
 is_leaving Leaves = true
 is_leaving OutsideBase = true
+is_leaving NotInMap = true
+
+-- whether the row of the target has a hint
+abbrev pub has_hint : Kind → Bool
+has_hint NoPage = true
+has_hint NoAnchor = true
+has_hint NotUrl = false
+has_hint UnknownScheme = false
+has_hint LocalFile = false
+has_hint Leaves = false
+has_hint OutsideBase = false
+has_hint NotInMap = true
 
 -- the kind of the row of a target
 abbrev pub target_kind : Kind → List ℕ
@@ -84,6 +97,7 @@ wrong_word UnknownScheme = codes "unknown_scheme"
 wrong_word LocalFile = codes "local_file"
 wrong_word Leaves = codes "above_folder"
 wrong_word OutsideBase = codes "outside_base"
+wrong_word NotInMap = codes "not_in_map"
 
 -- the line and the column, and the link as it is written, or `null`
 abbrev pub place_counts : Place → Members
@@ -102,23 +116,23 @@ same_name_at b rest = if is_missing b.kind then member (codes "same_name") (text
 abbrev pub same_name_tokens : Broken → List Token
 same_name_tokens b = if is_missing b.kind then Token.key (codes "same_name") ∷ json_tokens (text_or_null (option_map string_bytes b.same_name)) else []
 
--- the hint, or `null`; nothing if neither a page nor an anchor is missing
+-- the hint, or `null`; nothing if the kind of the target has none
 abbrev pub hint_at : Broken → Members → Members
-hint_at b rest = if is_missing b.kind then member (codes "hint") (text_or_null (option_map string_bytes b.hint)) rest else rest
+hint_at b rest = if has_hint b.kind then member (codes "hint") (text_or_null (option_map string_bytes b.hint)) rest else rest
 
 -- the tokens of the hint
 abbrev pub hint_tokens : Broken → List Token
-hint_tokens b = if is_missing b.kind then Token.key (codes "hint") ∷ json_tokens (text_or_null (option_map string_bytes b.hint)) else []
+hint_tokens b = if has_hint b.kind then Token.key (codes "hint") ∷ json_tokens (text_or_null (option_map string_bytes b.hint)) else []
 
 -- the kind of the rows in a section
-abbrev pub row_kind : Part → List ℕ
-row_kind part.Broken = codes "broken"
-row_kind part.Worst = codes "worst"
-row_kind part.Redirects = codes "redirect"
-row_kind part.Unreached = codes "unreached"
-row_kind part.Unlisted = codes "unlisted"
-row_kind part.External = codes "external"
-row_kind part.Unused = codes "unused"
+abbrev pub row_kind : Section → List ℕ
+row_kind section.Broken = codes "broken"
+row_kind section.Worst = codes "worst"
+row_kind section.Redirects = codes "redirect"
+row_kind section.Unreached = codes "unreached"
+row_kind section.Unlisted = codes "unlisted"
+row_kind section.External = codes "external"
+row_kind section.Unused = codes "unused"
 
 -- the counts of broken links, invalid links and links that lead out of the site
 abbrev pub broken_counts : Totals → Members
@@ -144,8 +158,8 @@ abbrev pub members_of : Line → Members
 members_of (line.total base totals counts) = total_members base totals counts
 members_of (line.hint h) =
     kind (codes "hint") (text_at (codes "base") (string_bytes h.folder) (count_at (codes "paths") h.paths (count_at (codes "of") h.of no_members)))
-members_of (line.begin of_part) = no_members
-members_of (line.finish of_part) = no_members
+members_of (line.begin of_section) = no_members
+members_of (line.finish of_section) = no_members
 members_of (line.broken b) =
     kind (target_kind b.kind) (target_at b (count_at (codes "pages") b.pages (same_name_at b (hint_at b no_members))))
 members_of (line.place b p) =
@@ -156,15 +170,15 @@ members_of (line.worst c) = kind (codes "worst") (text_at (codes "file") (string
 members_of (line.redirect r) =
     kind (codes "redirect") (text_at (codes "page") (string_bytes r.page) (member (codes "to") (text_or_null (option_map string_bytes r.target)) (count_at (codes "pages") r.pages no_members)))
 members_of (line.external e) = kind (codes "external") (text_at (codes "url") (string_bytes e.url) (count_at (codes "links") e.links no_members))
-members_of (line.name of_part text) = kind (row_kind of_part) (text_at (codes "name") text no_members)
+members_of (line.name of_section text) = kind (row_kind of_section) (text_at (codes "name") text no_members)
 members_of line.last = no_members
 
 -- whether the row has an object
 abbrev pub is_object : Line → Bool
 is_object (line.total base totals counts) = true
 is_object (line.hint h) = true
-is_object (line.begin of_part) = false
-is_object (line.finish of_part) = false
+is_object (line.begin of_section) = false
+is_object (line.finish of_section) = false
 is_object (line.broken b) = true
 is_object (line.place b p) = true
 is_object (line.more count) = true
@@ -172,7 +186,7 @@ is_object (line.rest b count) = false
 is_object (line.worst c) = true
 is_object (line.redirect r) = true
 is_object (line.external e) = true
-is_object (line.name of_part text) = true
+is_object (line.name of_section text) = true
 is_object line.last = false
 
 -- an object without spaces, and LF

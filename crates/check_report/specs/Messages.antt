@@ -4,7 +4,7 @@ use Rattle.check_report.specs.Names.{ends_with_link, page_name, target_name}
 use Rattle.check_report.specs.Text.{message}
 use Rattle.check_report.specs.declared.value.Broken.{Broken}
 use Rattle.check_report.specs.declared.value.Kind.{Kind}
-use Rattle.check_report.specs.declared.value.Kind.TheVariants.{NoPage, NoAnchor, NotUrl, UnknownScheme, LocalFile, Leaves, OutsideBase}
+use Rattle.check_report.specs.declared.value.Kind.TheVariants.{NoPage, NoAnchor, NotUrl, UnknownScheme, LocalFile, Leaves, OutsideBase, NotInMap}
 use Rattle.check_report.specs.declared.value.Place.{Place}
 
 -- the name of a kind of finding
@@ -16,6 +16,7 @@ rule_id UnknownScheme = codes "unknown-scheme"
 rule_id LocalFile = codes "local-file"
 rule_id Leaves = codes "leaves-the-folder"
 rule_id OutsideBase = codes "outside-base"
+rule_id NotInMap = codes "not-in-map"
 
 -- the name of the finding of a document that no sitemap lists
 abbrev pub not_in_sitemap : List ℕ

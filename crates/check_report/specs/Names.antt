@@ -4,6 +4,7 @@ use Rattle.std.specs.Char.{encode_utf8}
 use Rattle.std.specs.List.{ends_with, starts_with}
 use Rattle.std.specs.Option.{option_or}
 use Rattle.std.specs.Str.{is_utf8}
+use Rattle.std.specs.Str.Lossy.{utf8_lossy}
 use Rattle.percent_encoding.specs.Percent.{percent_decode}
 use Rattle.shown_text.specs.Shown.{is_hidden}
 use Rattle.check_report.specs.Escape.{escaped}
@@ -11,7 +12,7 @@ use Rattle.check_report.specs.declared.escape.Escape.{Escape}
 use Rattle.check_report.specs.declared.escape.Escape.TheVariants as escape
 use Rattle.check_report.specs.declared.value.Broken.{Broken}
 use Rattle.check_report.specs.declared.value.Kind.{Kind}
-use Rattle.check_report.specs.declared.value.Kind.TheVariants.{NoPage, NoAnchor, NotUrl, UnknownScheme, LocalFile, Leaves, OutsideBase}
+use Rattle.check_report.specs.declared.value.Kind.TheVariants.{NoPage, NoAnchor, NotUrl, UnknownScheme, LocalFile, Leaves, OutsideBase, NotInMap}
 
 -- ---- escapes
 
@@ -59,9 +60,9 @@ unescaped_from zero (b ∷ bs) = unescaped_first b (at_percent (b ∷ bs)) ++ un
 abbrev pub unescaped : List ℕ → List ℕ
 unescaped text = unescaped_from 0 text
 
--- the same, or the text itself if that is not UTF-8
+-- these bytes as text. They are UTF-8, because whole characters replace their escapes, so `utf8_lossy` replaces nothing
 unfoldable pub decoded : List ℕ → List ℕ
-decoded text = if is_utf8 (unescaped text) then unescaped text else text
+decoded text = utf8_lossy (unescaped text)
 
 -- ---- names
 
@@ -82,6 +83,7 @@ is_text UnknownScheme = true
 is_text LocalFile = true
 is_text Leaves = false
 is_text OutsideBase = false
+is_text NotInMap = false
 
 abbrev pub target_name : Broken → List ℕ
 target_name b = if is_text b.kind then string_bytes b.target else page_name (string_bytes b.target)

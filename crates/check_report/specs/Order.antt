@@ -9,7 +9,7 @@ use Rattle.check_report.specs.declared.ordered.Link.{Link}
 use Rattle.check_report.specs.declared.ordered.Named.{Named}
 use Rattle.check_report.specs.declared.value.Broken.{Broken}
 use Rattle.check_report.specs.declared.value.Kind.{Kind}
-use Rattle.check_report.specs.declared.value.Kind.TheVariants.{NoPage, NoAnchor, NotUrl, UnknownScheme, LocalFile, Leaves, OutsideBase}
+use Rattle.check_report.specs.declared.value.Kind.TheVariants.{NoPage, NoAnchor, NotUrl, UnknownScheme, LocalFile, Leaves, OutsideBase, NotInMap}
 use Rattle.check_report.specs.declared.value.Place.{Place}
 use Rattle.check_report.specs.declared.view.Order.{Order}
 use Rattle.check_report.specs.declared.view.Order.TheVariants as order
@@ -51,6 +51,7 @@ kind_rank UnknownScheme = 2
 kind_rank LocalFile = 2
 kind_rank Leaves = 3
 kind_rank OutsideBase = 3
+kind_rank NotInMap = 3
 
 -- by kind and name
 abbrev pub target_cmp : Broken → Broken → Ordering

@@ -9,8 +9,8 @@ use Rattle.check_report.specs.Text.{base_hint, bracketed, counted, is_broken, li
 use Rattle.check_report.specs.declared.as_page.parts.TheConstants.{HEAD, SCRIPT, STYLE, TAIL, TOOLS}
 use Rattle.check_report.specs.declared.escape.Escape.TheVariants as escape
 use Rattle.check_report.specs.declared.row.Counts.{Counts}
-use Rattle.check_report.specs.declared.row.Part.{Part}
-use Rattle.check_report.specs.declared.row.Part.TheVariants as part
+use Rattle.check_report.specs.declared.row.Section.{Section}
+use Rattle.check_report.specs.declared.row.Section.TheVariants as section
 use Rattle.check_report.specs.declared.value.BaseHint.{BaseHint}
 use Rattle.check_report.specs.declared.value.Broken.{Broken}
 use Rattle.check_report.specs.declared.value.External.{External}
@@ -85,7 +85,7 @@ abbrev pub total_item : List ℕ → ℕ → List ℕ
 total_item word n = counted word n ++ codes "</b></li>\n"
 
 abbrev pub site_items : Totals → List ℕ
-site_items t = total_item (codes "<li>pages <b>") t.pages ++ total_item (codes "<li>files <b>") t.files ++ total_item (codes "<li>links <b>") t.links ++ total_item (codes "<li>redirects <b>") t.moved
+site_items t = total_item (codes "<li>pages <b>") t.pages ++ total_item (codes "<li>other files <b>") t.files ++ total_item (codes "<li>links <b>") t.links ++ total_item (codes "<li>redirects <b>") t.moved
     ++ total_item (codes "<li>other URLs of pages <b>") t.aliases
 
 -- an item if the count is not 0, otherwise nothing
@@ -117,14 +117,14 @@ page_total base t c = page_start base t ++ page_heading base t ++ count_items t 
 abbrev pub hint_paragraph : BaseHint → List ℕ
 hint_paragraph h = codes "<p>" ++ base_hint escape.Html h ++ codes "</p>\n"
 
-abbrev pub section_start : Part → List ℕ
-section_start part.Broken = codes "<section id=broken aria-labelledby=h-broken>\n<h2 id=h-broken>Broken links</h2>\n<pre class=plain>\n"
-section_start part.Worst = codes "<section id=worst aria-labelledby=h-worst>\n<h2 id=h-worst>Files with the most broken links</h2>\n<pre>\n"
-section_start part.Redirects = codes "<section id=redirects aria-labelledby=h-redirects>\n<h2 id=h-redirects>Links to redirects</h2>\n<pre>\n"
-section_start part.Unreached = codes "<section id=unreached aria-labelledby=h-unreached>\n<h2 id=h-unreached>Unreached files</h2>\n<pre>\n"
-section_start part.Unlisted = codes "<section id=unlisted aria-labelledby=h-unlisted>\n<h2 id=h-unlisted>Documents that no sitemap lists</h2>\n<pre>\n"
-section_start part.External = codes "<section id=external aria-labelledby=h-external>\n<h2 id=h-external>External links (not checked)</h2>\n<pre>\n"
-section_start part.Unused = codes "<section id=unused aria-labelledby=h-unused>\n<h2 id=h-unused>Unused --ignore entries</h2>\n<pre>\n"
+abbrev pub section_start : Section → List ℕ
+section_start section.Broken = codes "<section id=broken aria-labelledby=h-broken>\n<h2 id=h-broken>Broken links</h2>\n<pre class=plain>\n"
+section_start section.Worst = codes "<section id=worst aria-labelledby=h-worst>\n<h2 id=h-worst>Files with the most broken links</h2>\n<pre>\n"
+section_start section.Redirects = codes "<section id=redirects aria-labelledby=h-redirects>\n<h2 id=h-redirects>Links to redirects (not errors)</h2>\n<pre>\n"
+section_start section.Unreached = codes "<section id=unreached aria-labelledby=h-unreached>\n<h2 id=h-unreached>Unreached files</h2>\n<pre>\n"
+section_start section.Unlisted = codes "<section id=unlisted aria-labelledby=h-unlisted>\n<h2 id=h-unlisted>Documents that no sitemap lists</h2>\n<pre>\n"
+section_start section.External = codes "<section id=external aria-labelledby=h-external>\n<h2 id=h-external>External links (not checked)</h2>\n<pre>\n"
+section_start section.Unused = codes "<section id=unused aria-labelledby=h-unused>\n<h2 id=h-unused>Unused --ignore entries</h2>\n<pre>\n"
 
 -- ---- rows
 
@@ -157,9 +157,6 @@ place_cell source_url p = link_start source_url p ++ place_name p ++ link_end so
 abbrev pub place_row : List ℕ → Broken → Place → List ℕ
 place_row source_url b p = codes "\t" ++ place_cell source_url p ++ written_cell b (option_map string_bytes p.written) ++ codes "\n"
 
-abbrev pub more_row : ℕ → List ℕ
-more_row count = counted (codes "\tand ") count ++ codes " more\n"
-
 abbrev pub worst_row : FileCount → List ℕ
 worst_row c = html (string_bytes c.file) ++ counted (codes "\t") c.links ++ codes "\n"
 
@@ -173,14 +170,14 @@ external_row e = html (string_bytes e.url) ++ counted (codes "\t") e.links ++ co
 abbrev pub page_line : List ℕ → Line → List ℕ
 page_line source_url (line.total base totals counts) = page_total base totals counts
 page_line source_url (line.hint h) = hint_paragraph h
-page_line source_url (line.begin of_part) = section_start of_part
-page_line source_url (line.finish of_part) = codes "</pre>\n</section>\n"
+page_line source_url (line.begin of_section) = section_start of_section
+page_line source_url (line.finish of_section) = codes "</pre>\n</section>\n"
 page_line source_url (line.broken b) = broken_row b
 page_line source_url (line.place b p) = place_row source_url b p
-page_line source_url (line.more count) = more_row count
+page_line source_url (line.more count) = []
 page_line source_url (line.rest b count) = []
 page_line source_url (line.worst c) = worst_row c
 page_line source_url (line.redirect r) = redirect_row r
 page_line source_url (line.external e) = external_row e
-page_line source_url (line.name of_part text) = name_in escape.Html of_part text ++ codes "\n"
+page_line source_url (line.name of_section text) = name_in escape.Html of_section text ++ codes "\n"
 page_line source_url line.last = tail_part

@@ -1,8 +1,17 @@
--- The paths of files in JUnit XML and SARIF, and links to their sources.
-use Rattle.std.specs.Prelude.{ℕ, ◌-◌, List, [], ◌++◌, bytes_eq, codes, length, slice_get, if◌then◌else◌}
+-- The paths of files in annotations, JUnit XML and SARIF, and links to their sources.
+use Rattle.std.specs.Prelude.{ℕ, ◌-◌, ◌==◌, List, [], ◌++◌, bytes_eq, codes, drop, length, nat_eq, slice_get, if◌then◌else◌, Option, None, Some}
+use Rattle.std.specs.List.{starts_with}
 use Rattle.percent_encoding.specs.Percent.{percent_encode}
-use Rattle.check_report.specs.Annotations.{slash_after, without_here}
 use Rattle.check_report.specs.declared.paths.TheConstants.{PATH}
+
+-- a folder without a leading `./`
+abbrev pub without_here : List ℕ → List ℕ
+without_here folder = if starts_with nat_eq folder (codes "./") then drop 2 folder else folder
+
+-- the slash to put after a folder with this last byte
+abbrev pub slash_after : Option ℕ → List ℕ
+slash_after None = []
+slash_after (Some last) = if last == 47 then [] else codes "/"
 
 -- a folder and a slash, or nothing for an empty name and for the current folder
 abbrev pub front_path : List ℕ → List ℕ

@@ -14,8 +14,8 @@ use Rattle.check_report.specs.declared.value.Redirect.{Redirect}
 use Rattle.check_report.specs.declared.value.Contents.{Contents}
 use Rattle.check_report.specs.declared.value.Totals.{Totals}
 use Rattle.check_report.specs.declared.row.Counts.{Counts}
-use Rattle.check_report.specs.declared.row.Part.{Part}
-use Rattle.check_report.specs.declared.row.Part.TheVariants as part
+use Rattle.check_report.specs.declared.row.Section.{Section}
+use Rattle.check_report.specs.declared.row.Section.TheVariants as section
 use Rattle.check_report.specs.declared.row.Row.{Row}
 use Rattle.check_report.specs.declared.row.Row.TheVariants as row
 use Rattle.check_report.specs.declared.view.Order.{Order}
@@ -29,8 +29,8 @@ pub data Line : Type 0 where
   -- a hint at a missing BASE
   hint : BaseHint → Line
   -- the start and the end of a section that has rows
-  begin : Part → Line
-  finish : Part → Line
+  begin : Section → Line
+  finish : Section → Line
   broken : Broken → Line
   -- a broken link: its target and its location
   place : Broken → Place → Line
@@ -42,15 +42,15 @@ pub data Line : Type 0 where
   redirect : Redirect → Line
   external : External → Line
   -- a name or an entry in a section
-  name : Part → List ℕ → Line
+  name : Section → List ℕ → Line
   last : Line
 
 -- the row of a value of the program
 abbrev pub line_of : Row → Line
 line_of (row.Total base totals counts) = total base.now totals counts
 line_of (row.Hint at) = hint at.now
-line_of (row.Begin of_part) = begin of_part
-line_of (row.Finish of_part) = finish of_part
+line_of (row.Begin of_section) = begin of_section
+line_of (row.Finish of_section) = finish of_section
 line_of (row.Broken target) = broken target.now
 line_of (row.Place target at) = place target.now at.now
 line_of (row.More count) = more count
@@ -58,7 +58,7 @@ line_of (row.Rest target count) = rest target.now count
 line_of (row.Worst count) = worst count.now
 line_of (row.Redirect page) = redirect page.now
 line_of (row.External url) = external url.now
-line_of (row.Name of_part text) = name of_part text.now
+line_of (row.Name of_section text) = name of_section text.now
 line_of row.Last = last
 
 -- ---- broken links
@@ -111,23 +111,23 @@ abbrev pub edge : ℕ → Line → List Line
 edge rows line = if nat_lt 0 rows then line ∷ [] else []
 
 -- the lines of a section, with its start and end if it has rows
-abbrev pub in_part : Part → ℕ → List Line → List Line
-in_part of_part rows lines = edge rows (begin of_part) ++ lines ++ edge rows (finish of_part)
+abbrev pub in_section : Section → ℕ → List Line → List Line
+in_section of_section rows lines = edge rows (begin of_section) ++ lines ++ edge rows (finish of_section)
 
-abbrev pub broken_part : View → List Broken → List Line
-broken_part view targets = in_part part.Broken (length targets) (broken_lines view targets)
+abbrev pub broken_section : View → List Broken → List Line
+broken_section view targets = in_section section.Broken (length targets) (broken_lines view targets)
 
-abbrev pub worst_part : List FileCount → List Line
-worst_part counts = in_part part.Worst (length counts) (map worst counts)
+abbrev pub worst_section : List FileCount → List Line
+worst_section counts = in_section section.Worst (length counts) (map worst counts)
 
-abbrev pub redirect_part : List Redirect → List Line
-redirect_part pages = in_part part.Redirects (length pages) (map redirect pages)
+abbrev pub redirect_section : List Redirect → List Line
+redirect_section pages = in_section section.Redirects (length pages) (map redirect pages)
 
-abbrev pub name_part : Part → List (String Global) → List Line
-name_part of_part texts = in_part of_part (length texts) (map (λ text. name of_part (string_bytes text)) texts)
+abbrev pub name_section : Section → List (String Global) → List Line
+name_section of_section texts = in_section of_section (length texts) (map (λ text. name of_section (string_bytes text)) texts)
 
-abbrev pub external_part : List External → List Line
-external_part urls = in_part part.External (length urls) (map external urls)
+abbrev pub external_section : List External → List Line
+external_section urls = in_section section.External (length urls) (map external urls)
 
 -- the rows if they are listed, otherwise none
 abbrev pub if_listed : {T : Type 0} → Bool → Bor (List T) → Bor (List T)
@@ -175,8 +175,8 @@ hint_lines (Some at) = hint at.now ∷ []
 -- the hint, and the sections of these findings and external links
 abbrev pub sections_of : View → List External → Findings → List Line
 sections_of view urls f =
-    hint_lines f.base_hint ++ broken_part view f.broken.now ++ worst_part f.worst.now ++ redirect_part f.redirects.now ++ name_part part.Unreached f.unreached.now
-    ++ name_part part.Unlisted f.unlisted.now ++ external_part urls ++ name_part part.Unused f.unused_ignores.now ++ last ∷ []
+    hint_lines f.base_hint ++ broken_section view f.broken.now ++ worst_section f.worst.now ++ redirect_section f.redirects.now ++ name_section section.Unreached f.unreached.now
+    ++ name_section section.Unlisted f.unlisted.now ++ external_section urls ++ name_section section.Unused f.unused_ignores.now ++ last ∷ []
 
 abbrev pub rows_of : View → Contents → Findings → List Line
 rows_of view contents f = total f.base.now f.totals (counts_of contents f) ∷ sections_of view (external_of contents) (listed contents.lists f)

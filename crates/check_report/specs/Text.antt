@@ -8,14 +8,14 @@ use Rattle.check_report.specs.Rows.{Line}
 use Rattle.check_report.specs.declared.escape.Escape.{Escape}
 use Rattle.check_report.specs.declared.escape.Escape.TheVariants as escape
 use Rattle.check_report.specs.declared.row.Counts.{Counts}
-use Rattle.check_report.specs.declared.row.Part.{Part}
-use Rattle.check_report.specs.declared.row.Part.TheVariants as part
+use Rattle.check_report.specs.declared.row.Section.{Section}
+use Rattle.check_report.specs.declared.row.Section.TheVariants as section
 use Rattle.check_report.specs.declared.value.BaseHint.{BaseHint}
 use Rattle.check_report.specs.declared.value.Broken.{Broken}
 use Rattle.check_report.specs.declared.value.External.{External}
 use Rattle.check_report.specs.declared.value.FileCount.{FileCount}
 use Rattle.check_report.specs.declared.value.Kind.{Kind}
-use Rattle.check_report.specs.declared.value.Kind.TheVariants.{NoPage, NoAnchor, NotUrl, UnknownScheme, LocalFile, Leaves, OutsideBase}
+use Rattle.check_report.specs.declared.value.Kind.TheVariants.{NoPage, NoAnchor, NotUrl, UnknownScheme, LocalFile, Leaves, OutsideBase, NotInMap}
 use Rattle.check_report.specs.declared.value.Place.{Place}
 use Rattle.check_report.specs.declared.value.Redirect.{Redirect}
 use Rattle.check_report.specs.declared.value.Totals.{Totals}
@@ -48,7 +48,8 @@ message NotUrl = codes "not a URL"
 message UnknownScheme = codes "unknown scheme"
 message LocalFile = codes "local file"
 message Leaves = codes "leaves the folder"
-message OutsideBase = codes "outside BASE"
+message OutsideBase = codes "outside BASE, on the same host"
+message NotInMap = codes "no such page in the mapped folder"
 
 abbrev pub same_name_text : Escape → Option (List ℕ) → List ℕ
 same_name_text how None = []
@@ -83,12 +84,12 @@ wrong_of how b = message b.kind ++ advice how b
 abbrev pub counted : List ℕ → ℕ → List ℕ
 counted word n = word ++ decimal n
 
--- the same if there is a count, otherwise nothing
+-- a word and a count if there is a count, otherwise nothing
 abbrev pub counted_if : List ℕ → Option ℕ → List ℕ
 counted_if word None = []
 counted_if word (Some n) = counted word n
 
--- the same if the count is not 0, otherwise nothing
+-- a word and a count if the count is not 0, otherwise nothing
 abbrev pub counted_some : List ℕ → ℕ → List ℕ
 counted_some word n = if n == 0 then [] else counted word n
 
@@ -144,20 +145,20 @@ optional_total c =
 -- the first line of the totals
 abbrev pub site_total : Totals → Counts → List ℕ
 site_total t c =
-    counted (codes "pages ") t.pages ++ counted (codes ", files ") t.files ++ counted (codes ", links ") t.links ++ counted (codes ", redirects ") t.moved
+    counted (codes "pages ") t.pages ++ counted (codes ", other files ") t.files ++ counted (codes ", links ") t.links ++ counted (codes ", redirects ") t.moved
     ++ counted (codes ", aliases ") t.aliases ++ optional_total c
 
 unfoldable pub total_text : Bool → Totals → Counts → List ℕ
 total_text colour t c = site_total t c ++ codes "\n" ++ broken_total colour t ++ codes "\n"
 
-abbrev pub title : Part → List ℕ
-title part.Broken = []
-title part.Worst = codes "files with the most broken links:\n"
-title part.Redirects = codes "links to redirects:\n"
-title part.Unreached = codes "unreached files:\n"
-title part.Unlisted = codes "documents that no sitemap lists:\n"
-title part.External = codes "external links (not checked):\n"
-title part.Unused = codes "unused --ignore entries:\n"
+abbrev pub title : Section → List ℕ
+title section.Broken = []
+title section.Worst = codes "files with the most broken links:\n"
+title section.Redirects = codes "links to redirects (not errors):\n"
+title section.Unreached = codes "unreached files:\n"
+title section.Unlisted = codes "documents that no sitemap lists:\n"
+title section.External = codes "external links (not checked):\n"
+title section.Unused = codes "unused --ignore entries:\n"
 
 -- a folder that is not in the site, with which many paths begin
 abbrev pub base_hint : Escape → BaseHint → List ℕ
@@ -169,8 +170,8 @@ abbrev pub base_hint_line : BaseHint → List ℕ
 base_hint_line h = base_hint escape.Shown h ++ codes "\n"
 
 -- an empty line and the title
-abbrev pub begin_text : Bool → Part → List ℕ
-begin_text colour of_part = codes "\n" ++ code colour bold ++ title of_part ++ code colour plain
+abbrev pub begin_text : Bool → Section → List ℕ
+begin_text colour of_section = codes "\n" ++ code colour bold ++ title of_section ++ code colour plain
 
 abbrev pub worst_text : FileCount → List ℕ
 worst_text c = counted (codes "  ") c.links ++ codes " " ++ shown (string_bytes c.file) ++ codes "\n"
@@ -193,31 +194,35 @@ redirect_text r = moves_text r ++ codes " (" ++ linked_from r.pages ++ codes ")\
 abbrev pub external_text : External → List ℕ
 external_text e = counted (codes "  ") e.links ++ codes " " ++ shown (string_bytes e.url) ++ codes "\n"
 
+-- the text after this number of links that are not listed, with the option that lists them
+abbrev pub more_links : ℕ → List ℕ
+more_links n = if n == 1 then codes " more link (--all-sources lists it)\n" else codes " more links (--all-sources lists them)\n"
+
 abbrev pub more_text : ℕ → List ℕ
-more_text count = counted (codes "  and ") count ++ codes " more\n"
+more_text count = counted (codes "  and ") count ++ more_links count
 
 -- a target, what is wrong with it, and the number of its locations that are not listed
 abbrev pub rest_text : Bool → Broken → ℕ → List ℕ
-rest_text colour b count = target_start colour b ++ counted (codes ": ") count ++ codes " more\n"
+rest_text colour b count = target_start colour b ++ counted (codes ": ") count ++ more_links count
 
 -- a name in a section: a page, or an entry of the ignore list as it is
-abbrev pub name_in : Escape → Part → List ℕ → List ℕ
-name_in how part.Broken text = escaped how text
-name_in how part.Worst text = escaped how text
-name_in how part.Redirects text = escaped how text
-name_in how part.Unreached text = page_in how text
-name_in how part.Unlisted text = page_in how text
-name_in how part.External text = escaped how text
-name_in how part.Unused text = escaped how text
+abbrev pub name_in : Escape → Section → List ℕ → List ℕ
+name_in how section.Broken text = escaped how text
+name_in how section.Worst text = escaped how text
+name_in how section.Redirects text = escaped how text
+name_in how section.Unreached text = page_in how text
+name_in how section.Unlisted text = page_in how text
+name_in how section.External text = escaped how text
+name_in how section.Unused text = escaped how text
 
-abbrev pub name_text : Part → List ℕ → List ℕ
-name_text of_part text = codes "  " ++ name_in escape.Shown of_part text ++ codes "\n"
+abbrev pub name_text : Section → List ℕ → List ℕ
+name_text of_section text = codes "  " ++ name_in escape.Shown of_section text ++ codes "\n"
 
 abbrev pub text_line : Bool → Line → List ℕ
 text_line colour (line.total base totals counts) = total_text colour totals counts
 text_line colour (line.hint h) = base_hint_line h
-text_line colour (line.begin of_part) = begin_text colour of_part
-text_line colour (line.finish of_part) = []
+text_line colour (line.begin of_section) = begin_text colour of_section
+text_line colour (line.finish of_section) = []
 text_line colour (line.broken b) = broken_text colour b
 text_line colour (line.place b p) = place_text colour b p
 text_line colour (line.more count) = more_text count
@@ -225,5 +230,5 @@ text_line colour (line.rest b count) = rest_text colour b count
 text_line colour (line.worst c) = worst_text c
 text_line colour (line.redirect r) = redirect_text r
 text_line colour (line.external e) = external_text e
-text_line colour (line.name of_part text) = name_text of_part text
+text_line colour (line.name of_section text) = name_text of_section text
 text_line colour line.last = []

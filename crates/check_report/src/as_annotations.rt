@@ -1,13 +1,14 @@
 //! Prints a row as a GitHub annotation.
-ghost use Rattle.std.specs.Prelude.{◌≡◌, ◌-◌, ◌++◌, OnOk, length, slice_get};
-ghost use Rattle.check_report.specs.Annotations.{annotation_line, at_place, without_here, broken_annotation, front_of, message_line, name_annotation, place_annotation, slash_after, unlisted_annotation};
+ghost use Rattle.std.specs.Prelude.{◌≡◌, ◌++◌, OnOk};
+ghost use Rattle.check_report.specs.Annotations.{annotation_line, at_place, broken_annotation, front_of, message_line, name_annotation, place_annotation, unlisted_annotation};
 ghost use Rattle.check_report.specs.Rows.{line_of};
 
 use crate::as_text::put_wrong_of;
 use crate::escape::{Escape, put_escaped};
 use crate::names::put_target_name;
+use crate::paths::{slash_after, without_here};
 use crate::put::{NoMemory, put, put_counted};
-use crate::row::{Part, Row};
+use crate::row::{Row, Section};
 use crate::value::{Broken, Place};
 
 /// Appends the annotation of a row, if it has one; the path of its file starts with the folder.
@@ -17,7 +18,7 @@ pub fn put_annotation(out: &mut Vec<u8>, folder: &str, row: Row<'_>) -> Result<(
     match row {
         Row::Broken(broken) => put_broken(out, broken),
         Row::Place(broken, place) => put_place(out, folder, broken, place),
-        Row::Name(part, text) => put_name(out, part, text),
+        Row::Name(section, text) => put_name(out, section, text),
         Row::Total { .. }
         | Row::Hint(_)
         | Row::Begin(_)
@@ -67,13 +68,6 @@ fn put_at(out: &mut Vec<u8>, folder: &str, place: &Place) -> Result<(), NoMemory
     put_counted(out, ",col=", place.column)
 }
 
-/// The folder without a leading `./`.
-pub fn without_here(folder: &str) -> &str
-    ensures { result.now ≡ without_here folder.now }
-{
-    folder.strip_prefix("./").unwrap_or(folder)
-}
-
 /// Appends the folder and a slash, or nothing for the current folder.
 fn put_front(out: &mut Vec<u8>, folder: &str) -> Result<(), NoMemory>
     ensures { OnOk result (out.new.items ≡ out.old.items ++ front_of folder.now) }
@@ -85,28 +79,18 @@ fn put_front(out: &mut Vec<u8>, folder: &str) -> Result<(), NoMemory>
     put(out, slash_after(folder))
 }
 
-/// The slash to put after the folder, if it does not end with one.
-pub fn slash_after(folder: &str) -> &str
-    ensures { result.now ≡ slash_after (slice_get folder.now (length folder.now - 1)) }
-{
-    match folder.as_bytes().last() {
-        None | Some(b'/') => "",
-        Some(_) => "/",
-    }
-}
-
 /// Appends an `::error` command without a location for a document that no sitemap lists; nothing for other names.
-fn put_name(out: &mut Vec<u8>, part: Part, text: &str) -> Result<(), NoMemory>
-    ensures { OnOk result (out.new.items ≡ out.old.items ++ name_annotation part text.now) }
+fn put_name(out: &mut Vec<u8>, section: Section, text: &str) -> Result<(), NoMemory>
+    ensures { OnOk result (out.new.items ≡ out.old.items ++ name_annotation section text.now) }
 {
-    match part {
-        Part::Unlisted => put_unlisted(out, text),
-        Part::Broken
-        | Part::Worst
-        | Part::Redirects
-        | Part::Unreached
-        | Part::External
-        | Part::Unused => Ok(()),
+    match section {
+        Section::Unlisted => put_unlisted(out, text),
+        Section::Broken
+        | Section::Worst
+        | Section::Redirects
+        | Section::Unreached
+        | Section::External
+        | Section::Unused => Ok(()),
     }
 }
 

@@ -3,12 +3,12 @@ ghost use Rattle.std.specs.Prelude.{◌≡◌, ◌++◌, ◌∷◌, [], OnOk, If
 ghost use Rattle.json.specs.Json.{object};
 ghost use Rattle.json.specs.Token.{begin_object, end_object, key, string, number};
 ghost use Rattle.json.specs.Tree.{json_tokens, members_tokens};
-ghost use Rattle.check_report.specs.Json.{count_tokens, is_object, json_line, members_of, hint_tokens, is_leaving, is_missing, object_line, place_counts, site_counts, place_kind, row_kind, same_name_tokens, target_kind, text_or_null, optional_counts, wrong_key, wrong_word};
+ghost use Rattle.check_report.specs.Json.{count_tokens, has_hint, is_object, json_line, members_of, hint_tokens, is_leaving, is_missing, object_line, place_counts, site_counts, place_kind, row_kind, same_name_tokens, target_kind, text_or_null, optional_counts, wrong_key, wrong_word};
 ghost use Rattle.check_report.specs.Rows as line;
 ghost use Rattle.check_report.specs.Rows.{line_of};
 
 use crate::put::NoMemory;
-use crate::row::{Counts, Part, Row};
+use crate::row::{Counts, Row, Section};
 use crate::value::{BaseHint, Broken, External, FileCount, Kind, Place, Redirect, Totals};
 use json::Writer;
 
@@ -74,7 +74,7 @@ fn put_row(out: &mut Writer, row: Row<'_>) -> Result<(), NoMemory>
         Row::Worst(count) => put_worst(out, count),
         Row::Redirect(page) => put_redirect(out, page),
         Row::External(url) => put_external(out, url),
-        Row::Name(part, text) => put_name(out, part, text),
+        Row::Name(section, text) => put_name(out, section, text),
         Row::Begin(_) | Row::Finish(_) | Row::Rest(_, _) | Row::Last => Ok(()),
     }
 }
@@ -162,12 +162,13 @@ fn put_same_name(out: &mut Writer, broken: &Broken) -> Result<(), NoMemory>
     }
 }
 
-/// Writes the hint for a missing page or anchor, null if there is none. Other rows have no such member.
+/// Writes the hint for a missing page or anchor, or the mapped folder that does not have a page; null if there is none. Other rows have
+/// no such member.
 fn put_hint(out: &mut Writer, broken: &Broken) -> Result<(), NoMemory>
     ensures tokens { OnOk result (out.new.tokens ≡ out.old.tokens ++ hint_tokens broken.now) }
     ensures before { out.new.before ≡ out.old.before }
 {
-    if is_missing(broken.kind) {
+    if has_hint(broken.kind) {
         put_text_or_null(out, "hint", &broken.hint)
     } else {
         Ok(())
@@ -241,27 +242,27 @@ fn put_external(out: &mut Writer, url: &External) -> Result<(), NoMemory>
 }
 
 /// Writes the members for an unreached file, a document that no sitemap lists, or an unused entry of the ignore list.
-fn put_name(out: &mut Writer, part: Part, text: &str) -> Result<(), NoMemory>
+fn put_name(out: &mut Writer, section: Section, text: &str) -> Result<(), NoMemory>
     requires { out.old.tokens ≡ begin_object ∷ [] }
-    ensures tokens { OnOk result (out.new.tokens ++ end_object ∷ [] ≡ json_tokens (object (members_of (line.name part text.now)))) }
+    ensures tokens { OnOk result (out.new.tokens ++ end_object ∷ [] ≡ json_tokens (object (members_of (line.name section text.now)))) }
     ensures before { out.new.before ≡ out.old.before }
 {
-    put_text(out, "kind", row_kind(part))?;
+    put_text(out, "kind", row_kind(section))?;
     put_text(out, "name", text)
 }
 
 /// The value of `kind` for the rows in a section.
-fn row_kind(part: Part) -> &'static str
-    ensures { result.now ≡ row_kind part }
+fn row_kind(section: Section) -> &'static str
+    ensures { result.now ≡ row_kind section }
 {
-    match part {
-        Part::Broken => "broken",
-        Part::Worst => "worst",
-        Part::Redirects => "redirect",
-        Part::Unreached => "unreached",
-        Part::Unlisted => "unlisted",
-        Part::External => "external",
-        Part::Unused => "unused",
+    match section {
+        Section::Broken => "broken",
+        Section::Worst => "worst",
+        Section::Redirects => "redirect",
+        Section::Unreached => "unreached",
+        Section::Unlisted => "unlisted",
+        Section::External => "external",
+        Section::Unused => "unused",
     }
 }
 
@@ -281,6 +282,21 @@ fn is_missing(kind: Kind) -> bool
 {
     match kind {
         Kind::NoPage | Kind::NoAnchor => true,
+        Kind::NotUrl
+        | Kind::UnknownScheme
+        | Kind::LocalFile
+        | Kind::Leaves
+        | Kind::OutsideBase
+        | Kind::NotInMap => false,
+    }
+}
+
+/// Whether the row of a target has a hint.
+fn has_hint(kind: Kind) -> bool
+    ensures { result ≡ has_hint kind }
+{
+    match kind {
+        Kind::NoPage | Kind::NoAnchor | Kind::NotInMap => true,
         Kind::NotUrl | Kind::UnknownScheme | Kind::LocalFile | Kind::Leaves | Kind::OutsideBase =>
             false,
     }
@@ -291,7 +307,7 @@ fn is_leaving(kind: Kind) -> bool
     ensures { result ≡ is_leaving kind }
 {
     match kind {
-        Kind::Leaves | Kind::OutsideBase => true,
+        Kind::Leaves | Kind::OutsideBase | Kind::NotInMap => true,
         Kind::NoPage | Kind::NoAnchor | Kind::NotUrl | Kind::UnknownScheme | Kind::LocalFile =>
             false,
     }
@@ -346,6 +362,7 @@ fn wrong_word(kind: Kind) -> &'static str
         Kind::LocalFile => "local_file",
         Kind::Leaves => "above_folder",
         Kind::OutsideBase => "outside_base",
+        Kind::NotInMap => "not_in_map",
     }
 }
 

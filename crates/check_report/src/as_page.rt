@@ -1,6 +1,6 @@
 //! Prints a row in the HTML page.
 ghost use Rattle.std.specs.Prelude.{◌≡◌, ◌++◌, OnOk, Some, codes, option_map, string_bytes};
-ghost use Rattle.check_report.specs.Page.{broken_items, broken_row, count_items, external_row, head_part, hint_paragraph, html, item_if, item_some, counts_links, invalid_noun, leaving_noun, links_noun, other_count, other_noun, missing_noun, more_row, page_heading, page_line, page_start, page_total, link_end, link_start, place_cell, place_name, place_row, source_link, written_cell, redirect_row, script_part, section_start, site_items, style_part, tail_part, title_count, title_noun, optional_items, tools_part, total_item, verdict_start, worst_row};
+ghost use Rattle.check_report.specs.Page.{broken_items, broken_row, count_items, external_row, head_part, hint_paragraph, html, item_if, item_some, counts_links, invalid_noun, leaving_noun, links_noun, other_count, other_noun, missing_noun, page_heading, page_line, page_start, page_total, link_end, link_start, place_cell, place_name, place_row, source_link, written_cell, redirect_row, script_part, section_start, site_items, style_part, tail_part, title_count, title_noun, optional_items, tools_part, total_item, verdict_start, worst_row};
 ghost use Rattle.check_report.specs.Rows.{line_of};
 ghost use Rattle.check_report.specs.Text.{name_in};
 ghost use Rattle.check_report.specs.declared.escape.Escape.TheVariants as escape;
@@ -8,15 +8,14 @@ ghost use Rattle.check_report.specs.declared.escape.Escape.TheVariants as escape
 mod parts;
 
 use crate::as_text::{
-    is_broken, put_base_hint, put_bracketed, put_linked_from, put_name_in, put_redirect_target,
-    put_wrong_of,
+    put_base_hint, put_bracketed, put_linked_from, put_name_in, put_redirect_target, put_wrong_of,
 };
 use crate::escape::{Escape, put_escaped};
 use crate::names::{ends_with_link, put_page_name, put_target_name};
 use crate::paths::{base_url, path_uri};
 use crate::put::{NoMemory, put, put_count, put_counted};
-use crate::row::{Counts, Part, Row};
-use crate::value::{BaseHint, Broken, External, FileCount, Place, Redirect, Totals};
+use crate::row::{Counts, Row, Section};
+use crate::value::{BaseHint, Broken, External, FileCount, Place, Redirect, Totals, is_broken};
 use parts::{HEAD, SCRIPT, STYLE, TAIL, TOOLS};
 
 /// Appends the HTML of a row. The row of the totals starts the page, and the last row ends it. Locations are links to the sources at
@@ -31,16 +30,15 @@ pub fn put_page(out: &mut Vec<u8>, source_url: &str, row: Row<'_>) -> Result<(),
             counts,
         } => put_total(out, base, totals, counts),
         Row::Hint(hint) => put_hint(out, hint),
-        Row::Begin(part) => put(out, section_start(part)),
+        Row::Begin(section) => put(out, section_start(section)),
         Row::Finish(_) => put(out, "</pre>\n</section>\n"),
         Row::Broken(broken) => put_broken(out, broken),
         Row::Place(broken, place) => put_place(out, source_url, broken, place),
-        Row::More(count) => put_more(out, count as u64),
-        Row::Rest(_, _) => Ok(()),
+        Row::More(_) | Row::Rest(_, _) => Ok(()),
         Row::Worst(count) => put_worst(out, count),
         Row::Redirect(page) => put_redirect(out, page),
         Row::External(url) => put_external(out, url),
-        Row::Name(part, text) => put_name(out, part, text),
+        Row::Name(section, text) => put_name(out, section, text),
         Row::Last => put(out, tail_part()),
     }
 }
@@ -88,23 +86,23 @@ fn tail_part() -> &'static str
 }
 
 /// The start of a section, with its heading, up to its rows.
-fn section_start(part: Part) -> &'static str
-    ensures { result.now ≡ section_start part }
+fn section_start(section: Section) -> &'static str
+    ensures { result.now ≡ section_start section }
 {
-    match part {
-        Part::Broken =>
+    match section {
+        Section::Broken =>
             "<section id=broken aria-labelledby=h-broken>\n<h2 id=h-broken>Broken links</h2>\n<pre class=plain>\n",
-        Part::Worst =>
+        Section::Worst =>
             "<section id=worst aria-labelledby=h-worst>\n<h2 id=h-worst>Files with the most broken links</h2>\n<pre>\n",
-        Part::Redirects =>
-            "<section id=redirects aria-labelledby=h-redirects>\n<h2 id=h-redirects>Links to redirects</h2>\n<pre>\n",
-        Part::Unreached =>
+        Section::Redirects =>
+            "<section id=redirects aria-labelledby=h-redirects>\n<h2 id=h-redirects>Links to redirects (not errors)</h2>\n<pre>\n",
+        Section::Unreached =>
             "<section id=unreached aria-labelledby=h-unreached>\n<h2 id=h-unreached>Unreached files</h2>\n<pre>\n",
-        Part::Unlisted =>
+        Section::Unlisted =>
             "<section id=unlisted aria-labelledby=h-unlisted>\n<h2 id=h-unlisted>Documents that no sitemap lists</h2>\n<pre>\n",
-        Part::External =>
+        Section::External =>
             "<section id=external aria-labelledby=h-external>\n<h2 id=h-external>External links (not checked)</h2>\n<pre>\n",
-        Part::Unused =>
+        Section::Unused =>
             "<section id=unused aria-labelledby=h-unused>\n<h2 id=h-unused>Unused --ignore entries</h2>\n<pre>\n",
     }
 }
@@ -272,7 +270,7 @@ fn put_site_items(out: &mut Vec<u8>, totals: Totals) -> Result<(), NoMemory>
     ensures { OnOk result (out.new.items ≡ out.old.items ++ site_items totals) }
 {
     put_item(out, "<li>pages <b>", totals.pages)?;
-    put_item(out, "<li>files <b>", totals.files)?;
+    put_item(out, "<li>other files <b>", totals.files)?;
     put_item(out, "<li>links <b>", totals.links)?;
     put_item(out, "<li>redirects <b>", totals.moved)?;
     put_item(out, "<li>other URLs of pages <b>", totals.aliases)
@@ -450,14 +448,6 @@ fn put_link_cell(out: &mut Vec<u8>, broken: &Broken, link: &str) -> Result<(), N
     put_bracketed(out, "(written as ", Escape::Html, link)
 }
 
-/// Appends the line for the number of locations that are not listed.
-fn put_more(out: &mut Vec<u8>, count: u64) -> Result<(), NoMemory>
-    ensures { OnOk result (out.new.items ≡ out.old.items ++ more_row count) }
-{
-    put_counted(out, "\tand ", count)?;
-    put(out, " more\n")
-}
-
 /// Appends the line of a file: its name, a tab, and the number of broken links in it.
 fn put_worst(out: &mut Vec<u8>, count: &FileCount) -> Result<(), NoMemory>
     ensures { OnOk result (out.new.items ≡ out.old.items ++ worst_row count.now) }
@@ -489,9 +479,9 @@ fn put_external(out: &mut Vec<u8>, url: &External) -> Result<(), NoMemory>
 }
 
 /// Appends the line of an unreached file, of a document that no sitemap lists, or of an unused entry of the ignore list.
-fn put_name(out: &mut Vec<u8>, part: Part, text: &str) -> Result<(), NoMemory>
-    ensures { OnOk result (out.new.items ≡ out.old.items ++ name_in escape.Html part text.now ++ codes "\n") }
+fn put_name(out: &mut Vec<u8>, section: Section, text: &str) -> Result<(), NoMemory>
+    ensures { OnOk result (out.new.items ≡ out.old.items ++ name_in escape.Html section text.now ++ codes "\n") }
 {
-    put_name_in(out, Escape::Html, part, text)?;
+    put_name_in(out, Escape::Html, section, text)?;
     put(out, "\n")
 }

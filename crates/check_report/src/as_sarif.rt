@@ -21,10 +21,10 @@ use std::alloc::Global;
 
 /// The document up to the names of base URLs and to the results, with the tool and a rule for each kind of finding.
 pub static HEAD: &str =
-    r#"{"$schema":"https://json.schemastore.org/sarif-2.1.0.json","version":"2.1.0","runs":[{"tool":{"driver":{"name":"mercator","rules":[{"id":"missing-page","shortDescription":{"text":"A link to a page that does not exist"}},{"id":"missing-anchor","shortDescription":{"text":"A link to an anchor that its page does not have"}},{"id":"not-a-url","shortDescription":{"text":"A link that is not a URL"}},{"id":"unknown-scheme","shortDescription":{"text":"A link with an unknown scheme"}},{"id":"local-file","shortDescription":{"text":"A link to a file of the reader's computer"}},{"id":"leaves-the-folder","shortDescription":{"text":"A link that leads above the folder"}},{"id":"outside-base","shortDescription":{"text":"A link to the host of BASE that does not lead below BASE"}},{"id":"not-in-sitemap","shortDescription":{"text":"A document that no sitemap lists"}}]}},"columnKind":"unicodeCodePoints","#;
+    r#"{"$schema":"https://json.schemastore.org/sarif-2.1.0.json","version":"2.1.0","runs":[{"tool":{"driver":{"name":"mercator","rules":[{"id":"missing-page","shortDescription":{"text":"A link to a page that does not exist"}},{"id":"missing-anchor","shortDescription":{"text":"A link to an anchor that its page does not have"}},{"id":"not-a-url","shortDescription":{"text":"A link that is not a URL"}},{"id":"unknown-scheme","shortDescription":{"text":"A link with an unknown scheme"}},{"id":"local-file","shortDescription":{"text":"A link to a file of the reader's computer"}},{"id":"leaves-the-folder","shortDescription":{"text":"A link that leads above the folder"}},{"id":"outside-base","shortDescription":{"text":"A link to the host of BASE that does not lead below BASE"}},{"id":"not-in-map","shortDescription":{"text":"A link to a page that a mapped folder does not have"}},{"id":"not-in-sitemap","shortDescription":{"text":"A document that no sitemap lists"}}]}},"columnKind":"unicodeCodePoints","#;
 
-/// Prints a report as SARIF: a result for each broken link and for each document that no sitemap lists. The path of a file starts with the folder, unless the URL of the sources
-/// is given.
+/// Prints a report as SARIF: a result for each broken link and for each document that no sitemap lists. The path of a file starts with
+/// the folder, unless the URL of the sources is given.
 ///
 /// # Errors
 /// Out of memory.

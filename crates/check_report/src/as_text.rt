@@ -1,13 +1,15 @@
 //! Prints a row as text.
 ghost use Rattle.std.specs.Prelude.{◌≡◌, ◌++◌, OnOk, Some, option_map, string_bytes};
 ghost use Rattle.check_report.specs.Rows.{line_of};
-ghost use Rattle.check_report.specs.Text.{advice, base_hint, base_hint_line, begin_text, bracketed, broken_text, broken_total, external_text, hint_text, is_broken, link_text, linked_from, message, more_text, moves_text, name_in, name_text, optional_total, pages_noun, place_head, place_start, place_text, redirect_target, redirect_text, rest_text, same_name_text, site_total, target_start, target_text, text_line, title, total_text, verdict, worst_text, written_text, wrong_of, wrong_text};
+ghost use Rattle.check_report.specs.Text.{advice, base_hint, base_hint_line, begin_text, bracketed, broken_text, broken_total, external_text, hint_text, link_text, linked_from, message, more_links, more_text, moves_text, name_in, name_text, optional_total, pages_noun, place_head, place_start, place_text, redirect_target, redirect_text, rest_text, same_name_text, site_total, target_start, target_text, text_line, title, total_text, verdict, worst_text, written_text, wrong_of, wrong_text};
 
 use crate::escape::{Escape, put_escaped};
 use crate::names::{ends_with_link, put_page_name, put_target_name};
 use crate::put::{NoMemory, put, put_code, put_counted, put_counted_if, put_counted_some};
-use crate::row::{Counts, Part, Row};
-use crate::value::{BaseHint, Broken, External, FileCount, Kind, Place, Redirect, Totals};
+use crate::row::{Counts, Row, Section};
+use crate::value::{
+    BaseHint, Broken, External, FileCount, Kind, Place, Redirect, Totals, is_broken,
+};
 use shown_text::put_shown;
 
 const BOLD: &str = "\x1b[1m";
@@ -25,7 +27,7 @@ pub fn put_text(out: &mut Vec<u8>, row: Row<'_>, colour: bool) -> Result<(), NoM
     match row {
         Row::Total { totals, counts, .. } => put_total(out, totals, counts, colour),
         Row::Hint(hint) => put_hint_line(out, hint),
-        Row::Begin(part) => put_begin(out, part, colour),
+        Row::Begin(section) => put_begin(out, section, colour),
         Row::Broken(broken) => put_broken(out, broken, colour),
         Row::Place(broken, place) => put_place(out, broken, place, colour),
         Row::More(count) => put_more(out, count as u64),
@@ -33,7 +35,7 @@ pub fn put_text(out: &mut Vec<u8>, row: Row<'_>, colour: bool) -> Result<(), NoM
         Row::Worst(count) => put_worst(out, count),
         Row::Redirect(redirect) => put_redirect(out, redirect),
         Row::External(url) => put_external(out, url),
-        Row::Name(part, text) => put_name(out, part, text),
+        Row::Name(section, text) => put_name(out, section, text),
         Row::Finish(_) | Row::Last => Ok(()),
     }
 }
@@ -58,7 +60,7 @@ fn put_site_total(out: &mut Vec<u8>, totals: Totals, counts: Counts) -> Result<(
     ensures { OnOk result (out.new.items ≡ out.old.items ++ site_total totals counts) }
 {
     put_counted(out, "pages ", totals.pages)?;
-    put_counted(out, ", files ", totals.files)?;
+    put_counted(out, ", other files ", totals.files)?;
     put_counted(out, ", links ", totals.links)?;
     put_counted(out, ", redirects ", totals.moved)?;
     put_counted(out, ", aliases ", totals.aliases)?;
@@ -95,18 +97,6 @@ fn verdict(totals: Totals) -> &'static str
     if is_broken(totals) { RED } else { GREEN }
 }
 
-/// Whether something is missing or invalid, or leads out of the site. A page at which the check starts can be missing though no link
-/// leads to it.
-pub fn is_broken(totals: Totals) -> bool
-    ensures { result ≡ is_broken totals }
-{
-    totals.broken_links > 0
-        || totals.broken_urls > 0
-        || totals.broken_anchors > 0
-        || totals.invalid_links > 0
-        || totals.leaving_links > 0
-}
-
 /// Appends the line of the hint at a missing BASE.
 fn put_hint_line(out: &mut Vec<u8>, hint: &BaseHint) -> Result<(), NoMemory>
     ensures { OnOk result (out.new.items ≡ out.old.items ++ base_hint_line hint.now) }
@@ -131,27 +121,27 @@ pub fn put_base_hint(out: &mut Vec<u8>, how: Escape, hint: &BaseHint) -> Result<
 }
 
 /// Appends an empty line and the title of the section, which is bold if the report has colour.
-fn put_begin(out: &mut Vec<u8>, part: Part, colour: bool) -> Result<(), NoMemory>
-    ensures { OnOk result (out.new.items ≡ out.old.items ++ begin_text colour part) }
+fn put_begin(out: &mut Vec<u8>, section: Section, colour: bool) -> Result<(), NoMemory>
+    ensures { OnOk result (out.new.items ≡ out.old.items ++ begin_text colour section) }
 {
     put(out, "\n")?;
     put_code(out, colour, BOLD)?;
-    put(out, title(part))?;
+    put(out, title(section))?;
     put_code(out, colour, PLAIN)
 }
 
 /// The title of a section, with its LF. The section of broken links has no title.
-fn title(part: Part) -> &'static str
-    ensures { result.now ≡ title part }
+fn title(section: Section) -> &'static str
+    ensures { result.now ≡ title section }
 {
-    match part {
-        Part::Broken => "",
-        Part::Worst => "files with the most broken links:\n",
-        Part::Redirects => "links to redirects:\n",
-        Part::Unreached => "unreached files:\n",
-        Part::Unlisted => "documents that no sitemap lists:\n",
-        Part::External => "external links (not checked):\n",
-        Part::Unused => "unused --ignore entries:\n",
+    match section {
+        Section::Broken => "",
+        Section::Worst => "files with the most broken links:\n",
+        Section::Redirects => "links to redirects (not errors):\n",
+        Section::Unreached => "unreached files:\n",
+        Section::Unlisted => "documents that no sitemap lists:\n",
+        Section::External => "external links (not checked):\n",
+        Section::Unused => "unused --ignore entries:\n",
     }
 }
 
@@ -246,7 +236,8 @@ pub fn message(kind: Kind) -> &'static str
         Kind::UnknownScheme => "unknown scheme",
         Kind::LocalFile => "local file",
         Kind::Leaves => "leaves the folder",
-        Kind::OutsideBase => "outside BASE",
+        Kind::OutsideBase => "outside BASE, on the same host",
+        Kind::NotInMap => "no such page in the mapped folder",
     }
 }
 
@@ -335,7 +326,18 @@ fn put_more(out: &mut Vec<u8>, count: u64) -> Result<(), NoMemory>
     ensures { OnOk result (out.new.items ≡ out.old.items ++ more_text count) }
 {
     put_counted(out, "  and ", count)?;
-    put(out, " more\n")
+    put(out, more_links(count))
+}
+
+/// The text after this number of links that are not listed, with the option that lists them.
+fn more_links(count: u64) -> &'static str
+    ensures { result.now ≡ more_links count }
+{
+    if count == 1 {
+        " more link (--all-sources lists it)\n"
+    } else {
+        " more links (--all-sources lists them)\n"
+    }
 }
 
 /// Appends the line of a target of which not all locations are listed: what is wrong with it, and the number of the others.
@@ -344,7 +346,7 @@ fn put_rest(out: &mut Vec<u8>, broken: &Broken, count: u64, colour: bool) -> Res
 {
     put_target_start(out, broken, colour)?;
     put_counted(out, ": ", count)?;
-    put(out, " more\n")
+    put(out, more_links(count))
 }
 
 /// Appends the line of a file: the number of broken links in it, and its name.
@@ -418,22 +420,29 @@ fn put_external(out: &mut Vec<u8>, url: &External) -> Result<(), NoMemory>
 }
 
 /// Appends the line of an unreached file, of a document that no sitemap lists, or of an unused entry of the ignore list.
-fn put_name(out: &mut Vec<u8>, part: Part, text: &str) -> Result<(), NoMemory>
-    ensures { OnOk result (out.new.items ≡ out.old.items ++ name_text part text.now) }
+fn put_name(out: &mut Vec<u8>, section: Section, text: &str) -> Result<(), NoMemory>
+    ensures { OnOk result (out.new.items ≡ out.old.items ++ name_text section text.now) }
 {
     put(out, "  ")?;
-    put_name_in(out, Escape::Shown, part, text)?;
+    put_name_in(out, Escape::Shown, section, text)?;
     put(out, "\n")
 }
 
 /// Appends a name in a section: a page, or an entry of the ignore list as it is.
-pub fn put_name_in(out: &mut Vec<u8>, how: Escape, part: Part, text: &str) -> Result<(), NoMemory>
-    ensures { OnOk result (out.new.items ≡ out.old.items ++ name_in how part text.now) }
+pub fn put_name_in(
+    out: &mut Vec<u8>,
+    how: Escape,
+    section: Section,
+    text: &str,
+) -> Result<(), NoMemory>
+    ensures { OnOk result (out.new.items ≡ out.old.items ++ name_in how section text.now) }
 {
-    match part {
-        Part::Unreached | Part::Unlisted => put_page_name(out, how, text),
-        Part::Broken | Part::Worst | Part::Redirects | Part::External | Part::Unused => put_escaped(
-            out, how, text,
-        ),
+    match section {
+        Section::Unreached | Section::Unlisted => put_page_name(out, how, text),
+        Section::Broken
+        | Section::Worst
+        | Section::Redirects
+        | Section::External
+        | Section::Unused => put_escaped(out, how, text),
     }
 }

@@ -25,9 +25,9 @@ mod xml;
 
 pub use as_junit::print_junit;
 pub use as_sarif::print_sarif;
-pub use as_text::is_broken;
 pub use printing::{print_annotations, print_json, print_page, print_text};
 pub use put::NoMemory;
 pub use value::{
-    BaseHint, Broken, Contents, External, FileCount, Findings, Kind, Lists, Place, Redirect, Totals,
+    BaseHint, Broken, Contents, External, FileCount, Findings, Kind, Lists, Place, Redirect,
+    Totals, is_broken,
 };

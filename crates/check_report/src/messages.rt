@@ -20,6 +20,7 @@ pub fn rule_id(kind: Kind) -> &'static str
         Kind::LocalFile => "local-file",
         Kind::Leaves => "leaves-the-folder",
         Kind::OutsideBase => "outside-base",
+        Kind::NotInMap => "not-in-map",
     }
 }
 

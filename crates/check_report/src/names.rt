@@ -69,7 +69,7 @@ fn is_text(kind: Kind) -> bool
 {
     match kind {
         Kind::NotUrl | Kind::UnknownScheme | Kind::LocalFile => true,
-        Kind::NoPage | Kind::NoAnchor | Kind::Leaves | Kind::OutsideBase => false,
+        Kind::NoPage | Kind::NoAnchor | Kind::Leaves | Kind::OutsideBase | Kind::NotInMap => false,
     }
 }
 
@@ -91,16 +91,13 @@ fn has_host(text: &str) -> bool
     text.as_bytes().starts_with(b"http://") || text.as_bytes().starts_with(b"https://")
 }
 
-/// The text with the readable characters that its escapes encode; the text itself if that is not UTF-8.
-#[tactic(auto, using(crate::proofs::Decoding::decoded_text, crate::proofs::Decoding::decoded_other))]
+/// The text with the readable characters that its escapes encode.
+#[tactic(auto, unfolding(crate::specs::Names::decoded))]
 fn decoded(alloc: Global, text: &str) -> Result<String, NoMemory>
     ensures { IfOk result (λ all. string_bytes all ≡ decoded text.now) }
 {
     let bytes = unescaped(alloc, text.as_bytes())?;
-    match str::from_utf8(bytes.as_slice()) {
-        Ok(all) => String::from_str(alloc, all),
-        Err(_) => String::from_str(alloc, text),
-    }
+    String::from_utf8_lossy(alloc, bytes.as_slice())
 }
 
 /// The bytes of the text, with readable characters in place of their escapes.

@@ -123,7 +123,7 @@ fn named_cmp(a: &Named<'_>, b: &Named<'_>) -> Ordering
         .then(names)
 }
 
-/// The place of a kind: missing pages, missing anchors, invalid links, links that lead out of the site.
+/// The rank of a kind: missing pages, missing anchors, invalid links, links that lead out of the site.
 fn kind_rank(kind: Kind) -> u8
     ensures { result ≡ kind_rank kind }
 {
@@ -131,7 +131,7 @@ fn kind_rank(kind: Kind) -> u8
         Kind::NoPage => 0,
         Kind::NoAnchor => 1,
         Kind::NotUrl | Kind::UnknownScheme | Kind::LocalFile => 2,
-        Kind::Leaves | Kind::OutsideBase => 3,
+        Kind::Leaves | Kind::OutsideBase | Kind::NotInMap => 3,
     }
 }
 

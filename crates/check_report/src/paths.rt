@@ -1,8 +1,7 @@
-//! The paths of files in JUnit XML and SARIF, and links to their sources.
-ghost use Rattle.std.specs.Prelude.{◌≡◌, ◌++◌, IfOk, string_bytes};
-ghost use Rattle.check_report.specs.Paths.{base_url, front_path, path_in, path_uri};
+//! The paths of files in annotations, JUnit XML and SARIF, and links to their sources.
+ghost use Rattle.std.specs.Prelude.{◌≡◌, ◌-◌, ◌++◌, IfOk, length, slice_get, string_bytes};
+ghost use Rattle.check_report.specs.Paths.{base_url, front_path, path_in, path_uri, slash_after, without_here};
 
-use crate::as_annotations::{slash_after, without_here};
 use crate::put::NoMemory;
 use percent_encoding::{AsciiSet, NON_ALPHANUMERIC, ascii_set, percent_encode};
 use std::alloc::Global;
@@ -16,6 +15,23 @@ pub const PATH: AsciiSet = ascii_set!(
         .remove(b'~')
         .remove(b'/')
 );
+
+/// The folder without a leading `./`.
+pub fn without_here(folder: &str) -> &str
+    ensures { result.now ≡ without_here folder.now }
+{
+    folder.strip_prefix("./").unwrap_or(folder)
+}
+
+/// The slash to put after the folder, if it does not end with one.
+pub fn slash_after(folder: &str) -> &str
+    ensures { result.now ≡ slash_after (slice_get folder.now (length folder.now - 1)) }
+{
+    match folder.as_bytes().last() {
+        None | Some(b'/') => "",
+        Some(_) => "/",
+    }
+}
 
 /// The path of a file in a folder.
 pub fn path_in(alloc: Global, folder: &str, file: &str) -> Result<String, NoMemory>

@@ -3,7 +3,7 @@ ghost use Rattle.std.specs.Prelude.{◌≡◌, ℕ, [], ◌∷◌, IfOk, flat_ma
 ghost use Rattle.check_report.specs.Printing.{Adds, printed, printed_annotations, printed_json, printed_page, printed_text, text_order};
 ghost use Rattle.check_report.specs.Order.{link_of, ordered_places, shown_places};
 ghost use Rattle.check_report.specs.Rows as line;
-ghost use Rattle.check_report.specs.Rows.{line_of, bare_lines, broken_lines, broken_part, counts_of, edge, external_of, external_part, file_lines, hint_lines, if_listed, left_out, lines_in, link_line, listed, name_part, place_lines, redirect_part, rest_lines, target_lines, worst_part};
+ghost use Rattle.check_report.specs.Rows.{line_of, bare_lines, broken_lines, broken_section, counts_of, edge, external_of, external_section, file_lines, hint_lines, if_listed, left_out, lines_in, link_line, listed, name_section, place_lines, redirect_section, rest_lines, target_lines, worst_section};
 
 use crate::as_annotations::put_annotation;
 use crate::as_json::with_json;
@@ -14,7 +14,7 @@ use crate::ordered::{
     Link, PLACES_LIMIT, links_by_file, ordered_places, ordered_targets, shown_places,
 };
 use crate::put::NoMemory;
-use crate::row::{Counts, Part, Row};
+use crate::row::{Counts, Row, Section};
 use crate::value::{
     BaseHint, Broken, Contents, External, FileCount, Findings, Lists, Place, Redirect,
 };
@@ -136,10 +136,10 @@ fn print(
     let broken = with_broken(hinted, form, shown.broken, view)?;
     let worst = with_worst(broken, form, shown.worst)?;
     let redirects = with_redirects(worst, form, shown.redirects)?;
-    let unreached = with_names(redirects, form, Part::Unreached, shown.unreached)?;
-    let unlisted = with_names(unreached, form, Part::Unlisted, shown.unlisted)?;
+    let unreached = with_names(redirects, form, Section::Unreached, shown.unreached)?;
+    let unlisted = with_names(unreached, form, Section::Unlisted, shown.unlisted)?;
     let external = with_external(unlisted, form, external_of(contents))?;
-    let unused = with_names(external, form, Part::Unused, shown.unused_ignores)?;
+    let unused = with_names(external, form, Section::Unused, shown.unused_ignores)?;
     let all = with(unused, form, Row::Last)?;
     Ok(all)
 }
@@ -254,19 +254,19 @@ fn with_hint(out: Vec<u8>, form: Form<'_>, hint: Option<&BaseHint>) -> Result<Ve
 }
 
 /// Appends the section of the broken links, if there are any.
-#[tactic(auto, using(crate::proofs::Adding::part_more))]
+#[tactic(auto, using(crate::proofs::Adding::section_more))]
 fn with_broken(
     out: Vec<u8>,
     form: Form<'_>,
     targets: &[Broken],
     view: View,
 ) -> Result<Vec<u8>, NoMemory>
-    ensures { IfOk result (λ more. Adds form.entry out.items more.items (broken_part view targets.now)) }
+    ensures { IfOk result (λ more. Adds form.entry out.items more.items (broken_section view targets.now)) }
 {
     let rows = targets.len();
-    let begun = with_edge(out, form, Row::Begin(Part::Broken), rows)?;
+    let begun = with_edge(out, form, Row::Begin(Section::Broken), rows)?;
     let listed = with_ordered(begun, form, targets, view)?;
-    with_edge(listed, form, Row::Finish(Part::Broken), rows)
+    with_edge(listed, form, Row::Finish(Section::Broken), rows)
 }
 
 /// Appends the rows of the broken links, by file or by target.
@@ -458,14 +458,14 @@ fn with_rest(out: Vec<u8>, form: Form<'_>, target: &Broken, all: bool) -> Result
 // ---- other sections
 
 /// Appends the section of the files with the most broken links, if there are any.
-#[tactic(auto, using(crate::proofs::Adding::part_more))]
+#[tactic(auto, using(crate::proofs::Adding::section_more))]
 fn with_worst(out: Vec<u8>, form: Form<'_>, counts: &[FileCount]) -> Result<Vec<u8>, NoMemory>
-    ensures { IfOk result (λ more. Adds form.entry out.items more.items (worst_part counts.now)) }
+    ensures { IfOk result (λ more. Adds form.entry out.items more.items (worst_section counts.now)) }
 {
     let rows = counts.len();
-    let begun = with_edge(out, form, Row::Begin(Part::Worst), rows)?;
+    let begun = with_edge(out, form, Row::Begin(Section::Worst), rows)?;
     let listed = with_counts(begun, form, counts)?;
-    with_edge(listed, form, Row::Finish(Part::Worst), rows)
+    with_edge(listed, form, Row::Finish(Section::Worst), rows)
 }
 
 /// Appends a row for each of these files.
@@ -480,14 +480,14 @@ fn with_counts(mut out: Vec<u8>, form: Form<'_>, counts: &[FileCount]) -> Result
 }
 
 /// Appends the section of the redirects that pages link to, if there are any.
-#[tactic(auto, using(crate::proofs::Adding::part_more))]
+#[tactic(auto, using(crate::proofs::Adding::section_more))]
 fn with_redirects(out: Vec<u8>, form: Form<'_>, pages: &[Redirect]) -> Result<Vec<u8>, NoMemory>
-    ensures { IfOk result (λ more. Adds form.entry out.items more.items (redirect_part pages.now)) }
+    ensures { IfOk result (λ more. Adds form.entry out.items more.items (redirect_section pages.now)) }
 {
     let rows = pages.len();
-    let begun = with_edge(out, form, Row::Begin(Part::Redirects), rows)?;
+    let begun = with_edge(out, form, Row::Begin(Section::Redirects), rows)?;
     let listed = with_moved(begun, form, pages)?;
-    with_edge(listed, form, Row::Finish(Part::Redirects), rows)
+    with_edge(listed, form, Row::Finish(Section::Redirects), rows)
 }
 
 /// Appends a row for each of these redirects.
@@ -502,14 +502,14 @@ fn with_moved(mut out: Vec<u8>, form: Form<'_>, pages: &[Redirect]) -> Result<Ve
 }
 
 /// Appends the section of the external URLs, if there are any.
-#[tactic(auto, using(crate::proofs::Adding::part_more))]
+#[tactic(auto, using(crate::proofs::Adding::section_more))]
 fn with_external(out: Vec<u8>, form: Form<'_>, urls: &[External]) -> Result<Vec<u8>, NoMemory>
-    ensures { IfOk result (λ more. Adds form.entry out.items more.items (external_part urls.now)) }
+    ensures { IfOk result (λ more. Adds form.entry out.items more.items (external_section urls.now)) }
 {
     let rows = urls.len();
-    let begun = with_edge(out, form, Row::Begin(Part::External), rows)?;
+    let begun = with_edge(out, form, Row::Begin(Section::External), rows)?;
     let listed = with_urls(begun, form, urls)?;
-    with_edge(listed, form, Row::Finish(Part::External), rows)
+    with_edge(listed, form, Row::Finish(Section::External), rows)
 }
 
 /// Appends a row for each of these external URLs.
@@ -525,19 +525,19 @@ fn with_urls(mut out: Vec<u8>, form: Form<'_>, urls: &[External]) -> Result<Vec<
 
 /// Appends a section of names, if there are any: the unreached files, the documents that no sitemap lists, or the unused entries of
 /// the ignore list.
-#[tactic(auto, using(crate::proofs::Adding::part_more))]
+#[tactic(auto, using(crate::proofs::Adding::section_more))]
 fn with_names(
     out: Vec<u8>,
     form: Form<'_>,
-    of_part: Part,
+    section: Section,
     texts: &[String],
 ) -> Result<Vec<u8>, NoMemory>
-    ensures { IfOk result (λ more. Adds form.entry out.items more.items (name_part of_part texts.now)) }
+    ensures { IfOk result (λ more. Adds form.entry out.items more.items (name_section section texts.now)) }
 {
     let rows = texts.len();
-    let begun = with_edge(out, form, Row::Begin(of_part), rows)?;
-    let listed = with_texts(begun, form, of_part, texts)?;
-    with_edge(listed, form, Row::Finish(of_part), rows)
+    let begun = with_edge(out, form, Row::Begin(section), rows)?;
+    let listed = with_texts(begun, form, section, texts)?;
+    with_edge(listed, form, Row::Finish(section), rows)
 }
 
 /// Appends a row for each of these names.
@@ -545,13 +545,13 @@ fn with_names(
 fn with_texts(
     mut out: Vec<u8>,
     form: Form<'_>,
-    of_part: Part,
+    section: Section,
     texts: &[String],
 ) -> Result<Vec<u8>, NoMemory>
-    ensures { IfOk result (λ more. Adds form.entry out.items more.items (map (λ text. line.name of_part (string_bytes text)) texts.now)) }
+    ensures { IfOk result (λ more. Adds form.entry out.items more.items (map (λ text. line.name section (string_bytes text)) texts.now)) }
 {
     for text in texts {
-        out = with(out, form, Row::Name(of_part, text.as_str()))?;
+        out = with(out, form, Row::Name(section, text.as_str()))?;
     }
     Ok(out)
 }

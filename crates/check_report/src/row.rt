@@ -4,7 +4,7 @@ use crate::value::{BaseHint, Broken, External, FileCount, Place, Redirect, Total
 
 /// A section of a report. It is printed if it has rows.
 #[derive(Clone, Copy)]
-pub enum Part {
+pub enum Section {
     Broken,
     Worst,
     Redirects,
@@ -32,8 +32,8 @@ pub enum Row<'r> {
         counts: Counts,
     },
     Hint(&'r BaseHint),
-    Begin(Part),
-    Finish(Part),
+    Begin(Section),
+    Finish(Section),
     Broken(&'r Broken),
     /// A broken link: its target and its location.
     Place(&'r Broken, &'r Place),
@@ -45,6 +45,6 @@ pub enum Row<'r> {
     Redirect(&'r Redirect),
     External(&'r External),
     /// A name or an entry in a section.
-    Name(Part, &'r str),
+    Name(Section, &'r str),
     Last,
 }

@@ -1,4 +1,6 @@
 //! The results of a check.
+ghost use Rattle.std.specs.Prelude.{◌≡◌};
+ghost use Rattle.check_report.specs.Text.{is_broken};
 
 /// The results of a check. Each list is printed in the given order, under its own heading; an empty list is not printed.
 #[derive(Clone, Copy)]
@@ -67,10 +69,22 @@ pub struct Totals {
     /// The invalid links: those that are no URL, have an unknown scheme or name a local file. A target without locations counts as one.
     pub invalid_links: u64,
     /// The links that lead out of the site: above the folder, or to the host of BASE and not below BASE. A target without locations
-    /// counts as one.
+    /// counts as one. A link to a page that a mapped folder has is not among them.
     pub leaving_links: u64,
     /// The redirects that pages link to.
     pub moved: u64,
+}
+
+/// Whether something is missing or invalid, or leads out of the site. A page at which the check starts can be missing though no link
+/// leads to it.
+pub fn is_broken(totals: Totals) -> bool
+    ensures { result ≡ is_broken totals }
+{
+    totals.broken_links > 0
+        || totals.broken_urls > 0
+        || totals.broken_anchors > 0
+        || totals.invalid_links > 0
+        || totals.leaving_links > 0
 }
 
 /// What is wrong with a link.
@@ -90,6 +104,8 @@ pub enum Kind {
     Leaves,
     /// The link leads to the host of BASE, and not below BASE.
     OutsideBase,
+    /// The link leads to a page of a folder that the caller mapped, and that folder does not have it.
+    NotInMap,
 }
 
 /// The target of broken links: a missing page or anchor, the text of an invalid link, or a URL that is not below the top.
@@ -104,7 +120,8 @@ pub struct Broken {
     pub places: Vec<Place>,
     /// The page of the site with the same file name, if the page is missing and there is exactly one.
     pub same_name: Option<String>,
-    /// A file that another rule of the host would find, and that rule, such as `about.html exists: --fallback html`.
+    /// A file that another rule of the host would find, and that rule, such as `about.html exists: --fallback html`. For a page that a
+    /// mapped folder does not have, that folder.
     pub hint: Option<String>,
 }
 

@@ -1,13 +1,14 @@
 //! Everything that a run left.
-ghost use Rattle.std.specs.Prelude.{◌≡◌, ◌∷◌, ◌++◌, [], IfErr, IfOk};
+ghost use Rattle.std.specs.Prelude.{◌≡◌, ◌∷◌, ◌++◌, [], IfErr, IfOk, OnOk};
 ghost use Rattle.crawl_frontier.specs.Accounts.{Accounts};
 ghost use Rattle.crawl_run.specs.Crawls.{ComesIn, CountedBelow, IsUncertified};
 ghost use Rattle.crawl_run.specs.Losses.{losses_with};
 ghost use Rattle.crawl_run.specs.LosslessRuns.{all_closed, all_found};
 ghost use Rattle.crawl_run.specs.declared.settings.Mode.{Mode};
+ghost use Rattle.link_offers.specs.Losses.{both_losses};
 
 use crate::error::CrawlError;
-use crawl_frontier::{Account, Frontier, Name, Sender};
+use crawl_frontier::{Account, ClosedWorker, Frontier, Name, Sender};
 use crawl_pages::PageResult;
 use crawl_workers::WorkerEnd;
 use link_offers::Losses;
@@ -42,15 +43,7 @@ pub fn output_of<K: Name>(
     let mut results = Vec::new(alloc);
     let mut losses = refused;
     for end in ends {
-        let WorkerEnd {
-            closed: worker,
-            results: found,
-            lost: _,
-            losses: lost,
-        } = end;
-        closed.push(worker)?;
-        results = with_found(results, found)?;
-        losses = losses.plus(lost);
+        push_end(end, &mut closed, &mut results, &mut losses)?;
     }
     let mut senders = Vec::new(alloc);
     senders.push(sender)?;
@@ -62,18 +55,37 @@ pub fn output_of<K: Name>(
     })
 }
 
+/// Adds what a worker left to what the workers before it left.
+fn push_end<K: Name>(
+    end: WorkerEnd<K>,
+    closed: &mut Vec<ClosedWorker<K>>,
+    results: &mut Vec<PageResult>,
+    losses: &mut Losses,
+) -> Result<(), AllocError>
+    ensures closed { OnOk result (closed.new.items ≡ closed.old.items ++ end.closed ∷ []) }
+    ensures found { OnOk result (results.new.items ≡ results.old.items ++ end.results.items) }
+    ensures losses { OnOk result (losses.new ≡ both_losses losses.old end.losses) }
+{
+    let WorkerEnd {
+        closed: worker,
+        results: found,
+        lost: _,
+        losses: lost,
+    } = end;
+    *losses = losses.plus(lost);
+    closed.push(worker)?;
+    push_found(found, results)
+}
+
 /// Appends a worker's results to those so far. The first worker's list is kept as it is, without a copy.
-fn with_found(
-    mut results: Vec<PageResult>,
-    mut found: Vec<PageResult>,
-) -> Result<Vec<PageResult>, AllocError>
-    ensures { IfOk result (λ all. all.items ≡ results.items ++ found.items) }
+fn push_found(mut found: Vec<PageResult>, results: &mut Vec<PageResult>) -> Result<(), AllocError>
+    ensures { OnOk result (results.new.items ≡ results.old.items ++ found.items) }
 {
     if results.is_empty() {
-        return Ok(found);
+        *results = found;
+        return Ok(());
     }
-    results.append(&mut found)?;
-    Ok(results)
+    results.append(&mut found)
 }
 
 /// Returns the number of entries of each queue.

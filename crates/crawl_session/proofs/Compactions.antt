@@ -5,9 +5,8 @@ use Rattle.std.proofs.lemmas.Bool.{cond_both}
 use Rattle.crawl_core.specs.declared.event.Event.TheVariants as event
 use Rattle.crawl_core.specs.declared.reply.Reply.TheVariants as told
 use Rattle.crawl_core.specs.declared.reply.Refusal.TheVariants as why
-use Rattle.crawl_core.specs.Limits.{queue_limit}
 use Rattle.crawl_session.specs.Exchanges as exchanges
-use Rattle.crawl_session.specs.Seen.{add_seen, seen_lines, seen_with}
+use Rattle.crawl_session.specs.Seen.{add_seen, none_seen, seen_lines, seen_with}
 use Rattle.crawl_session.specs.Steps as machine
 use Rattle.crawl_session.proofs.Choices.{either_way}
 use Rattle.crawl_session.proofs.Assigned.{IsAssigned, as_asked, assigns_for, assigned_below}
@@ -322,22 +321,22 @@ needed_state settings had state words seen (line ∷ more) some rest known =
 
 -- the state after the lines that are needed: a new session has counted nothing
 needed_after : (settings : Settings) (max : ℕ) (lines : List (List ℕ)) → 1 ≤ settings.workers
-    → Same (replicate settings.workers 0) (state_after settings (start settings.workers max) lines) (state_after settings (start settings.workers max) (needed settings had_none (start settings.workers max) lines))
-needed_after settings max lines some = needed_state settings had_none (start settings.workers max) [] (replicate settings.workers 0) lines some (starts_at_rest settings.workers max) (λ e. absurd (true≢false (sym e)))
+    → Same (none_seen settings.workers) (state_after settings (start settings.workers max) lines) (state_after settings (start settings.workers max) (needed settings had_none (start settings.workers max) lines))
+needed_after settings max lines some = needed_state settings had_none (start settings.workers max) [] (none_seen settings.workers) lines some (starts_at_rest settings.workers max) (λ e. absurd (true≢false (sym e)))
 
 -- the numbers of a session fit in lines
-pub numbers_fit : (settings : Settings) (max : ℕ) (lines : List (List ℕ)) → settings.workers ≤ queue_limit → AllFit 0 (state_after settings (start settings.workers max) lines).seen
-numbers_fit settings max lines few =
+pub numbers_fit : (settings : Settings) (max : ℕ) (lines : List (List ℕ)) → AllFit 0 (state_after settings (start settings.workers max) lines).seen
+numbers_fit settings max lines =
     let long = long_after settings max lines in
     record {
-      few = omega (arith, few, long);
+      few = omega (arith, long);
       small = λ k inside. small_after settings max lines k (subst (λ n. k < n) long inside);
     }
 
 -- the state after all lines of the compacted log
-compacted_after : (settings : Settings) (max : ℕ) (lines : List (List ℕ)) → 1 ≤ settings.workers → settings.workers ≤ queue_limit
+compacted_after : (settings : Settings) (max : ℕ) (lines : List (List ℕ)) → 1 ≤ settings.workers
     → SameButWords (state_after settings (start settings.workers max) lines) (state_after settings (start settings.workers max) (compacted settings (start settings.workers max) lines))
-compacted_after settings max lines some few =
+compacted_after settings max lines some =
     let begun = start settings.workers max in
     let full = state_after settings begun lines in
     let front = needed settings had_none begun lines in
@@ -348,20 +347,20 @@ compacted_after settings max lines some few =
       state_after-append settings begun front back
           ∙ ap (λ (s : Frontier). state_after settings s back) same.1
           ∙ ap (λ n. state_after settings (with_seen worded (replicate n 0)) back) (sym (long_after settings max lines))
-          ∙ restored settings worded [] full.seen (numbers_fit settings max lines few),
+          ∙ restored settings worded [] full.seen (numbers_fit settings max lines),
     )
 
-pub compacted_stands : (settings : Settings) (max : ℕ) (bytes : List ℕ) → settings.workers ≤ queue_limit → lines (log_text (compacted settings (start settings.workers max) (lines bytes))) ≡ compacted settings (start settings.workers max) (lines bytes)
-compacted_stands settings max bytes few =
+pub compacted_stands : (settings : Settings) (max : ℕ) (bytes : List ℕ) → lines (log_text (compacted settings (start settings.workers max) (lines bytes))) ≡ compacted settings (start settings.workers max) (lines bytes)
+compacted_stands settings max bytes =
     let begun = start settings.workers max in
     let seen = (state_after settings begun (lines bytes)).seen in
-    needed_stands settings had_none begun bytes (seen_lines 0 seen) (lines_whole 0 seen (numbers_fit settings max (lines bytes) few))
+    needed_stands settings had_none begun bytes (seen_lines 0 seen) (lines_whole 0 seen (numbers_fit settings max (lines bytes)))
 
-pub compacted_answers : (settings : Settings) (max : ℕ) (bytes : List ℕ) (more : List (List ℕ)) → 1 ≤ settings.workers → settings.workers ≤ queue_limit
+pub compacted_answers : (settings : Settings) (max : ℕ) (bytes : List ℕ) (more : List (List ℕ)) → 1 ≤ settings.workers
     → answers settings (state_after settings (start settings.workers max) (lines (log_text (compacted settings (start settings.workers max) (lines bytes))))) more ≡ answers settings (state_after settings (start settings.workers max) (lines bytes)) more
-compacted_answers settings max bytes more some few =
+compacted_answers settings max bytes more some =
     let begun = start settings.workers max in
-    let same = compacted_after settings max (lines bytes) some few in
-    ap (λ ls. answers settings (state_after settings begun ls) more) (compacted_stands settings max bytes few)
+    let same = compacted_after settings max (lines bytes) some in
+    ap (λ ls. answers settings (state_after settings begun ls) more) (compacted_stands settings max bytes)
     ∙ ap (λ (s : Frontier). answers settings s more) same.1
     ∙ words_forgotten settings (state_after settings begun (lines bytes)) same.0 more

@@ -1,6 +1,7 @@
 -- The numbers of a queue, derived from the answers before.
-use Rattle.crawl_session.proofs.Prelude.{◌≡◌, ℕ, ◌+◌, ◌-◌, ◌^◌, ◌<◌, true, false, is_some, List, [], ◌∷◌, length, map, take, drop, Option, Some, None, sym, ap, subst, ◌∙◌, arith, slice_get_within, one_if, progress, accepted_in, Subqueue, waiting, state_of_history, start_sound, Deferred, IsTold, accepted_of, asked, joined_from, joined_of, put_back_of, seen_of, taken_of, deferrals_at, start, history_of, state_after, Settings}
+use Rattle.crawl_session.proofs.Prelude.{◌≡◌, ℕ, ◌+◌, ◌-◌, ◌^◌, ◌<◌, true, false, is_some, List, [], ◌∷◌, length, map, take, drop, slice_get, Option, Some, None, option_and_then, option_map, refl, sym, ap, subst, ◌∙◌, arith, get_or_from_slice_get, slice_get_within, one_if, progress, accepted_in, Subqueue, waiting, state_of_history, start_sound, Deferred, IsTold, accepted_of, asked, joined_from, joined_of, put_back_of, seen_of, taken_of, Frontier, deferrals_at, start, history_of, state_after, Settings}
 use Rattle.std.proofs.lemmas.List.{length-append, length-drop, length-map, take-append-drop}
+use Rattle.std.proofs.lemmas.Option.{none-some, same_Some}
 use Rattle.std.specs.Prelude.{min}
 use Rattle.crawl_session.specs.declared.stats.Stats.{Stats}
 use Rattle.crawl_session.specs.Stats.{stats_at, stats_of}
@@ -12,7 +13,7 @@ use Rattle.crawl_session.proofs.Queues.{busy_of, queue_at}
 use Rattle.crawl_session.proofs.Returns.{busy_is}
 use Rattle.crawl_session.proofs.Runs.{session_runs}
 use Rattle.crawl_session.proofs.Sees.{sees_accepted}
-use Rattle.crawl_session.proofs.SeenCounts.{counted_from_none, seen_at}
+use Rattle.crawl_session.proofs.SeenCounts.{counted_from_none, long_after}
 
 -- the length of the line is the number of URLs that are still to be taken plus the number that were put back
 pub length_in_line : (taken : ℕ) (urls : List (List ℕ)) (ds : List Deferred) → length (in_line taken urls ds) ≡ length urls + length ds
@@ -29,16 +30,15 @@ busy_flags : (found : Subqueue) (fetched : Option Deferred) → (is_some fetched
 busy_flags found fetched apart some = grind arith
 
 -- the number of `seen` is that of the answers
-seen_told : (settings : Settings) (max : ℕ) (lines : List (List ℕ)) (queue : ℕ) (found : Subqueue) → queue_at (state_after settings (start settings.workers max) lines) queue ≡ Some found → seen_at (state_after settings (start settings.workers max) lines) queue ≡ min (seen_of queue (asked settings (start settings.workers max) lines)) (2 ^ 64 - 1)
-seen_told settings max lines queue found at =
-    let begun = start settings.workers max in
-    let state = state_after settings begun lines in
-    let shape = (state_of_history settings.workers max (history_of settings begun lines) state.machine (session_runs settings begun lines)).as_many in
-    counted_from_none settings max lines queue (subst (λ n. queue < n) shape (slice_get_within state.machine.subqueues queue found at))
+seen_told : (settings : Settings) (max : ℕ) (lines : List (List ℕ)) (queue seen : ℕ) → slice_get (state_after settings (start settings.workers max) lines).seen queue ≡ Some seen → seen ≡ min (seen_of queue (asked settings (start settings.workers max) lines)) (2 ^ 64 - 1)
+seen_told settings max lines queue seen has =
+    let state = state_after settings (start settings.workers max) lines in
+    let inside = subst (λ n. queue < n) (long_after settings max lines) (slice_get_within state.seen queue seen has) in
+    sym (get_or_from_slice_get state.seen queue seen 0 has) ∙ counted_from_none settings max lines queue inside
 
-queue_told : (settings : Settings) (max : ℕ) (lines : List (List ℕ)) (queue : ℕ) (found : Subqueue) → queue_at (state_after settings (start settings.workers max) lines) queue ≡ Some found
-    → IsTold queue (asked settings (start settings.workers max) lines) (stats_of (progress found) (length (deferrals_at (state_after settings (start settings.workers max) lines) queue).waiting) (is_some (deferrals_at (state_after settings (start settings.workers max) lines) queue).fetched) (seen_at (state_after settings (start settings.workers max) lines) queue))
-queue_told settings max lines queue found at =
+queue_told : (settings : Settings) (max : ℕ) (lines : List (List ℕ)) (queue : ℕ) (found : Subqueue) (seen : ℕ) → queue_at (state_after settings (start settings.workers max) lines) queue ≡ Some found → slice_get (state_after settings (start settings.workers max) lines).seen queue ≡ Some seen
+    → IsTold queue (asked settings (start settings.workers max) lines) (stats_of (progress found) (length (deferrals_at (state_after settings (start settings.workers max) lines) queue).waiting) (is_some (deferrals_at (state_after settings (start settings.workers max) lines) queue).fetched) seen)
+queue_told settings max lines queue found seen at has =
     let begun = start settings.workers max in
     let all = asked settings begun lines in
     let state = state_after settings begun lines in
@@ -71,8 +71,18 @@ queue_told settings max lines queue found at =
       done = omega (arith, free, line, mapped, dropped, joined, joins, takes, accepted, flags);
       in_progress = flags ∙ ap (λ (o : Option (List ℕ)). one_if (is_some o)) (sym told);
       waiting = omega (arith, free, line, mapped, dropped, joined, joins, takes, accepted, flags);
-      seen = seen_told settings max lines queue found at;
+      seen = seen_told settings max lines queue seen has;
     }
 
 pub stats_told : (settings : Settings) (max : ℕ) (lines : List (List ℕ)) (queue : ℕ) (stats : Stats) → stats_at (state_after settings (start settings.workers max) lines) queue ≡ Some stats → IsTold queue (asked settings (start settings.workers max) lines) stats
-stats_told settings max lines queue stats is = grind (arith, queue_at, queue_told)
+stats_told settings max lines queue stats is = by_queue (queue_at state queue) refl (slice_get state.seen queue) refl is
+  where
+    state : Frontier
+    state = state_after settings (start settings.workers max) lines
+
+    by_queue : (o : Option Subqueue) → queue_at state queue ≡ o → (m : Option ℕ) → slice_get state.seen queue ≡ m
+        → option_and_then (λ p. option_map (stats_of p (length (deferrals_at state queue).waiting) (is_some (deferrals_at state queue).fetched)) m) (option_map progress o) ≡ Some stats
+        → IsTold queue (asked settings (start settings.workers max) lines) stats
+    by_queue (Some found) at (Some seen) has is = subst (IsTold queue (asked settings (start settings.workers max) lines)) (same_Some _ _ is) (queue_told settings max lines queue found seen at has)
+    by_queue (Some found) at None has is = absurd (none-some _ is)
+    by_queue None at m has is = absurd (none-some _ is)

@@ -1,5 +1,6 @@
 -- If the URLs of a queue are taken one after another, they are all those that wait in it, in order.
-use Rattle.crawl_session.proofs.Prelude.{◌≡◌, ℕ, zero, suc, ◌+◌, ◌-◌, ◌≤◌, ◌<◌, Bool, true, false, ◌||◌, if◌then◌else◌, is_some, nat_eq, List, [], ◌++◌, length, map, Option, Some, None, Ok, refl, sym, ap, ◌∙◌, arith, append_assoc, append-nil, true≢false, option_map, option_or, option_to_list, get_or, get_or-eq_default, common_steps, length-append, length-drop, length-map, map-append, nil_from_length, progress, Message, Turn, refused, take_from, take_oldest, Subqueue, oldest, cond_both, eqb_same, Sound, Answer, Deferred, Row, Request, Next, Done, finishes, takes, Outcome, after, by_machine, ends, exchange, is_due, is_empty, retaking, stats_answer, taking, taking_next, Frontier, deferrals_at, Listed, pending_at, taken_each, url_row, waiting_at, waiting_in, stats_of}
+use Rattle.crawl_session.proofs.Prelude.{◌≡◌, ℕ, zero, suc, ◌+◌, ◌-◌, ◌≤◌, ◌<◌, Bool, true, false, ◌||◌, if◌then◌else◌, is_some, nat_eq, List, [], ◌++◌, length, map, Option, Some, None, Ok, refl, sym, ap, ◌∙◌, arith, append_assoc, append-nil, true≢false, option_map, option_or, option_to_list, get_or-eq_default, common_steps, length-append, length-drop, length-map, map-append, nil_from_length, progress, Message, Turn, refused, take_from, take_oldest, Subqueue, oldest, cond_both, eqb_same, Sound, Answer, Deferred, Row, Request, Next, Done, finishes, takes, Outcome, after, by_machine, ends, exchange, is_due, is_empty, retaking, taking, taking_next, Frontier, deferrals_at, Listed, pending_at, taken_each, url_row, waiting_at, waiting_of}
+use Rattle.std.specs.Prelude.{unwrap_or}
 use Rattle.crawl_core.specs.declared.event.Event.TheVariants as event
 use Rattle.crawl_core.specs.declared.reply.Refusal.TheVariants as why
 use Rattle.crawl_session.specs.declared.list.Kind.TheVariants.{Pending}
@@ -34,11 +35,11 @@ no_line state named settled none = grind (arith, past, get_or-eq_default, line_a
 line_length : (state : Frontier) (named : ℕ) (found : Subqueue) → queue_at state named ≡ Some found → length (line_of state named) ≡ (length found.accepted - found.taken) + length (deferrals_at state named).waiting
 line_length state named found at = grind (arith, line_of, url_of, line_at, length_in_line, length-map, length-drop)
 
--- `stats` counts them
+-- how many there are
 waits : (state : Frontier) (named : ℕ) → Settled state → waiting_at state named ≡ length (line_of state named)
 waits state named settled = by_queue (queue_at state named) refl
   where
-    by_queue : (o : Option Subqueue) → queue_at state named ≡ o → waiting_in (stats_answer (option_map (λ p. stats_of p (length (deferrals_at state named).waiting) (is_some (deferrals_at state named).fetched) (get_or state.seen named 0)) (option_map progress o))) ≡ length (line_of state named)
+    by_queue : (o : Option Subqueue) → queue_at state named ≡ o → unwrap_or (option_map (λ p. waiting_of p (length (deferrals_at state named).waiting)) (option_map progress o)) 0 ≡ length (line_of state named)
     by_queue None none = ap length (sym (no_line state named settled none))
     by_queue (Some found) at = sym (line_length state named found at)
 

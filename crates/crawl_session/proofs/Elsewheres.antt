@@ -1,7 +1,6 @@
 -- A compacted log gives the same `elsewhere` answers as the whole log, each URL once.
-use Rattle.crawl_session.proofs.Prelude.{◌≡◌, Bool, true, false, not, ◌||◌, if◌then◌else◌, ℕ, List, [], ◌∷◌, ◌++◌, Option, Some, None, Result, Ok, Err, refl, sym, ap, ◌∙◌, ◌≤◌, arith, append-nil, cons_option, filter_map, filter_map-append, lines, has_text, Answer, Unasked, Request, RequestError, asked, elsewhere_of, first_of_each, told_elsewhere, Had, compacted, had_none, having, is_needed, log_text, needed, says_closed, with_told, Outcome, exchange, Frontier, start, request_for, answered, line_exchange, state_after, Settings}
+use Rattle.crawl_session.proofs.Prelude.{◌≡◌, Bool, true, false, not, ◌||◌, if◌then◌else◌, ℕ, List, [], ◌∷◌, ◌++◌, Option, Some, None, Result, Ok, Err, refl, sym, ap, ◌∙◌, arith, append-nil, cons_option, filter_map, filter_map-append, lines, has_text, Answer, Unasked, Request, RequestError, asked, elsewhere_of, first_of_each, told_elsewhere, Had, compacted, had_none, having, is_needed, log_text, needed, says_closed, with_told, Outcome, exchange, Frontier, start, request_for, answered, line_exchange, state_after, Settings}
 use Rattle.crawl_session.specs.declared.request.RequestError.TheVariants as wrong
-use Rattle.crawl_core.specs.Limits.{queue_limit}
 use Rattle.crawl_session.specs.Seen.{seen_lines}
 use Rattle.crawl_session.proofs.Compactions.{compacted_stands, numbers_fit}
 use Rattle.crawl_session.proofs.SeenLines.{AllFit, each_asks}
@@ -76,17 +75,17 @@ none_told settings seen fit =
     each_asks (λ ls. told_in settings ls ≡ []) settings 0 seen fit refl
     (λ named count more asks none. ap (λ r. cons_option (told_by r) (told_in settings more)) asks ∙ none)
 
-pub compacted_tells : (settings : Settings) (max : ℕ) (bytes : List ℕ) → settings.workers ≤ queue_limit
+pub compacted_tells : (settings : Settings) (max : ℕ) (bytes : List ℕ)
     → elsewhere_of (asked settings (start settings.workers max) (lines (log_text (compacted settings (start settings.workers max) (lines bytes))))) ≡ first_of_each [] (elsewhere_of (asked settings (start settings.workers max) (lines bytes)))
-compacted_tells settings max bytes few =
+compacted_tells settings max bytes =
     let begun = start settings.workers max in
     let all = lines bytes in
     let front = needed settings had_none begun all in
     let seen = (state_after settings begun all).seen in
-    ap (λ ls. elsewhere_of (asked settings begun ls)) (compacted_stands settings max bytes few)
+    ap (λ ls. elsewhere_of (asked settings begun ls)) (compacted_stands settings max bytes)
     ∙ told_asked settings begun (compacted settings begun all)
     ∙ filter_map-append (λ line. told_by (request_for settings line)) front (seen_lines 0 seen)
-    ∙ ap (λ l. told_in settings front ++ l) (none_told settings seen (numbers_fit settings max all few))
+    ∙ ap (λ l. told_in settings front ++ l) (none_told settings seen (numbers_fit settings max all))
     ∙ append-nil (told_in settings front)
     ∙ kept_told settings had_none begun all
     ∙ ap (first_of_each []) (sym (told_asked settings begun all))

@@ -33,14 +33,14 @@ pub use Rattle.crawl_session.specs.Compacting.{Had, asks_again, changes, compact
 pub use Rattle.crawl_session.specs.Exchanges.{Exchange, Outcome, accepted_at, admitting, after, by_machine, client, counting, deferring, deferring_taken, ends, entering, exchange, finishing, handing, is_count, is_due, is_empty, is_entered, is_seen, noted, offering, put_back, replies, retaking, seeds_ended, seen_reply, stats_answer, taking, taking_again, taking_next}
 pub use Rattle.crawl_session.specs.Frontiers.{Deferrals, Frontier, KeptFrontier, NoneDeferred, deferrals_at, no_deferrals, start, waits_again, with_deferrals}
 pub use Rattle.crawl_session.specs.Input.{AnswersWhole, AreWhole, Ends, Holds, IsUnfinished, ServesInput, Turns, held_limit}
-pub use Rattle.crawl_session.specs.Listing.{Listed, Lists, done_by, done_in, each_below, pending_at, row_line, stats_at, stats_below, stats_in, taken_each, then_list, url_row, waiting_at, waiting_in}
+pub use Rattle.crawl_session.specs.Listing.{Listed, Lists, done_by, done_in, each_below, pending_at, row_line, stats_at, stats_below, stats_in, taken_each, then_list, url_row}
 pub use Rattle.crawl_session.specs.Logs.{next_suffix, numbers_text, settings_line, suffix_from, within_text}
 pub use Rattle.crawl_session.specs.Parts.{asked_by, asked_of, part_with, placed, placed_if, request_for}
 pub use Rattle.crawl_session.specs.Requests.{plain_request, request_in, request_of}
 pub use Rattle.crawl_session.specs.Serving.{GivesUp, ServesAll, with_words}
 pub use Rattle.crawl_session.specs.Sessions.{answered, answers, history_of, line_exchange, state_after}
 pub use Rattle.crawl_session.specs.Settings.{SessionView, Settings}
-pub use Rattle.crawl_session.specs.Stats.{stats_for, stats_of}
+pub use Rattle.crawl_session.specs.Stats.{stats_for, stats_of, waiting_at, waiting_of}
 pub use Rattle.crawl_session.specs.declared.answer.Answer.{Answer}
 pub use Rattle.crawl_session.specs.declared.answer.Answer.TheVariants.{Counted, Told, Unasked}
 pub use Rattle.crawl_session.specs.declared.deferrals.Deferred.{Deferred}
@@ -61,7 +61,7 @@ pub use Rattle.std.proofs.lemmas.List.{drop-append-le, get_or-set_other, get_or-
 pub use Rattle.std.proofs.lemmas.List.Elements.{All-append, All-cons, All-head, All-nil, All-tail, All-take, filter_map-append}
 pub use Rattle.std.proofs.lemmas.List.Splits.{length-slice_split, slice_split-cons_no, slice_split-cons_yes, slice_split_at, slice_split_none}
 pub use Rattle.std.proofs.lemmas.List.Sums.{sum_by-append, sum_by-cons, sum_by-set, sum_by_push}
-pub use Rattle.std.proofs.lemmas.Option.{slice_get-get_or, slice_get_within}
+pub use Rattle.std.proofs.lemmas.Option.{get_or_from_slice_get, slice_get-get_or, slice_get_within, unwrap_or-slice_get}
 pub use Rattle.std.proofs.lemmas.Slice.Eq.{bytes_eq-Decides}
 pub use Rattle.std.specs.BTreeMap.{insert_entry, is_at}
 pub use Rattle.std.specs.Fmt.{decimal}

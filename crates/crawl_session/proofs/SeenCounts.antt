@@ -1,8 +1,8 @@
 -- The numbers of `seen` are those of the answers.
-use Rattle.crawl_session.proofs.Prelude.{◌≡◌, ℕ, ◌+◌, ◌-◌, ◌<◌, ◌≤◌, ◌^◌, Bool, true, false, if◌then◌else◌, nat_eq, List, [], ◌∷◌, length, get_or, slice_get, Option, Some, None, Result, Ok, Err, refl, sym, ap, subst, ◌∙◌, arith, length-replicate, sum_by-cons, eqb-false, eqb-true, get_or-set_other, get_or-set_same, length-slice_set, slice_get-get_or, Answer, Told, Request, Offer, Next, Again, Later, Done, EndSeeds, Seen, Stats, RequestError, Asked, asked, seen_by, seen_of, Frontier, start, answered, exchange, seen_reply, request_for, line_exchange, state_after, Settings}
+use Rattle.crawl_session.proofs.Prelude.{◌≡◌, ℕ, ◌+◌, ◌-◌, ◌<◌, ◌≤◌, ◌^◌, Bool, true, false, if◌then◌else◌, nat_eq, List, [], ◌∷◌, length, get_or, slice_get, Option, Some, None, Result, Ok, Err, refl, sym, ap, subst, ◌∙◌, arith, replicate, length-replicate, sum_by-cons, eqb-false, eqb-true, get_or-set_other, get_or-set_same, length-slice_set, slice_get-get_or, Answer, Told, Request, Offer, Next, Again, Later, Done, EndSeeds, Seen, Stats, RequestError, Asked, asked, seen_by, seen_of, Frontier, start, answered, exchange, seen_reply, request_for, line_exchange, state_after, Settings}
 use Rattle.std.proofs.lemmas.List.{get_or-replicate}
 use Rattle.std.specs.Prelude.{min}
-use Rattle.crawl_session.specs.Seen.{add_seen, seen_with, sum_of}
+use Rattle.crawl_session.specs.Seen.{add_seen, none_seen, seen_with, sum_of}
 use Rattle.crawl_session.proofs.Noted.{answered_seen, seen_next}
 use Rattle.crawl_session.proofs.Queues.{one_queue}
 
@@ -89,22 +89,25 @@ counted settings state (line ∷ more) queue inside small =
     ∙ sums_both (seen_at state queue) (seen_by queue r here.answer) (seen_of queue rest)
     ∙ ap (sum_of (seen_at state queue)) (sym (sum_by-cons (λ (y : Asked). seen_by queue y.request y.answer) x rest))
 
--- the numbers of a new session
-starts_long : (workers max : ℕ) → length (start workers max).seen ≡ workers
-starts_long workers max = length-replicate workers 0
+-- the numbers of a new session: all its queues have one if their number has 32 bits
+pub none_of_all : (queues : ℕ) → queues < 2 ^ 32 → replicate queues 0 ≡ none_seen queues
+none_of_all queues fits = let all : queues ≡ min queues (2 ^ 32) = omega (arith, fits) in ap (λ n. replicate n 0) all
 
-pub counted_from_none : (settings : Settings) (max : ℕ) (lines : List (List ℕ)) (queue : ℕ) → queue < settings.workers → seen_at (state_after settings (start settings.workers max) lines) queue ≡ min (seen_of queue (asked settings (start settings.workers max) lines)) (2 ^ 64 - 1)
+starts_long : (workers max : ℕ) → length (start workers max).seen ≡ min workers (2 ^ 32)
+starts_long workers max = length-replicate (min workers (2 ^ 32)) 0
+
+pub counted_from_none : (settings : Settings) (max : ℕ) (lines : List (List ℕ)) (queue : ℕ) → queue < min settings.workers (2 ^ 32) → seen_at (state_after settings (start settings.workers max) lines) queue ≡ min (seen_of queue (asked settings (start settings.workers max) lines)) (2 ^ 64 - 1)
 counted_from_none settings max lines queue inside =
     let begun = start settings.workers max in
-    let zero : seen_at begun queue ≡ 0 = get_or-replicate settings.workers queue 0 0 inside in
+    let zero : seen_at begun queue ≡ 0 = get_or-replicate (min settings.workers (2 ^ 32)) queue 0 0 inside in
     let none : Small 0 = omega arith in
     let all = counted settings begun lines queue (subst (λ n. queue < n) (sym (starts_long settings.workers max)) inside) (subst Small (sym zero) none) in
     omega (arith, all, zero)
 
-pub small_after : (settings : Settings) (max : ℕ) (lines : List (List ℕ)) (queue : ℕ) → queue < settings.workers → Small (seen_at (state_after settings (start settings.workers max) lines) queue)
+pub small_after : (settings : Settings) (max : ℕ) (lines : List (List ℕ)) (queue : ℕ) → queue < min settings.workers (2 ^ 32) → Small (seen_at (state_after settings (start settings.workers max) lines) queue)
 small_after settings max lines queue inside =
     let is = counted_from_none settings max lines queue inside in
     omega (arith, is)
 
-pub long_after : (settings : Settings) (max : ℕ) (lines : List (List ℕ)) → length (state_after settings (start settings.workers max) lines).seen ≡ settings.workers
+pub long_after : (settings : Settings) (max : ℕ) (lines : List (List ℕ)) → length (state_after settings (start settings.workers max) lines).seen ≡ min settings.workers (2 ^ 32)
 long_after settings max lines = lines_long settings (start settings.workers max) lines ∙ starts_long settings.workers max

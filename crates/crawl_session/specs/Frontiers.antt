@@ -5,6 +5,7 @@ use Rattle.crawl_core.specs.Shows as machine
 use Rattle.crawl_core.specs.State.{State}
 use Rattle.crawl_core.specs.State as machine_state
 use Rattle.crawl_session.specs.declared.deferrals.Deferred.{Deferred}
+use Rattle.crawl_session.specs.Seen.{none_seen}
 
 -- of a queue: the URLs that were put back and wait, in this order; and the one that it is busy with, if that was put back before
 pub record Deferrals : Type 0 where
@@ -24,7 +25,7 @@ pub record Frontier : Type 0 where
 
 -- nothing was accepted, and nothing put back
 abbrev pub start : ℕ → ℕ → Frontier
-start workers max = record { machine = machine_state.start workers max; deferrals = replicate workers no_deferrals; senders = 0; seen = replicate workers 0 }
+start workers max = record { machine = machine_state.start workers max; deferrals = replicate workers no_deferrals; senders = 0; seen = none_seen workers }
 
 -- what was put back to a queue
 abbrev pub deferrals_at : Frontier → ℕ → Deferrals

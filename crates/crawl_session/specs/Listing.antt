@@ -22,7 +22,7 @@ use Rattle.crawl_session.specs.Exchanges.{exchange}
 use Rattle.crawl_session.specs.Frontiers.{Frontier, Shows}
 use Rattle.crawl_session.specs.Parts.{request_for}
 use Rattle.crawl_session.specs.Settings.{Settings, SessionView}
-use Rattle.crawl_session.specs.Stats.{stats_text}
+use Rattle.crawl_session.specs.Stats.{stats_text, waiting_at}
 
 -- ---- rows
 
@@ -105,15 +105,7 @@ taken_one queue state =
 abbrev pub taken_each : ℕ → ℕ → Frontier → Listed
 taken_each queue count state = each_below (λ mid _. taken_one queue mid) count state
 
-abbrev pub waiting_in : Answer → ℕ
-waiting_in (Counted stats) = stats.waiting
-waiting_in _ = 0
-
--- how many wait, as `stats` counts them
-abbrev pub waiting_at : Frontier → ℕ → ℕ
-waiting_at state queue = waiting_in (exchange state (Stats (Some queue))).answer
-
--- what is in progress is done first, so that the queue is not busy
+-- what is in progress is done first, so that the queue is not busy; then all URLs that wait are taken
 abbrev pub pending_at : Frontier → ℕ → Listed
 pending_at state queue =
     let free = (exchange state (Done queue)).state in
@@ -203,11 +195,6 @@ list_text form rows = flat_map (row_line form) rows
 pub record Gives (listed : Frontier → Listed) (old : SessionView) (row : Option Row) (new : SessionView) : Type 0 where
   pub settings : new.settings ≡ old.settings
   pub comes : (state : Frontier) → Shows old.core state → (option_to_list row ≡ (listed state).rows) × Shows new.core (listed state).state
-
--- and this number
-pub record Waits (queue : ℕ) (old : SessionView) (count : ℕ) (new : SessionView) : Type 0 where
-  pub settings : new.settings ≡ old.settings
-  pub comes : (state : Frontier) → Shows old.core state → (count ≡ waiting_at state queue) × Shows new.core state
 
 -- the lines of the rows were written
 pub record Lists (form : ListForm) (listed : Frontier → Listed) (old : SessionView) (out_old out_new : Option (List ℕ)) (new : SessionView) : Type 0 where

@@ -1,8 +1,12 @@
 -- How many offers to each queue were answered `seen`, and the lines by which a log keeps these numbers.
-use Rattle.std.specs.Prelude.{ℕ, suc, ◌+◌, ◌-◌, ◌^◌, List, [], ◌∷◌, ◌++◌, ◌==◌, codes, get_or, if◌then◌else◌, min, slice_set, decimal}
+use Rattle.std.specs.Prelude.{ℕ, suc, ◌+◌, ◌-◌, ◌^◌, List, [], ◌∷◌, ◌++◌, ◌==◌, codes, get_or, if◌then◌else◌, min, replicate, slice_set, decimal}
 use Rattle.crawl_core.specs.declared.reply.Reply.TheVariants as told
 use Rattle.crawl_session.specs.declared.answer.Answer.{Answer}
 use Rattle.crawl_session.specs.declared.answer.Answer.TheVariants.{Told}
+
+-- the numbers of a new session, each 0: those of the queues that a request can name
+abbrev pub none_seen : ℕ → List ℕ
+none_seen queues = replicate (min queues (2 ^ 32)) 0
 
 -- numbers go up to the largest that the program counts to
 abbrev pub sum_of : ℕ → ℕ → ℕ

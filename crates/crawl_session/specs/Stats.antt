@@ -1,5 +1,5 @@
 -- How many URLs a queue, or all queues, accepted, how far these are, and how many offers were answered `seen`.
-use Rattle.std.specs.Prelude.{ℕ, zero, suc, ◌+◌, ◌-◌, Bool, List, ◌++◌, codes, get_or, is_some, length, unwrap_or, Option, None, Some, decimal, option_map}
+use Rattle.std.specs.Prelude.{ℕ, zero, suc, ◌+◌, ◌-◌, Bool, List, ◌++◌, codes, is_some, length, slice_get, unwrap_or, Option, None, Some, decimal, option_and_then, option_map}
 use Rattle.crawl_core.specs.declared.progress.Progress.{Progress}
 use Rattle.crawl_core.specs.Flags.{one_if}
 use Rattle.crawl_core.specs.Handing.{progress_of}
@@ -20,12 +20,16 @@ plus a b = record {
   seen = sum_of a.seen b.seen;
 }
 
+-- how many URLs of a queue with this state wait: those that it has not given out, and those that were put back
+abbrev pub waiting_of : Progress → ℕ → ℕ
+waiting_of progress put_back = (progress.accepted - progress.taken) + put_back
+
 -- of a queue with this state, in which the given number of URLs wait that were put back, and which may be busy with such a URL; and
 -- this many offers to it were answered `seen`
 abbrev pub stats_of : Progress → ℕ → Bool → ℕ → Stats
 stats_of progress put_back is_busy seen =
     let in_progress = one_if progress.busy + one_if is_busy in
-    let waiting = (progress.accepted - progress.taken) + put_back in
+    let waiting = waiting_of progress put_back in
     record {
       accepted = progress.accepted;
       done = progress.accepted - (in_progress + waiting);
@@ -35,10 +39,16 @@ stats_of progress put_back is_busy seen =
       seen = seen;
     }
 
--- of the queue with this number, if there is one
+-- of the queue with this number, if it exists and a request can name it
 abbrev pub stats_at : Frontier → ℕ → Option Stats
 stats_at frontier queue =
-    option_map (λ progress. stats_of progress (length (deferrals_at frontier queue).waiting) (is_some (deferrals_at frontier queue).fetched) (get_or frontier.seen queue 0)) (progress_of frontier.machine queue)
+    option_and_then
+    (λ progress. option_map (stats_of progress (length (deferrals_at frontier queue).waiting) (is_some (deferrals_at frontier queue).fetched)) (slice_get frontier.seen queue))
+    (progress_of frontier.machine queue)
+
+-- how many URLs wait in the queue with this number
+abbrev pub waiting_at : Frontier → ℕ → ℕ
+waiting_at frontier queue = unwrap_or (option_map (λ progress. waiting_of progress (length (deferrals_at frontier queue).waiting)) (progress_of frontier.machine queue)) 0
 
 -- of the queues below this number
 abbrev pub stats_below : Frontier → ℕ → Stats

@@ -138,7 +138,8 @@ fn write_counts<O: Write>(alloc: Global, counts: &SeenCounts, out: &mut O) -> Re
 {
     let queues = counts.queues()?;
     for queue in 0..queues {
-        write_count(alloc, queue, counts.get(queue), out)?;
+        let count = counts.get(queue).unwrap_or(0);
+        write_count(alloc, queue, count, out)?;
     }
     Ok(())
 }

@@ -3,8 +3,9 @@ ghost use Rattle.std.specs.Prelude.{◌≡◌, None, Some, get_or, length, repli
 ghost use Rattle.crawl_session.specs.Exchanges as spec;
 ghost use Rattle.crawl_session.specs.Frontiers as kept;
 ghost use Rattle.crawl_session.specs.Frontiers.{deferrals_at, no_deferrals};
+ghost use Rattle.crawl_session.specs.Seen.{none_seen};
 ghost use Rattle.crawl_session.specs.Serving.{Comes, GivesUp};
-ghost use Rattle.crawl_session.specs.Stats.{stats_at, stats_below};
+ghost use Rattle.crawl_session.specs.Stats.{stats_at, stats_below, waiting_at};
 ghost use Rattle.crawl_session.specs.declared.answer.Answer.{Answer};
 ghost use Rattle.crawl_session.specs.declared.deferrals.Deferred.{Deferred};
 
@@ -13,7 +14,7 @@ use crate::deferrals::{DeferralQueues, Deferred};
 use crate::exchange::{again, end_seeds, finish, next, offer};
 use crate::request::Request;
 use crate::seen::SeenCounts;
-use crate::stats::Stats;
+use crate::stats::{Stats, waiting_of};
 use crawl_core::{Core, Event, NoMemory, Refusal, Reply, Text};
 use std::alloc::{AllocError, Global};
 use std::marker::Model;
@@ -42,7 +43,7 @@ impl Frontier {
     /// # Errors
     /// Out of memory.
     pub fn new(alloc: Global, core: Core, workers: u32) -> Result<Frontier, NoMemory>
-        ensures { IfOk result (λ frontier. frontier ≡ record { machine = core; deferrals = replicate workers no_deferrals; senders = 0; seen = replicate workers 0 }) }
+        ensures { IfOk result (λ frontier. frontier ≡ record { machine = core; deferrals = replicate workers no_deferrals; senders = 0; seen = none_seen workers }) }
     {
         let deferrals = DeferralQueues::new(alloc, workers)?;
         let seen = SeenCounts::new(alloc, workers)?;
@@ -293,10 +294,26 @@ impl Frontier {
         let Some(progress) = self.core.progress(queue) else {
             return Ok(None);
         };
+        let Some(seen) = self.seen.get(queue) else {
+            return Ok(None);
+        };
         let is_busy = self.deferrals.fetched(queue).is_some();
-        let waiting = self.deferrals.waiting(queue);
-        let stats = Stats::of_queue(progress, waiting, is_busy, self.seen.get(queue))?;
+        let put_back = self.deferrals.waiting(queue);
+        let stats = Stats::of_queue(progress, put_back, is_busy, seen)?;
         Ok(Some(stats))
+    }
+
+    /// Returns how many URLs wait in the queue. It is 0 if there is no such queue.
+    ///
+    /// # Errors
+    /// The number is too large.
+    pub(crate) fn waiting(&self, queue: u32) -> Result<u64, NoMemory>
+        ensures { IfOk result (λ count. (state : kept.Frontier) → kept.Shows self.now state → count ≡ waiting_at state queue) }
+    {
+        let Some(progress) = self.core.progress(queue) else {
+            return Ok(0);
+        };
+        waiting_of(progress, self.deferrals.waiting(queue))
     }
 
     /// Counts the URLs of all queues.

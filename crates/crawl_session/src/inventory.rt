@@ -7,7 +7,7 @@ ghost use Rattle.crawl_session.specs.Rebuilding as spec;
 ghost use Rattle.crawl_session.specs.Rebuilding.{Collects, CollectsQueues, ReadsLine, ReadsLines, ReadsRequest, ReadsUnfinished};
 
 use crate::answer::Answer;
-use crate::list::{Row, again, give, take, waiting};
+use crate::list::{Row, again, give, take};
 use crate::request::{Request, RequestError};
 use crate::session::Session;
 use crate::texts::Texts;
@@ -212,7 +212,7 @@ fn drain(alloc: Global, session: &mut Session, queue: u32) -> Result<WaitingUrls
     ensures { IfOk result (λ urls. Collects (λ state. pending_at state queue) session.old urls session.new) }
 {
     let _freed = session.frontier.exchange(Request::Done { queue })?;
-    let count = waiting(session, queue)?;
+    let count = session.frontier.waiting(queue)?;
     let urls = take_each(alloc, session, queue, count)?;
     Ok(WaitingUrls { urls })
 }

@@ -6,7 +6,6 @@ ghost use Rattle.std.specs.declared.hash.DefaultHasher.{DefaultHasher};
 ghost use Rattle.std.specs.Str.Lines.{lines};
 ghost use Rattle.crawl_core.specs.History.{accepted_urls, taken_urls, done_in};
 ghost use Rattle.crawl_core.specs.Invariants.{HasRoom};
-ghost use Rattle.crawl_core.specs.Limits.{queue_limit};
 ghost use Rattle.crawl_core.specs.Run.{Run};
 ghost use Rattle.crawl_core.specs.declared.reply.Reply.TheVariants as told;
 ghost use Rattle.crawl_core.specs.declared.word.Word.{Word};
@@ -54,7 +53,7 @@ pub fn sessions_go_on()
 /// given all lines of these bytes.
 #[tactic(auto, using(crate::proofs::Compactions::compacted_answers))]
 pub fn a_compacted_log_goes_on()
-    ensures { (settings : Settings) (max : ℕ) (bytes : List ℕ) (more : List (List ℕ)) → 1 ≤ settings.workers → settings.workers ≤ queue_limit → answers settings (state_after settings (start settings.workers max) (lines (log_text (compacted settings (start settings.workers max) (lines bytes))))) more
+    ensures { (settings : Settings) (max : ℕ) (bytes : List ℕ) (more : List (List ℕ)) → 1 ≤ settings.workers → answers settings (state_after settings (start settings.workers max) (lines (log_text (compacted settings (start settings.workers max) (lines bytes))))) more
         ≡ answers settings (state_after settings (start settings.workers max) (lines bytes)) more }
 {}
 
@@ -62,7 +61,7 @@ pub fn a_compacted_log_goes_on()
 /// So the URLs of other parts can be sent to them again.
 #[tactic(auto, using(crate::proofs::Elsewheres::compacted_tells))]
 pub fn a_compacted_log_tells_elsewhere()
-    ensures { (settings : Settings) (max : ℕ) (bytes : List ℕ) → settings.workers ≤ queue_limit → elsewhere_of (asked settings (start settings.workers max) (lines (log_text (compacted settings (start settings.workers max) (lines bytes))))) ≡ first_of_each [] (elsewhere_of (asked settings (start settings.workers max) (lines bytes))) }
+    ensures { (settings : Settings) (max : ℕ) (bytes : List ℕ) → elsewhere_of (asked settings (start settings.workers max) (lines (log_text (compacted settings (start settings.workers max) (lines bytes))))) ≡ first_of_each [] (elsewhere_of (asked settings (start settings.workers max) (lines bytes))) }
 {}
 
 /// No answer depends on the words that senders remember. So if a line runs out of memory, each later line is answered as if that

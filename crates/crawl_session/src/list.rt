@@ -145,7 +145,7 @@ impl Lister {
         ensures { IfOk result (λ _. Lists self.now.form (λ state. spec.pending_at state queue) session.old (O.contents out.old) (O.contents out.new) session.new) }
     {
         let _freed = session.frontier.exchange(Request::Done { queue })?;
-        let waiting = waiting(session, queue)?;
+        let waiting = session.frontier.waiting(queue)?;
         self.take_each(session, queue, waiting, out)
     }
 
@@ -299,26 +299,6 @@ pub(crate) fn take(session: &mut Session, queue: u32) -> Result<Option<Row>, NoM
     let answer = session.frontier.exchange(Request::Next { queue })?;
     let _told = session.frontier.exchange(Request::Done { queue })?;
     Ok(url_row(Kind::Pending, queue, answer))
-}
-
-/// Returns the number of URLs that wait in a queue.
-pub(crate) fn waiting(session: &mut Session, queue: u32) -> Result<u64, NoMemory>
-    ensures { IfOk result (λ count. spec.Waits queue session.old count session.new) }
-{
-    let answer = session
-        .frontier
-        .exchange(Request::Stats { queue: Some(queue) })?;
-    Ok(waiting_in(&answer))
-}
-
-/// Returns the number of waiting URLs in an answer to `stats`.
-fn waiting_in(answer: &Answer) -> u64
-    ensures { result ≡ spec.waiting_in answer.now }
-{
-    match answer {
-        Answer::Counted(stats) => stats.waiting,
-        _ => 0,
-    }
 }
 
 /// Returns whether the answer is `count`.

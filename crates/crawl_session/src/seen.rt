@@ -1,5 +1,5 @@
 //! How many offers to each queue were answered `seen`.
-ghost use Rattle.std.specs.Prelude.{◌≡◌, get_or, is_some, length, replicate, slice_get, IfOk};
+ghost use Rattle.std.specs.Prelude.{◌≡◌, is_some, length, slice_get, IfOk};
 ghost use Rattle.crawl_session.specs.Seen as spec;
 ghost use Rattle.crawl_session.specs.declared.answer.Answer.TheVariants.{Told};
 
@@ -26,8 +26,9 @@ impl SeenCounts {
     ///
     /// # Errors
     /// Out of memory.
+    #[tactic(auto, using(crate::proofs::SeenCounts::none_of_all))]
     pub(crate) fn new(alloc: Global, queues: u32) -> Result<SeenCounts, NoMemory>
-        ensures { IfOk result (λ counts. counts ≡ replicate queues 0) }
+        ensures { IfOk result (λ counts. counts ≡ spec.none_seen queues) }
     {
         let counts = vec![in alloc; 0u64; queues as usize]?;
         Ok(SeenCounts { counts })
@@ -46,13 +47,13 @@ impl SeenCounts {
         }
     }
 
-    /// Returns the number of the queue, or 0 if there is no such queue.
-    pub(crate) fn get(&self, queue: u32) -> u64
-        ensures { result ≡ get_or self.now queue 0 }
+    /// Returns the number of the queue, if there is such a queue.
+    pub(crate) fn get(&self, queue: u32) -> Option<u64>
+        ensures { result ≡ slice_get self.now queue }
     {
         match self.counts.get(queue as usize) {
-            Some(count) => *count,
-            None => 0,
+            Some(count) => Some(*count),
+            None => None,
         }
     }
 

@@ -49,16 +49,15 @@ impl Stats {
         ensures { IfOk result (λ stats. stats ≡ spec.stats_of progress put_back is_busy seen) }
     {
         let accepted = progress.accepted as u64;
-        let put_back = put_back as u64;
         let in_progress = one_if(progress.busy) + one_if(is_busy);
-        let waiting = sum(accepted.saturating_sub(progress.taken as u64), put_back)?;
+        let waiting = waiting_of(progress, put_back)?;
         let unfinished = sum(in_progress, waiting)?;
         Ok(Stats {
             accepted,
             done: accepted.saturating_sub(unfinished),
             in_progress,
             waiting,
-            put_back,
+            put_back: put_back as u64,
             seen,
         })
     }
@@ -109,6 +108,17 @@ impl fmt::Display for Unfinished<'_> {
             " in-progress {in_progress} waiting {waiting} put-back {put_back}"
         )
     }
+}
+
+/// Returns how many URLs of a queue with this state wait: those that it has not given out, and those that were put back.
+///
+/// # Errors
+/// The number is too large.
+pub(crate) fn waiting_of(progress: Progress, put_back: usize) -> Result<u64, NoMemory>
+    ensures { IfOk result (λ count. count ≡ spec.waiting_of progress put_back) }
+{
+    let left = progress.accepted.saturating_sub(progress.taken);
+    sum(left as u64, put_back as u64)
 }
 
 /// Adds two numbers. A sum above 64 bits is reported as out of memory.

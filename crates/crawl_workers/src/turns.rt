@@ -4,6 +4,7 @@ ghost use Rattle.crawl_pages.specs.declared.page.Page.{Page};
 ghost use Rattle.crawl_keys.specs.HostFilter.{allows};
 ghost use Rattle.crawl_frontier.specs.Parts.{WorkerId};
 ghost use Rattle.crawl_workers.specs.Runs.{AllRan};
+ghost use Rattle.crawl_workers.specs.Turn.{Goes, worker_in};
 ghost use Rattle.crawl_workers.specs.Rounds.{AllGo, RunnerRan, IsEnded, EndedBelow};
 
 use crate::error::RunError;
@@ -38,28 +39,52 @@ fn advance<K: Name, F: SessionFetch, R: Wait>(
     ensures ran { (start : WorkerId) → RunnerRan K.workers (allows K.filter) (F.meaning fetcher.now) start runner.old → RunnerRan K.workers (allows K.filter) (F.meaning fetcher.now) start runner.new }
     ensures ended { (start : WorkerId) → RunnerRan K.workers (allows K.filter) (F.meaning fetcher.now) start runner.old → result ≡ false → IsEnded runner.new }
 {
-    match mem::replace(runner, Runner::Moved) {
+    let before = mem::replace(runner, Runner::Moved);
+    let after = next_runner(rt, frontier, before, fetcher, session);
+    let continues = continues(&after);
+    *runner = after;
+    continues
+}
+
+// Whether the worker has not ended.
+fn continues<K: Name>(runner: &Runner<K>) -> bool
+    ensures { (allowed : List ℕ → Bool) (meaning : List ℕ → Page) (start : WorkerId) → RunnerRan K.workers allowed meaning start runner.now → result ≡ false → IsEnded runner.now }
+{
+    match runner {
+        Runner::Going(_, _) => true,
+        Runner::Ended(_) | Runner::Moved => false,
+    }
+}
+
+// Makes a turn of the worker, unless it has ended.
+fn next_runner<K: Name, F: SessionFetch, R: Wait>(
+    rt: &R,
+    frontier: &Frontier<K>,
+    runner: Runner<K>,
+    fetcher: &F,
+    session: &mut F::Session,
+) -> Runner<K>
+    requires { F.is_of fetcher.now session.old }
+    ensures right { F.is_of fetcher.now session.new }
+    ensures ran { (start : WorkerId) → RunnerRan K.workers (allows K.filter) (F.meaning fetcher.now) start runner → RunnerRan K.workers (allows K.filter) (F.meaning fetcher.now) start result }
+{
+    match runner {
         Runner::Going(worker, mut output) => {
-            match turn(rt, frontier, worker, fetcher, session, &mut output) {
-                Step::Worked(worker) => {
-                    *runner = Runner::Going(worker, output);
-                    true
-                }
-                Step::Waits(worker) => {
-                    *runner = Runner::Going(worker, output);
-                    true
-                }
-                Step::Closes(closed) => {
-                    *runner = Runner::Ended(output.end(closed));
-                    false
-                }
-            }
+            let step = turn(rt, frontier, worker, fetcher, session, &mut output);
+            after_step(step, output)
         }
-        Runner::Ended(end) => {
-            *runner = Runner::Ended(end);
-            false
-        }
-        Runner::Moved => false,
+        other => other,
+    }
+}
+
+// The worker after a turn, with its output so far, or its end.
+fn after_step<K: Name>(step: Step<K>, output: WorkerOutput) -> Runner<K>
+    ensures { (allowed : List ℕ → Bool) (meaning : List ℕ → Page) (start : WorkerId) → Goes K.workers allowed meaning start (worker_in step) output → RunnerRan K.workers allowed meaning start result }
+{
+    match step {
+        Step::Worked(worker) => Runner::Going(worker, output),
+        Step::Waits(worker) => Runner::Going(worker, output),
+        Step::Closes(closed) => Runner::Ended(output.end(closed)),
     }
 }
 

@@ -1,10 +1,13 @@
 -- How the commands for a folder end.
-use Rattle.mercator.proofs.Prelude.{◌≡◌, ◌⊎◌, inl, inr, ℕ, Bool, true, false, if◌then◌else◌, List, Option, String, Global, arith, is_incomplete, CrawlError, CrawlFailure, of_crawl_by, of_site, status_of_fault, IsBroken, IsChecked, IsTold, GainsAs, Appends}
+use Rattle.mercator.proofs.Prelude.{◌≡◌, ◌⊎◌, inl, inr, ℕ, Bool, true, false, if◌then◌else◌, List, Option, String, Global, arith, is_incomplete, CrawlError, CrawlFailure, of_crawl_by, of_site, status_of_fault, IsBroken, IsChecked, IsCheckText, IsDiff, IsTold, EndsBy, Fault, GainsAs, Appends, reports, subst, sym, true≢false}
 use Rattle.crawl_run.specs.declared.error.CrawlError.TheVariants as crawl
 use Rattle.mercator_site.specs.Faults.{IsSiteIncomplete, is_unfinished}
 use Rattle.mercator_site.specs.declared.fault.SiteFault.{SiteFault}
 use Rattle.mercator_site.specs.declared.fault.SiteFault.TheVariants as unsited
 use Rattle.mercator_site.specs.declared.options.CheckOptions.{CheckOptions}
+use Rattle.mercator_site.specs.declared.options.Fix.{Fix}
+use Rattle.mercator_site.specs.declared.options.Fix.TheVariants as fix
+use Rattle.mercator.specs.declared.commands.fault.Fault.TheVariants as wrong
 use Rattle.mercator.specs.declared.commands.planned.Plan.TheVariants as asks
 
 -- the status 2 is that of an incomplete crawl
@@ -28,14 +31,53 @@ not_in_use_by error failure five = grind arith
 pub not_in_use : (fault : SiteFault) → status_of_fault (of_site fault) ≡ 5 → ⊥
 not_in_use fault five = grind (arith, not_in_use_by)
 
--- the report of a check is a text that its command may print
-pub can_print : (options : CheckOptions) (ignores : Option (String Global)) (input : Option (List ℕ)) (broken : Bool) (text : List ℕ) → IsChecked options ignores broken text
+-- a report is what such a check prints
+told_report : (how : Fix) (options : CheckOptions) (ignores : Option (String Global)) (broken : Bool) (text : List ℕ) → reports how ≡ true → IsChecked options ignores broken text → IsCheckText how options ignores broken text
+told_report fix.Off options ignores broken text is checked = checked
+told_report fix.Diff options ignores broken text is checked = absurd (true≢false (sym is))
+told_report fix.Write options ignores broken text is checked = checked
+
+-- the text is one that the command of a check may print
+told_check : (options : CheckOptions) (ignores : Option (String Global)) (input : Option (List ℕ)) (broken : Bool) (text : List ℕ) → IsCheckText options.fix options ignores broken text
     → (text : List ℕ) × (IsTold (asks.Check options ignores) input text ⊎ IsBroken (asks.Check options ignores) text)
-can_print options ignores input false text checked = (text, inl checked)
-can_print options ignores input true text checked = (text, inr checked)
+told_check options ignores input false text told = (text, inl told)
+told_check options ignores input true text told = (text, inr told)
+
+-- it was appended
+gains_text : (options : CheckOptions) (ignores : Option (String Global)) (input : Option (List ℕ)) (broken : Bool) (text : List ℕ) (old new : Option (List ℕ)) → IsCheckText options.fix options ignores broken text
+    → Appends old new text → GainsAs broken (asks.Check options ignores) input old new
+gains_text options ignores input false text old new told gained = record { text = text; told = told; gained = gained }
+gains_text options ignores input true text old new told gained = record { text = text; told = told; gained = gained }
+
+-- the report of a check is a text that its command may print
+pub can_print : (options : CheckOptions) (ignores : Option (String Global)) (input : Option (List ℕ)) (broken : Bool) (text : List ℕ) → reports options.fix ≡ true → IsChecked options ignores broken text
+    → (text : List ℕ) × (IsTold (asks.Check options ignores) input text ⊎ IsBroken (asks.Check options ignores) text)
+can_print options ignores input broken text is checked = told_check options ignores input broken text (told_report options.fix options ignores broken text is checked)
 
 -- the report of a check was appended
-pub gains_as : (options : CheckOptions) (ignores : Option (String Global)) (input : Option (List ℕ)) (broken : Bool) (text : List ℕ) (old new : Option (List ℕ)) → IsChecked options ignores broken text
+pub gains_as : (options : CheckOptions) (ignores : Option (String Global)) (input : Option (List ℕ)) (broken : Bool) (text : List ℕ) (old new : Option (List ℕ)) → reports options.fix ≡ true → IsChecked options ignores broken text
     → Appends old new text → GainsAs broken (asks.Check options ignores) input old new
-gains_as options ignores input false text old new checked gained = record { text = text; told = checked; gained = gained }
-gains_as options ignores input true text old new checked gained = record { text = text; told = checked; gained = gained }
+gains_as options ignores input broken text old new is checked gained = gains_text options ignores input broken text old new (told_report options.fix options ignores broken text is checked) gained
+
+-- a diff is what a check with `--dry-run` prints
+told_diff : (options : CheckOptions) (ignores : Option (String Global)) (broken : Bool) (text : List ℕ) → options.fix ≡ fix.Diff → IsDiff broken text → IsCheckText options.fix options ignores broken text
+told_diff options ignores broken text is diff = subst (λ (how : Fix). IsCheckText how options ignores broken text) (sym is) diff
+
+pub can_print_diff : (options : CheckOptions) (ignores : Option (String Global)) (input : Option (List ℕ)) (broken : Bool) (text : List ℕ) → options.fix ≡ fix.Diff → IsDiff broken text
+    → (text : List ℕ) × (IsTold (asks.Check options ignores) input text ⊎ IsBroken (asks.Check options ignores) text)
+can_print_diff options ignores input broken text is diff = told_check options ignores input broken text (told_diff options ignores broken text is diff)
+
+pub gains_diff : (options : CheckOptions) (ignores : Option (String Global)) (input : Option (List ℕ)) (broken : Bool) (text : List ℕ) (old new : Option (List ℕ)) → options.fix ≡ fix.Diff → IsDiff broken text
+    → Appends old new text → GainsAs broken (asks.Check options ignores) input old new
+gains_diff options ignores input broken text old new is diff gained = gains_text options ignores input broken text old new (told_diff options ignores broken text is diff) gained
+
+-- an error of status 1 is not that of an incomplete crawl
+pub plain_check : (options : CheckOptions) (status : ℕ) → status ≡ 1 → status ≡ 2 → IsSiteIncomplete options
+plain_check options status one two = absurd (omega arith)
+
+-- how a check with `--dry-run` ends without one
+pub ends_diff : (options : CheckOptions) (ignores : Option (String Global)) (input : Option (List ℕ)) (fault : Fault) (Unwritten : Type 0) → options.fix ≡ fix.Diff
+    → (((status_of_fault fault ≡ 1) × Unwritten) ⊎ ((fault ≡ wrong.CannotWrite) × ((broken : Bool) × (diff : List ℕ) × IsDiff broken diff)))
+    → EndsBy (asks.Check options ignores) input fault Unwritten
+ends_diff options ignores input fault Unwritten is (inl plain) = inl (plain_check options (status_of_fault fault) plain.0, plain.1)
+ends_diff options ignores input fault Unwritten is (inr unwritten) = inr (inl (unwritten.0, can_print_diff options ignores input unwritten.1.0 unwritten.1.1 is unwritten.1.2))

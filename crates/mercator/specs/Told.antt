@@ -1,5 +1,5 @@
 -- What each command prints, and why it fails, by the bytes of its FILE.
-use Rattle.std.specs.Prelude.{◌≡◌, ◌⊎◌, ℕ, ◌≤◌, Bool, true, false, if◌then◌else◌, List, [], ◌++◌, codes, length, map, Option, Some, None, Err, IfSome, IsSome, IsSomeAnd, IsErr, String, string_bytes}
+use Rattle.std.specs.Prelude.{◌≡◌, ◌==◌, ◌⊎◌, ℕ, ◌≤◌, Bool, true, false, not, if◌then◌else◌, List, [], ◌++◌, codes, length, map, Option, Some, None, Err, IfSome, IsSome, IsSomeAnd, IsErr, String, string_bytes}
 use Rattle.std.specs.Io.KnownBytes.{Appends}
 use Rattle.std.specs.declared.alloc.Global.{Global}
 use Rattle.crawl_keys.specs.CanonicalText.{canonical}
@@ -19,6 +19,8 @@ use Rattle.std.specs.Str.Lines.{lines}
 use Rattle.mercator_site.specs.Ends.{IsFolderCheck}
 use Rattle.mercator_site.specs.Faults.{IsSiteIncomplete}
 use Rattle.mercator_site.specs.declared.options.CheckOptions.{CheckOptions}
+use Rattle.mercator_site.specs.declared.options.Fix.{Fix}
+use Rattle.mercator_site.specs.declared.options.Fix.TheVariants as fix
 use Rattle.saved_site.specs.Below.{IsWebAt}
 use Rattle.saved_site.specs.Meaning.{IsSiteWeb}
 use Rattle.session_log.specs.Plans.{queues_of}
@@ -80,6 +82,22 @@ pub record GoesOn (asked : SessionPlan) (input : Option (List ℕ)) (text : List
 abbrev pub IsChecked : CheckOptions → Option (String Global) → Bool → List ℕ → Type 0
 IsChecked options ignores broken text = OfFile (known_ignores ignores) (λ list. IsFolderCheck options list broken text)
 
+-- a check prints its report, and not a diff
+abbrev pub reports : Fix → Bool
+reports fix.Off = true
+reports fix.Diff = false
+reports fix.Write = true
+
+-- the text is the diff of the files with links that can be rewritten. Which files and links these are it does not say
+abbrev pub IsDiff : Bool → List ℕ → Type 0
+IsDiff broken text = broken ≡ not (length text == 0)
+
+-- the text is what a check prints: the diff or the report
+abbrev pub IsCheckText : Fix → CheckOptions → Option (String Global) → Bool → List ℕ → Type 0
+IsCheckText fix.Off options ignores broken text = IsChecked options ignores broken text
+IsCheckText fix.Diff options ignores broken text = IsDiff broken text
+IsCheckText fix.Write options ignores broken text = IsChecked options ignores broken text
+
 -- the text is the output of a crawl
 abbrev pub IsToldCrawl : CrawlPlan → Option (List ℕ) → List ℕ → Type 0
 IsToldCrawl crawl input text =
@@ -90,7 +108,7 @@ IsToldCrawl crawl input text =
 abbrev pub IsTold : Plan → Option (List ℕ) → List ℕ → Type 0
 IsTold (asks.Crawl workers max queues file seeds options) input text = IsToldCrawl (crawl_of workers max queues file seeds options) input text
 IsTold (asks.Site options) input text = IsSiteWeb text × IsWebAt (string_bytes options.base) text
-IsTold (asks.Check options ignores) input text = IsChecked options ignores false text
+IsTold (asks.Check options ignores) input text = IsCheckText options.fix options ignores false text
 IsTold (asks.Key url workers) input text = IsKeyLine (string_bytes url) workers text
 IsTold (asks.Replay file) input text = OfFile (known_bytes (string_bytes file) input) (λ bytes. IsReplay bytes text)
 IsTold (asks.Serve asked) input text = (is_bad_suffix asked.within ≡ false) × IsAnswered asked input text
@@ -100,7 +118,7 @@ IsTold (asks.Compact asked) input text = (is_bad_suffix asked.log.session.within
 
 -- the text is the report of a check that found something broken
 abbrev pub IsBroken : Plan → List ℕ → Type 0
-IsBroken (asks.Check options ignores) text = IsChecked options ignores true text
+IsBroken (asks.Check options ignores) text = IsCheckText options.fix options ignores true text
 IsBroken plan text = ⊥
 
 -- why a replay fails: the FILE cannot be read, or is no script, with this error; or memory runs out

@@ -18,6 +18,7 @@ mod config;
 mod crawl_text;
 mod fault;
 mod fault_text;
+mod fix;
 mod folder;
 mod folder_words;
 mod input;

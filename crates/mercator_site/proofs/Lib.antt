@@ -1,4 +1,6 @@
 pub mod Prelude
+mod FolderMaps
 mod OwnPages
 mod Runs
+mod Served
 mod TopCrawls

@@ -1,6 +1,6 @@
 -- A crawl of a source that has the pages of a saved web.
 use Rattle.mercator_site.proofs.Prelude.{common_steps, get_or, sym, ap, subst, ◌∙◌, arith, IsCrawl, canonical, resolve, allows, host_key, PageResult, AreAliasesIn, AreStarts, IsTopCrawl, is_left_out, starts, IsUnfinished, is_unfinished, of_crawl, of_crawl_by, AreOwn, IsSiteSource, PageFound, page_at, Alias}
-use Rattle.std.specs.Prelude.{◌≡◌, ℕ, Bool, true, List, [], ◌∷◌, ◌++◌, map, Result, Ok, Err}
+use Rattle.std.specs.Prelude.{◌≡◌, ℕ, Bool, true, List, [], ◌∷◌, ◌++◌, map, Option, Result, Ok, Err}
 use Rattle.std.specs.Str.Lines.{lines}
 use Rattle.crawl_keys.specs.declared.error.KeyError.{KeyError}
 use Rattle.saved_pages.specs.SavedWeb.{page_of}
@@ -11,10 +11,17 @@ use Rattle.crawl_run.specs.declared.error.CrawlError.{CrawlError}
 use Rattle.crawl_run.specs.declared.error.CrawlError.TheVariants as crawl
 use Rattle.mercator_site.specs.Sources.{IsSourceOf}
 use Rattle.saved_site.specs.Aliases.{AreAliases}
+use Rattle.saved_site.specs.AllPages.{HasAllPages, IsWebOf}
+use Rattle.saved_site.specs.Served.{AreServed, IsServedPage}
+use Rattle.site_files.specs.declared.files.SiteFiles.{SiteFiles}
 
 -- the pages of a site are those of its saved web
 pub source_of : (top : List ℕ) (pages : List PageFound) (source : IsSiteSource top pages) → IsSourceOf (page_at pages) source.bytes
 source_of top pages source = record { sound = source.web.sound; same = source.same }
+
+-- and those that a server returns
+pub web_of : (files : SiteFiles) (reads : ℕ → Option (List ℕ) → Type 0) (top : List ℕ) (pages : List PageFound) (source : IsSiteSource top pages) → AreServed (IsServedPage files reads) pages → HasAllPages files pages → IsWebOf files reads source.bytes
+web_of files reads top pages source served all = record { pages = pages; same = λ url. sym (source.same url); served = served; all = all }
 
 -- aliases among the pages of a source are aliases in its saved web
 pub aliases_in : (pages : List PageFound) (web : List ℕ) (aliases : List Alias) → IsSourceOf (page_at pages) web → AreAliases pages aliases → AreAliasesIn web aliases

@@ -4,6 +4,7 @@ use Rattle.mercator_site.specs.Seeds.{seed_link}
 use Rattle.mercator_site.specs.declared.options.CheckOptions.{CheckOptions}
 use Rattle.mercator_site.specs.declared.options.ReportOptions.{ReportOptions}
 use Rattle.mercator_site.specs.declared.check.CheckSettings.{CheckSettings}
+use Rattle.mercator_site.specs.declared.mapped.MappedFolder.{MappedFolder}
 
 pub record Asks : Type 0 where
   pub report : ReportOptions
@@ -23,6 +24,8 @@ pub record Asks : Type 0 where
   pub front : List ℕ
   -- the entries of the ignore list
   pub entries : List (List ℕ)
+  -- the folders in which links are looked up that lead out of the site
+  pub folders : List MappedFolder
 
 -- the settings of the library's caller
 abbrev pub asks_in : CheckSettings → Asks
@@ -36,15 +39,16 @@ asks_in s = record {
   rooted = s.rooted;
   front = s.front.now;
   entries = map string_bytes s.ignores.now;
+  folders = s.maps.now;
 }
 
 -- the links at which the search of a command line starts
 abbrev pub seeds_of : CheckOptions → List (List ℕ)
 seeds_of options = map (seed_link options.paths) (map string_bytes options.seeds.items)
 
--- the settings of a command line, with these links, this prefix and the entries of a file
-abbrev pub asks_with : CheckOptions → List (List ℕ) → List ℕ → List (List ℕ) → Asks
-asks_with options seeds front entries = record {
+-- the settings of a command line, with these links, this prefix, the entries of a file and the folders of maps
+abbrev pub asks_with : CheckOptions → List (List ℕ) → List ℕ → List (List ℕ) → List MappedFolder → Asks
+asks_with options seeds front entries folders = record {
   report = options.report;
   folder = string_bytes options.site.folder;
   source_url = string_bytes options.source_url;
@@ -54,7 +58,8 @@ asks_with options seeds front entries = record {
   rooted = options.paths;
   front = front;
   entries = entries;
+  folders = folders;
 }
 
-abbrev pub asks_of : CheckOptions → List ℕ → List (List ℕ) → Asks
-asks_of options front entries = asks_with options (seeds_of options) front entries
+abbrev pub asks_of : CheckOptions → List ℕ → List (List ℕ) → List MappedFolder → Asks
+asks_of options front entries folders = asks_with options (seeds_of options) front entries folders

@@ -1,6 +1,7 @@
 -- The report of a check of a folder's links.
-use Rattle.std.specs.Prelude.{◌≡◌, ◌==◌, ℕ, Bool, true, false, not, ◌&&◌, ◌||◌, List, [], ◌∷◌, ◌++◌, length, map, string_bytes, Ok, Option, Some, None, ⊤, All, option_map}
+use Rattle.std.specs.Prelude.{◌≡◌, ◌==◌, ℕ, Bool, true, false, not, ◌&&◌, ◌||◌, List, [], ◌∷◌, ◌++◌, length, map, String, Vec, string_bytes, Ok, Option, Some, None, ⊤, All, option_map}
 use Rattle.std.specs.Str.Lines.{lines}
+use Rattle.std.specs.declared.alloc.Global.{Global}
 use Rattle.check_report.specs.Printing.{printed_text, printed_json, printed_annotations, printed_page, printed_junit, printed_sarif}
 use Rattle.check_report.specs.Text.{is_broken}
 use Rattle.check_report.specs.declared.value.Findings.{Findings}
@@ -17,10 +18,16 @@ use Rattle.crawl_pages.specs.declared.page.Page.{Page}
 use Rattle.crawl_pages.specs.declared.page.PageResult.{PageResult}
 use Rattle.mercator_site.specs.Asks.{Asks}
 use Rattle.mercator_site.specs.External.{AreExternal, Row, host_root, row_of}
+use Rattle.mercator_site.specs.Maps.{names_of, unmapped}
 use Rattle.mercator_site.specs.Own.{AreOwn, own_of}
 use Rattle.mercator_site.specs.declared.options.CheckForm.{CheckForm}
 use Rattle.mercator_site.specs.declared.options.CheckForm.TheVariants as form
 use Rattle.saved_site.specs.Aliases.{alias_page}
+use Rattle.saved_site.specs.AllPages.{IsWebOf}
+use Rattle.site_files.specs.Bodies.{contents_at}
+use Rattle.site_files.specs.Files.{IsOfNames, server_of}
+use Rattle.site_files.specs.Serving.{Serves, folder_with}
+use Rattle.site_files.specs.declared.rules.Rules.{Rules}
 use Rattle.site_files.specs.Below.{IsTop}
 use Rattle.saved_site.specs.Below.{IsWebBelow}
 use Rattle.saved_site.specs.Meaning.{IsSiteWeb}
@@ -99,61 +106,67 @@ pub record IsReport (checked : Checked) (others : Option (List Row)) (name : Lis
   pub others_listed : other_rows contents ≡ others
   pub written : text ≡ printed_check asks.report.form contents found
 
--- the text reports the missing pages and the redirects of such a crawl below the top, each with the number of pages that link
--- to it, the invalid links, if they are reported, the missing pages on the site's host that are not below the top, and the entries
--- that match nothing. Its totals count the pages at the own URLs of files, those of some documents apart, their links, the pages at
--- these aliases, and the rows.
+-- the text reports what is found on a site in these results of a crawl: in `own`, those of the site's own URLs, the missing pages and the
+-- redirects, each with the number of pages that link to it, and the invalid links, if they are reported; in `pages`, all results, the
+-- missing pages on the site's host that are not below the top and that no folder of a map has; and the entries that match nothing. Its
+-- totals count the pages at the own URLs of files, those of some documents apart, their links, the pages at these aliases, and the rows.
 -- Something is broken if there is a row of a missing page or anchor, of an invalid link, or of a link that leads out of the site; or
 -- a document that no sitemap lists, if these are reported
-pub record IsCheck (top web : List ℕ) (aliases : List Alias) (asks : Asks) (broken : Bool) (text : List ℕ) : Type 0 where
-  pub pages : List PageResult
-  pub crawled : IsTopCrawl top web asks.reachable asks.seeds pages
-  pub own : List PageResult
-  pub are_own : own ≡ own_of crawled.url pages
+pub record IsFindings (name : List ℕ) (site : SiteFiles) (own pages : List PageResult) (aliases : List Alias) (asks : Asks) (broken : Bool) (text : List ℕ) : Type 0 where
   pub found : Findings
+  pub base : found.base.now ≡ name
   pub ways : map way_of found.redirects.now ≡ redirects_of asks.front own
   -- the own URLs of documents
   pub documents : List (List ℕ)
   pub totals : found.totals ≡ totals_of aliases documents own found.broken.now found.redirects.now
-  -- the rows are those of a site with this top, and external links lead to other hosts than the site's
-  pub site : SiteFiles
-  pub site_top : string_bytes site.site.top ≡ top
   -- what is known of the links of these pages
   pub places : List LinkPlaces
-  pub rows : AreReported asks.front asks.entries (texts_if asks.invalid places own) asks.rooted site own pages found.broken.now (map string_bytes found.unused_ignores.now)
+  pub rows : AreReported asks.front asks.entries (texts_if asks.invalid places own) asks.rooted (names_of asks.folders) site own (unmapped asks.folders pages) found.broken.now (map string_bytes found.unused_ignores.now)
   pub is_broken : broken ≡ not (length found.broken.now == 0) || (asks.report.lists.unlisted && not (length found.unlisted.now == 0))
   pub contents : Contents
   pub lists : contents.lists ≡ asks.report.lists
   pub folder : contents.folder.now ≡ asks.folder
   pub source_url : contents.source_url.now ≡ asks.source_url
+  -- external links lead to other hosts than the site's
   pub others : AreOthersListed asks.report.external (host_root site) own (other_rows contents)
   pub written : text ≡ printed_check asks.report.form contents found
 
--- the same, and the site has this name in the text
-pub record IsNamedCheck (name top web : List ℕ) (aliases : List Alias) (asks : Asks) (broken : Bool) (text : List ℕ) : Type 0 where
-  pub check : IsCheck top web aliases asks broken text
-  pub base : check.found.base.now ≡ name
+-- the text reports what is found in the results of a crawl of the saved web below the top, on a site with this name and this top
+pub record IsCheck (name top web : List ℕ) (aliases : List Alias) (asks : Asks) (broken : Bool) (text : List ℕ) : Type 0 where
+  pub pages : List PageResult
+  pub crawled : IsTopCrawl top web asks.reachable asks.seeds pages
+  pub own : List PageResult
+  pub are_own : own ≡ own_of crawled.url pages
+  pub site : SiteFiles
+  pub site_top : string_bytes site.site.top ≡ top
+  pub findings : IsFindings name site own pages aliases asks broken text
 
 -- the page of each alias in the saved web has one link, to the own URL of the alias's file
 abbrev pub AreAliasesIn : List ℕ → List Alias → Type 0
 AreAliasesIn web aliases = All (λ alias. page_of (lines web) alias.url ≡ alias_page alias) aliases
 
--- such a check, of the saved web of a site with these aliases
-pub record IsSiteCheck (asks : Asks) (broken : Bool) (text : List ℕ) : Type 0 where
-  pub top : List ℕ
+-- what can be read of the file with an index: only the body of this file, or anything
+abbrev pub IsBody : List (Vec ℕ Global) → ℕ → Option (List ℕ) → Type 0
+IsBody bodies index found = found ≡ contents_at bodies index
+
+abbrev pub IsAny : ℕ → Option (List ℕ) → Type 0
+IsAny index found = Unit {0}
+
+-- such a check, of the saved web of a site with some aliases, whose pages are below the top. They are those that a server returns for
+-- these files, of which this can be read
+pub record IsSiteCheck (files : SiteFiles) (reads : ℕ → Option (List ℕ) → Type 0) (name top : List ℕ) (asks : Asks) (broken : Bool) (text : List ℕ) : Type 0 where
   pub web : List ℕ
   pub made : IsSiteWeb web
+  pub of_files : IsWebOf files reads web
+  pub below : IsWebBelow top web
   pub aliases : List Alias
   pub are_aliases : AreAliasesIn web aliases
-  pub checked : IsCheck top web aliases asks broken text
+  pub checked : IsCheck name top web aliases asks broken text
 
--- the same, and the site has this name in the text
-pub record IsNamedSiteCheck (name : List ℕ) (asks : Asks) (broken : Bool) (text : List ℕ) : Type 0 where
-  pub site : IsSiteCheck asks broken text
-  pub base : site.checked.found.base.now ≡ name
-
--- such a check, of a site whose pages are below the top of BASE
-pub record IsSiteCheckAt (base : List ℕ) (asks : Asks) (broken : Bool) (text : List ℕ) : Type 0 where
-  pub site : IsSiteCheck asks broken text
-  pub is_top : IsTop base site.top
-  pub below : IsWebBelow site.top site.web
+-- such a check, of the files with these names and bodies, whose top is that of BASE. A server answers for them as it does for a folder
+pub record IsSiteCheckAt (names : List (String Global)) (bodies : List (Vec ℕ Global)) (rules : Rules) (name base : List ℕ) (asks : Asks) (broken : Bool) (text : List ℕ) : Type 0 where
+  pub files : SiteFiles
+  pub of_names : IsOfNames names rules files
+  pub server : Serves (server_of files) (folder_with names []) files.pages files.linked
+  pub is_top : IsTop base (string_bytes files.site.top)
+  pub site : IsSiteCheck files (IsBody bodies) name (string_bytes files.site.top) asks broken text

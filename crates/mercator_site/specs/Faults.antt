@@ -62,9 +62,13 @@ pub record IsTopIncomplete (top web : List ℕ) (reachable : Bool) (links : List
   pub sound : IsSound (lines web)
   pub unfinished : IsUnfinished workers
 
--- the crawl of a check is incomplete: that of the saved web of a site
-pub record IsSiteIncomplete (options : CheckOptions) : Type 0 where
-  pub top : List ℕ
+-- a crawl of the saved web of a site with this top is incomplete
+pub record IsIncompleteAt (top : List ℕ) (reachable : Bool) (links : List (List ℕ)) (workers : ℕ) : Type 0 where
   pub web : List ℕ
   pub made : IsSiteWeb web
-  pub crawl : IsTopIncomplete top web options.reachable (seeds_of options) options.workers
+  pub crawl : IsTopIncomplete top web reachable links workers
+
+-- the crawl of a check is incomplete
+pub record IsSiteIncomplete (options : CheckOptions) : Type 0 where
+  pub top : List ℕ
+  pub incomplete : IsIncompleteAt top options.reachable (seeds_of options) options.workers

@@ -3,6 +3,7 @@ pub mod Checks
 pub mod Ends
 pub mod External
 pub mod Faults
+pub mod Maps
 pub mod Own
 pub mod Rules
 pub mod Seeds

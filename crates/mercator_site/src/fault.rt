@@ -22,6 +22,10 @@ pub enum SiteFault {
     List(ListError),
     /// No URL of the site list is below BASE.
     NoneListed,
+    /// The folder of a map, which has this name with its hidden characters escaped, cannot be read.
+    CannotReadMap(String),
+    /// The folder of a map, which has this name with its hidden characters escaped, has no files.
+    NoMapFiles(String),
     /// A seed is not a URL below BASE.
     BadSeed,
     /// There is no page at this link, which is a seed with its hidden characters escaped, or `./`, the top.
@@ -30,6 +34,8 @@ pub enum SiteFault {
     NoDocuments,
     /// The saved web exceeds the limit of a crawl.
     TooLarge,
+    /// Not every page of the site was made, which would be a bug.
+    PagesLost,
     /// The crawl of the site failed. The reason is never that memory ran out.
     Crawl(CrawlFailure),
     /// An allocation failed.

@@ -1,7 +1,7 @@
 //! A folder's saved web, and the report of its check.
-ghost use Rattle.std.specs.Prelude.{◌≡◌, ℕ, List, [], IfErr, IfOk, if◌then◌else◌, map, string_bytes, false, true};
+ghost use Rattle.std.specs.Prelude.{◌≡◌, IfErr, IfOk, map, string_bytes, false, true};
 ghost use Rattle.mercator_site.specs.Asks.{asks_in, asks_with};
-ghost use Rattle.mercator_site.specs.Ends.{IsFolderCheck};
+ghost use Rattle.mercator_site.specs.Ends.{IsCheckOf, IsFolderCheck, front_of, name_of};
 ghost use Rattle.mercator_site.specs.Faults.{IsSiteIncomplete, is_unfinished};
 ghost use Rattle.mercator_site.specs.Rules.{AreCheckRules, AreRules};
 ghost use Rattle.saved_site.specs.Below.{IsWebAt};
@@ -9,13 +9,12 @@ ghost use Rattle.saved_site.specs.Meaning.{IsSiteWeb};
 ghost use Rattle.site_check.specs.Ignored.{entries_in};
 ghost use Rattle.site_files.specs.Below.{IsTop};
 
-use crate::check::{CheckReport, CheckSettings, report_of_pages};
+use crate::check::{CheckReport, CheckSettings, report_of_site};
 use crate::fault::SiteFault;
-use crate::notes::push_page_notes;
+use crate::mapped::{MapNames, MappedFolder, map_names, mapped_folders};
 use crate::options::{CheckOptions, SiteOptions};
 use crate::seeds::seed_links;
-use crate::start::check_starts;
-use saved_site::{OnDisk, Web, WebText, site_pages, site_web};
+use saved_site::{OnDisk, Web, WebText, site_web};
 use site_check::read_ignores;
 use site_files::{
     FolderNames, Note, Rules, SiteFiles, SiteList, SiteNames, folder_names, read_site_list,
@@ -70,7 +69,7 @@ fn push_index_files(alloc: Global, names: &mut Vec<String>) -> Result<(), AllocE
 }
 
 /// The rules of a check: with the positions of links, and with anchors if they are checked. Without BASE, the root is the top.
-fn check_rules(alloc: Global, options: &CheckOptions) -> Result<Rules, AllocError>
+pub(crate) fn check_rules(alloc: Global, options: &CheckOptions) -> Result<Rules, AllocError>
     ensures { IfOk result (AreCheckRules options.now) }
 {
     let mut rules = rules_of(alloc, &options.site)?;
@@ -80,15 +79,22 @@ fn check_rules(alloc: Global, options: &CheckOptions) -> Result<Rules, AllocErro
     Ok(rules)
 }
 
+/// The rules of the folders of maps: those of a check, but no site list has their URLs.
+fn map_rules(alloc: Global, options: &SiteOptions) -> Result<Rules, AllocError> {
+    let mut rules = rules_of(alloc, options)?;
+    rules.exact = options.exact;
+    Ok(rules)
+}
+
 /// The names of a site's files: those in a folder, or those of a site list.
 #[derive(Drop)]
-enum Names {
+pub(crate) enum Names {
     Folder(FolderNames),
     List(SiteList),
 }
 
 /// The names in a folder, or those in the bytes of a site list. Appends a note about each name in the folder that is skipped.
-fn names_of<R: Files<File: Send, Dir: Send> + Threads + Sync>(
+pub(crate) fn names_of<R: Files<File: Send, Dir: Send> + Threads + Sync>(
     rt: &R,
     alloc: Global,
     folder: &str,
@@ -107,7 +113,7 @@ fn names_of<R: Files<File: Send, Dir: Send> + Threads + Sync>(
 }
 
 /// The pages of a site with these names.
-fn files_of<'a>(
+pub(crate) fn files_of<'a>(
     alloc: Global,
     names: &'a Names,
     base: &'a str,
@@ -164,8 +170,9 @@ pub fn web_of_folder<R: Files<File: Send, Dir: Send> + Threads + Sync>(
 /// targets that equal or begin with one of its lines are ignored. Appends a note about everything that is skipped or changed.
 ///
 /// # Errors
-/// `CannotReadFolder`, `List`, `BadBase`, `NoFiles`, `NoneListed`, `BadSeed`, `NoStart`, `NoDocuments`, `TooLarge`, `BadHost`,
-/// `NoMemory`; `Crawl` if the crawl is incomplete. The notes about the names of the folder stay after an error.
+/// `CannotReadFolder`, `List`, `CannotReadMap`, `NoMapFiles`, `BadBase`, `NoFiles`, `NoneListed`, `BadSeed`, `NoStart`, `NoDocuments`,
+/// `TooLarge`, `PagesLost`, `BadHost`, `NoMemory`; `Crawl` if the crawl is incomplete. The notes about the names of the folder stay
+/// after an error.
 pub fn report_of_folder<R: Files<File: Send, Dir: Send> + Threads + Wait + Sync>(
     rt: &R,
     alloc: Global,
@@ -181,38 +188,86 @@ pub fn report_of_folder<R: Files<File: Send, Dir: Send> + Threads + Wait + Sync>
     let rules = check_rules(alloc, options)?;
     let folder = options.site.folder.as_str();
     let names = names_of(rt, alloc, folder, &rules, list, notes)?;
-    let files = files_of(alloc, &names, options.site.base.as_str(), &rules)?;
+    let map_rules = map_rules(alloc, &options.site)?;
+    let maps = map_names(rt, alloc, options.maps.as_slice(), &map_rules)?;
+    let read = ReadFolder {
+        names: &names,
+        rules: &rules,
+        maps: maps.as_slice(),
+        map_rules: &map_rules,
+        known: known.as_slice(),
+    };
+    report_of_names(rt, alloc, options, read, notes)
+}
+
+/// What is read before a check: the names and the rules of a folder and of the folders of maps, and the entries of the ignore list.
+#[derive(Clone, Copy)]
+struct ReadFolder<'a> {
+    names: &'a Names,
+    rules: &'a Rules,
+    maps: &'a [MapNames<'a>],
+    map_rules: &'a Rules,
+    known: &'a [String],
+}
+
+/// Checks a folder whose names were read.
+fn report_of_names<R: Files<File: Send, Dir: Send> + Threads + Wait + Sync>(
+    rt: &R,
+    alloc: Global,
+    options: &CheckOptions,
+    read: ReadFolder<'_>,
+    notes: &mut Vec<Note>,
+) -> Result<CheckReport, SiteFault>
+    ensures checked { IfOk result (λ report. IsCheckOf options.now (map (λ one. one.map.now) read.entry.maps.now) (map string_bytes read.entry.known.now) report.is_broken report.text.items) }
+    ensures incomplete { IfErr result (λ fault. is_unfinished fault ≡ true → IsSiteIncomplete options.now) }
+{
+    let files = files_of(alloc, read.names, options.site.base.as_str(), read.rules)?;
+    let folders = mapped_folders(alloc, read.maps, read.map_rules)?;
     let seeds = seed_links(alloc, options.paths, options.seeds.as_slice())?;
-    let settings = settings_of(options, files.top(), seeds.as_slice(), known.as_slice());
-    check_starts(alloc, &files, settings.seeds, settings.reachable)?;
+    let found = FolderInput {
+        top: files.top(),
+        seeds: seeds.as_slice(),
+        known: read.known,
+        maps: folders.as_slice(),
+    };
+    let settings = settings_of(options, found);
+    let folder = options.site.folder.as_str();
     let bytes = OnDisk { rt, alloc, folder };
-    let site = site_pages(rt, alloc, &files, settings.seeds, &bytes)?;
-    push_page_notes(alloc, notes, settings.front, site.notes.as_slice())?;
-    let report = report_of_pages(rt, alloc, site, &files, &bytes, settings)?;
-    Ok(report)
+    report_of_site(rt, alloc, &files, &bytes, settings, notes)
+}
+
+/// What the settings of a check of a folder have that is not in its options.
+#[derive(Clone, Copy)]
+pub(crate) struct FolderInput<'a> {
+    /// The URL of the top.
+    pub(crate) top: &'a str,
+    /// The links at which the search starts.
+    pub(crate) seeds: &'a [String],
+    /// The entries of the ignore list.
+    pub(crate) known: &'a [String],
+    /// The folders of the maps.
+    pub(crate) maps: &'a [MappedFolder<'a>],
 }
 
 /// The settings of the check. Without BASE the site has the name of the folder, and URLs are printed without the top's URL.
-fn settings_of<'a>(
+pub(crate) fn settings_of<'a>(
     options: &'a CheckOptions,
-    top: &'a str,
-    seeds: &'a [String],
-    known: &'a [String],
+    found: FolderInput<'a>,
 ) -> CheckSettings<'a>
-    ensures asks { asks_in result ≡ asks_with options.now (map string_bytes seeds.now) result.front.now (map string_bytes known.now) }
+    ensures asks { asks_in result ≡ asks_with options.now (map string_bytes found.entry.seeds.now) (front_of options.now found.entry.top.now) (map string_bytes found.entry.known.now) found.entry.maps.now }
     ensures workers { result.workers ≡ options.now.workers }
-    ensures front { result.front.now ≡ (if options.now.paths then top.now else []) }
-    ensures name { result.name.now ≡ (if options.now.paths then string_bytes options.now.site.folder else top.now) }
+    ensures name { result.name.now ≡ name_of options.now found.entry.top.now }
 {
     CheckSettings {
         workers: options.workers,
-        name: name_of(options, top),
-        front: front_of(options.paths, top),
-        ignores: known,
-        seeds,
+        name: name_of(options, found.top),
+        front: front_of(options, found.top),
+        ignores: found.known,
+        seeds: found.seeds,
         reachable: options.reachable,
         invalid: options.invalid,
         rooted: options.paths,
+        maps: found.maps,
         report: options.report,
         folder: options.site.folder.as_str(),
         source_url: options.source_url.as_str(),
@@ -221,7 +276,7 @@ fn settings_of<'a>(
 
 /// The name of the site: the folder if the report has paths, otherwise the URL of the top.
 fn name_of<'a>(options: &'a CheckOptions, top: &'a str) -> &'a str
-    ensures { result.now ≡ (if options.now.paths then string_bytes options.now.site.folder else top.now) }
+    ensures { result.now ≡ name_of options.now top.now }
 {
     if options.paths {
         options.site.folder.as_str()
@@ -231,8 +286,8 @@ fn name_of<'a>(options: &'a CheckOptions, top: &'a str) -> &'a str
 }
 
 /// The prefix that is removed from each URL.
-fn front_of(paths: bool, top: &str) -> &str
-    ensures { result.now ≡ (if paths then top.now else []) }
+fn front_of<'a>(options: &CheckOptions, top: &'a str) -> &'a str
+    ensures { result.now ≡ front_of options.now top.now }
 {
-    if paths { top } else { "" }
+    if options.paths { top } else { "" }
 }

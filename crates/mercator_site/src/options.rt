@@ -1,4 +1,5 @@
 //! The settings of a saved web of a folder and of its check.
+use crate::maps::FolderMap;
 use check_report::Lists;
 
 /// The form of a report.
@@ -19,6 +20,17 @@ pub enum CheckForm {
     Junit,
     /// SARIF 2.1.0, as JSON.
     Sarif,
+}
+
+/// Whether links are rewritten.
+#[derive(Clone, Copy, Debug, PartialEq, Eq)]
+pub enum Fix {
+    /// No.
+    Off,
+    /// No, but the changes are printed as a diff, in place of the report.
+    Diff,
+    /// Yes, before the check.
+    Write,
 }
 
 impl Default for CheckForm {
@@ -73,8 +85,12 @@ pub struct CheckOptions {
     pub report: ReportOptions,
     /// The URL of the folder's sources, with which the URLs of locations begin in an HTML page and in SARIF; empty for none.
     pub source_url: String,
+    /// The folders in which links are looked up that lead out of the site.
+    pub maps: Vec<FolderMap>,
     /// The links on the top at which the search starts; if there are none, it starts at the top.
     pub seeds: Vec<String>,
     /// Whether only what the search reaches is checked, and not all documents.
     pub reachable: bool,
+    /// Whether links are rewritten.
+    pub fix: Fix,
 }

@@ -21,7 +21,7 @@ pub(crate) fn seed_links(
 }
 
 /// The link at which a search starts.
-fn seed_link(alloc: Global, rooted: bool, link: &str) -> Result<String, AllocError>
+pub(crate) fn seed_link(alloc: Global, rooted: bool, link: &str) -> Result<String, AllocError>
     ensures { IfOk result (λ seed. string_bytes seed ≡ seed_link rooted link.now) }
 {
     let mut seed = String::new(alloc);

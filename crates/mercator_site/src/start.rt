@@ -3,6 +3,7 @@ ghost use Rattle.std.specs.Prelude.{◌≡◌, ◌∷◌, [], true, IfErr, IfOk,
 ghost use Rattle.crawl_keys.specs.CanonicalText.{resolve};
 ghost use Rattle.mercator_site.specs.Checks.{is_left_out, starts};
 ghost use Rattle.mercator_site.specs.Faults.{is_unfinished};
+ghost use Rattle.mercator_site.specs.Maps.{has_page};
 ghost use Rattle.mercator_site.specs.Own.{AreOwn};
 ghost use Rattle.saved_site.specs.Linked.{page_at};
 ghost use Rattle.site_files.specs.Below.{begins};
@@ -60,8 +61,15 @@ fn check_links(
     Ok(())
 }
 
-/// Whether a server returns a page of the site for a URL.
-fn has_page(alloc: Global, files: &SiteFiles<'_>, url: &CanonUrl) -> Result<bool, AllocError> {
+/// Whether a server returns a page of these files for a URL, or a redirect.
+#[tactic(auto, using(crate::proofs::Served::found_at_once, crate::proofs::Served::found_by_look_up, crate::proofs::Served::lacks_entry))]
+pub(crate) fn has_page(
+    alloc: Global,
+    files: &SiteFiles<'_>,
+    url: &CanonUrl,
+) -> Result<bool, AllocError>
+    ensures { IfOk result (λ is. is ≡ has_page files.now url.now) }
+{
     if files.find(url.as_str()).is_some() {
         return Ok(true);
     }

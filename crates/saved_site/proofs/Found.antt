@@ -35,8 +35,8 @@ under_is (Links texts) pages url fit all =
     ap (λ (o : Option (List ℕ)). page_with url o (link_texts (links texts ++ flat_map page_lines pages))) (links_no_move texts pages fit all)
     ∙ ap (λ (ts : List (List ℕ)). page_with url None ts) (links_texts texts pages fit all)
 under_is (Moved text) pages url fit all =
-    let behind : List (List ℕ) = flat_map page_lines pages in
-    ap (λ (said : Line (List ℕ)). page_with url (put_moved said (moved_text behind)) (link_texts ((codes "moved " ++ text) ∷ behind))) (lemma.says_moved text fit).of_line
+    let after : List (List ℕ) = flat_map page_lines pages in
+    ap (λ (said : Line (List ℕ)). page_with url (put_moved said (moved_text after)) (link_texts ((codes "moved " ++ text) ∷ after))) (lemma.says_moved text fit).of_line
 
 -- ---- no page begins under another
 

@@ -6,9 +6,11 @@ pub mod Lines
 pub mod LinkIndices
 pub mod ListedUrls
 pub mod Linkers
-pub mod Parts
 pub mod Says
+pub mod SiteLaws
 pub mod SiteSource
 pub mod SiteTexts
 pub mod Sound
+pub mod TaskPages
+pub mod Threads
 pub mod WebTexts

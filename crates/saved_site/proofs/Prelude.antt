@@ -13,7 +13,7 @@ pub use Rattle.saved_site.specs.LinkTables.{AreKnown, AreOfFolder, IsTableOf, Le
 pub use Rattle.saved_site.specs.Linked.{AreKept, IsKept, IsSiteSource, PageFound, found_of, page_at, page_with, with_found}
 pub use Rattle.saved_site.specs.LinkedPages.{AreLed, IsLed, found_all, found_in, page_led, urls_of}
 pub use Rattle.saved_site.specs.Meaning.{IsSiteWeb, page_in, under_page}
-pub use Rattle.saved_site.specs.Pages.{AscendsBehind, IsPage, ascending_behind, fits_under, is_behind, link_line, link_lines, moved_line, page_line, page_text, under_text, web_text}
+pub use Rattle.saved_site.specs.Pages.{AscendsAfter, IsPage, ascending_after, fits_under, is_after, link_line, link_lines, moved_line, page_line, page_text, under_text, web_text}
 pub use Rattle.saved_site.specs.WebTexts.{AreInOrder, IsPageText, TextAt, last_url, web_bytes}
 pub use Rattle.saved_site.specs.declared.linked.linked_page.LinkedPage.{LinkedPage}
 pub use Rattle.saved_site.specs.declared.page.SitePage.{SitePage}

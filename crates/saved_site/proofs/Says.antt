@@ -15,8 +15,8 @@ pub record Says (line : List ℕ) (said : Line (List ℕ)) : Type 0 where
   pub of_text : line_of_text line ≡ said
   pub of_line : line_of line ≡ said
 
-behind_front : (front text : List ℕ) (n : ℕ) (said : Line (List ℕ)) → length front ≡ n → IsUtf8 front → fits n text ≡ true → line_of_text (front ++ text) ≡ said → Says (front ++ text) said
-behind_front front text n said long utf8 fit is =
+says_with : (front text : List ℕ) (n : ℕ) (said : Line (List ℕ)) → length front ≡ n → IsUtf8 front → fits n text ≡ true → line_of_text (front ++ text) ≡ said → Says (front ++ text) said
+says_with front text n said long utf8 fit is =
     let parts = and_parts (nat_le (n + length text) line_limit) _ fit in
     let more = and_parts (is_utf8 text) (list_all is_inner text) parts.1 in
     let whole : IsUtf8 (front ++ text) = IsUtf8-append front text utf8 (IsUtf8-from_is_utf8 text more.0) in
@@ -38,7 +38,7 @@ at_page : (url : List ℕ) → at_space (codes "page " ++ url) ≡ Some (codes "
 at_page url = grind (arith, cond-true, lt-ltb, length-append)
 
 pub says_page : (url : List ℕ) → fits 5 url ≡ true → Says (codes "page " ++ url) (line_says.Page url)
-says_page url fit = search (rules, tests, arith, behind_front, page_utf8, at_page)
+says_page url fit = search (rules, tests, arith, says_with, page_utf8, at_page)
 
 -- ---- a link
 
@@ -50,7 +50,7 @@ at_link : (text : List ℕ) → at_space (codes "link " ++ text) ≡ Some (codes
 at_link text = grind (arith, cond-true, lt-ltb, length-append)
 
 pub says_link : (text : List ℕ) → fits 5 text ≡ true → Says (codes "link " ++ text) (line_says.Link text)
-says_link text fit = search (rules, tests, arith, behind_front, link_utf8, at_link)
+says_link text fit = search (rules, tests, arith, says_with, link_utf8, at_link)
 
 -- ---- a redirect
 
@@ -62,7 +62,7 @@ at_moved : (text : List ℕ) → at_space (codes "moved " ++ text) ≡ Some (cod
 at_moved text = grind (arith, cond-true, lt-ltb, length-append)
 
 pub says_moved : (text : List ℕ) → fits 6 text ≡ true → Says (codes "moved " ++ text) (line_says.Moved text)
-says_moved text fit = search (rules, tests, arith, behind_front, moved_utf8, at_moved)
+says_moved text fit = search (rules, tests, arith, says_with, moved_utf8, at_moved)
 
 -- ---- the first line
 

@@ -1,5 +1,5 @@
 -- The pages of a site are those of its saved web, whatever order they come in.
-use Rattle.saved_site.proofs.Prelude.{◌≡◌, ℕ, Bool, true, List, [], ◌∷◌, refl, sym, ap, ◌∙◌, arith, if◌then◌else◌, slice_cmp, is_lt, is_eq, nat_cmp, ordering_reverse, Ordering, Less, Equal, Greater, bytes_eq, and_parts, nat_list_cmp_total, tied_itself, All-head, All-tail, is_eq-slice_cmp, bytes_eq-Decides, Page, PageFound, page_at, IsKept, AreKept, IsSiteSource, page_in, under_page, web_text, is_behind, AscendsBehind, IsPage, SitePage, is_below}
+use Rattle.saved_site.proofs.Prelude.{◌≡◌, ℕ, Bool, true, List, [], ◌∷◌, refl, sym, ap, ◌∙◌, arith, if◌then◌else◌, slice_cmp, is_lt, is_eq, nat_cmp, ordering_reverse, Ordering, Less, Equal, Greater, bytes_eq, and_parts, nat_list_cmp_total, tied_itself, All-head, All-tail, is_eq-slice_cmp, bytes_eq-Decides, Page, PageFound, page_at, IsKept, AreKept, IsSiteSource, page_in, under_page, web_text, is_after, AscendsAfter, IsPage, SitePage, is_below}
 use Rattle.saved_site.proofs.Found.{AreBelow, web_at}
 use Rattle.saved_site.proofs.Sound.{AllPages}
 use Rattle.saved_site.proofs.WebTexts.{site_below, site_web}
@@ -16,8 +16,8 @@ abbrev put : SitePage → List SitePage → List SitePage
 put page [] = page ∷ []
 put page (first ∷ more) = put_by (slice_cmp nat_cmp page.url first.url) page first more (put page more)
 
-behind_back : (page first : SitePage) → slice_cmp nat_cmp page.url first.url ≡ Greater → is_behind first.url page.url ≡ true
-behind_back page first is = ap is_lt (nat_list_cmp_total.antisymm first.url page.url ∙ ap ordering_reverse is)
+after_back : (page first : SitePage) → slice_cmp nat_cmp page.url first.url ≡ Greater → is_after first.url page.url ≡ true
+after_back page first is = ap is_lt (nat_list_cmp_total.antisymm first.url page.url ∙ ap ordering_reverse is)
 
 one_url : (page first : SitePage) → slice_cmp nat_cmp page.url first.url ≡ Equal → page.url ≡ first.url
 one_url page first is = (bytes_eq-Decides page.url first.url).0 (sym (is_eq-slice_cmp page.url first.url) ∙ ap is_eq is)
@@ -37,9 +37,9 @@ below_put top page (first ∷ more) is all = grind (arith, below_put top page mo
 
 -- ---- they ascend
 
-up_put : (last : List ℕ) (page : SitePage) (pages : List SitePage) → is_behind last page.url ≡ true → AscendsBehind last pages → AscendsBehind last (put page pages)
-up_put last page [] behind up = (behind, tt)
-up_put last page (first ∷ more) behind up = grind (arith, up_put first.url page more, one_url, behind_back)
+up_put : (last : List ℕ) (page : SitePage) (pages : List SitePage) → is_after last page.url ≡ true → AscendsAfter last pages → AscendsAfter last (put page pages)
+up_put last page [] after up = (after, tt)
+up_put last page (first ∷ more) after up = grind (arith, up_put first.url page more, one_url, after_back)
 
 -- ---- the page at a URL
 
@@ -58,20 +58,20 @@ in_put page (first ∷ more) url = grind (arith, in_put page more url, one_of_tw
 record Ordered (top : List ℕ) (pages : List PageFound) : Type 0 where
   list : List SitePage
   all : AllPages list
-  up : AscendsBehind [] list
+  up : AscendsAfter [] list
   below : AreBelow top list
   same : (url : List ℕ) → page_in list url ≡ page_at pages url
 
 same_under : (page : SitePage) (url : List ℕ) (b : Bool) (rest : Page) → bytes_eq page.url url ≡ b → (if b then under_page url page.under else rest) ≡ (if b then under_page page.url page.under else rest)
 same_under page url b rest is = grind (arith, bytes_eq-Decides)
 
-ordered : (top : List ℕ) (pages : List PageFound) → AreKept top pages → Ordered top pages
-ordered top [] kept = record { list = []; all = tt; up = tt; below = tt; same = λ url. refl }
-ordered top (found ∷ more) kept =
-    let own : IsKept top found = All-head (IsKept top) found more kept in
-    let rest : Ordered top more = ordered top more (All-tail (IsKept top) found more kept) in
+ordered : (serves : SitePage → Type 0) (top : List ℕ) (pages : List PageFound) → AreKept serves top pages → Ordered top pages
+ordered serves top [] kept = record { list = []; all = tt; up = tt; below = tt; same = λ url. refl }
+ordered serves top (found ∷ more) kept =
+    let own : IsKept serves top found = All-head (IsKept serves top) found more kept in
+    let rest : Ordered top more = ordered serves top more (All-tail (IsKept serves top) found more kept) in
     let page : SitePage = own.page in
-    let keeps = and_parts (is_behind [] page.url) (is_below top page.url) own.kept in
+    let keeps = and_parts (is_after [] page.url) (is_below top page.url) own.kept in
     record {
       list = put page rest.list;
       all = all_put page rest.list own.owes rest.all;
@@ -84,9 +84,9 @@ ordered top (found ∷ more) kept =
           ∙ ap (λ (f : PageFound). page_at (f ∷ more) url) (sym own.is);
     }
 
-pub site_source : (top : List ℕ) (pages : List PageFound) → AreKept top pages → IsSiteSource top pages
-site_source top pages kept =
-    let o = ordered top pages kept in
+pub site_source : (serves : SitePage → Type 0) (top : List ℕ) (pages : List PageFound) → AreKept serves top pages → IsSiteSource top pages
+site_source serves top pages kept =
+    let o = ordered serves top pages kept in
     record {
       bytes = web_text o.list;
       web = site_web o.list o.all o.up;

@@ -1,5 +1,5 @@
 -- The lines of pages in order are a saved web.
-use Rattle.saved_site.proofs.Prelude.{◌≡◌, ℕ, ◌+◌, ◌<◌, Bool, true, false, ◌||◌, List, [], ◌∷◌, ◌++◌, length, Some, None, codes, refl, sym, ap, subst, ◌∙◌, arith, append_assoc, append-nil, length-append, Result, if◌then◌else◌, slice_cmp, list_any, flat_map, option_map_or, is_lt, is_eq, nat_cmp, Ordering, bytes_eq, lines, Less, and_parts, or_from, cond-true, cond-false, nat_list_cmp_total, is_eq-slice_cmp, says_page, says_moved, url_said, is_page, is_moved_line, is_link, is_page_at, Line, fits_inner, under_text, page_text, web_text, is_behind, AscendsBehind, fits_under, IsPage, page_line, link_line, link_lines, fits, all_fit, SitePage, Under, Links, Moved}
+use Rattle.saved_site.proofs.Prelude.{◌≡◌, ℕ, ◌+◌, ◌<◌, Bool, true, false, ◌||◌, List, [], ◌∷◌, ◌++◌, length, Some, None, codes, refl, sym, ap, subst, ◌∙◌, arith, append_assoc, append-nil, length-append, Result, if◌then◌else◌, slice_cmp, list_any, flat_map, option_map_or, is_lt, is_eq, nat_cmp, Ordering, bytes_eq, lines, Less, and_parts, or_from, cond-true, cond-false, nat_list_cmp_total, is_eq-slice_cmp, says_page, says_moved, url_said, is_page, is_moved_line, is_link, is_page_at, Line, fits_inner, under_text, page_text, web_text, is_after, AscendsAfter, fits_under, IsPage, page_line, link_line, link_lines, fits, all_fit, SitePage, Under, Links, Moved}
 use Rattle.std.specs.Result.{result_ok}
 use Rattle.std.proofs.lemmas.List.Folds.{list_any-append}
 use Rattle.crawl_keys.specs.declared.error.KeyError.{KeyError}
@@ -94,7 +94,7 @@ links_sound earlier (text ∷ more) fit on =
 record UpTo (earlier : List (List ℕ)) (last : List ℕ) : Type 0 where
   some : 0 < length earlier
   second : is_second earlier ≡ true
-  known : (url : List ℕ) → is_behind last url ≡ true → list_any (is_page_at url) earlier ≡ false
+  known : (url : List ℕ) → is_after last url ≡ true → list_any (is_page_at url) earlier ≡ false
 
 second_push : (earlier more : List (List ℕ)) → 0 < length earlier → is_second earlier ≡ true → is_second (earlier ++ more) ≡ true
 second_push earlier more some second = grind arith
@@ -126,13 +126,13 @@ under_sound earlier page (Moved text) second is fit = (
 lt_less : (o : Ordering) → is_lt o ≡ true → o ≡ Less
 lt_less o e = grind arith
 
-behind_both : (a b c : List ℕ) → is_behind a b ≡ true → is_behind b c ≡ true → is_behind a c ≡ true
-behind_both a b c e f =
+after_both : (a b c : List ℕ) → is_after a b ≡ true → is_after b c ≡ true → is_after a c ≡ true
+after_both a b c e f =
     ap is_lt (nat_list_cmp_total.trans a b c (lt_less (slice_cmp nat_cmp a b) e) (lt_less (slice_cmp nat_cmp b c) f))
 
 -- a URL that is after another is not that one
-behind_other : (a b : List ℕ) → is_behind a b ≡ true → bytes_eq a b ≡ false
-behind_other a b e = sym (is_eq-slice_cmp a b) ∙ ap is_eq (lt_less (slice_cmp nat_cmp a b) e)
+after_other : (a b : List ℕ) → is_after a b ≡ true → bytes_eq a b ≡ false
+after_other a b e = sym (is_eq-slice_cmp a b) ∙ ap is_eq (lt_less (slice_cmp nat_cmp a b) e)
 
 -- ---- which pages the lines are
 
@@ -148,11 +148,11 @@ none_links (text ∷ more) url fit = grind (arith, and_parts, or_from, none_link
 none_under : (under : Under) (url : List ℕ) → fits_under under ≡ true → list_any (is_page_at url) (under_lines under) ≡ false
 none_under under url fit = grind (arith, none_links, or_from)
 
-none_page : (page : SitePage) (url : List ℕ) → IsPage page → is_behind page.url url ≡ true → list_any (is_page_at url) (page_lines page) ≡ false
-none_page page url is behind = grind (arith, or_from, at_page, behind_other, none_under)
+none_page : (page : SitePage) (url : List ℕ) → IsPage page → is_after page.url url ≡ true → list_any (is_page_at url) (page_lines page) ≡ false
+none_page page url is after = grind (arith, or_from, at_page, after_other, none_under)
 
-up_to_page : (earlier : List (List ℕ)) (last : List ℕ) (page : SitePage) → IsPage page → is_behind last page.url ≡ true → UpTo earlier last → UpTo (earlier ++ page_lines page) page.url
-up_to_page earlier last page is behind to = grind (arith, length-append, second_push, list_any-append, or_from, behind_both, none_page)
+up_to_page : (earlier : List (List ℕ)) (last : List ℕ) (page : SitePage) → IsPage page → is_after last page.url ≡ true → UpTo earlier last → UpTo (earlier ++ page_lines page) page.url
+up_to_page earlier last page is after to = grind (arith, length-append, second_push, list_any-append, or_from, after_both, none_page)
 
 -- ---- all pages
 
@@ -160,11 +160,11 @@ is_page_line : (page : SitePage) → IsPage page → is_page (codes "page " ++ p
 is_page_line page is = ap says_page (lemma.says_page page.url is.fit).of_line
 
 -- the page's own line passes
-own_passes : (earlier : List (List ℕ)) (last : List ℕ) (page : SitePage) → IsPage page → is_behind last page.url ≡ true → UpTo earlier last → fault_after earlier (codes "page " ++ page.url) ≡ None
-own_passes earlier last page is behind to =
+own_passes : (earlier : List (List ℕ)) (last : List ℕ) (page : SitePage) → IsPage page → is_after last page.url ≡ true → UpTo earlier last → fault_after earlier (codes "page " ++ page.url) ≡ None
+own_passes earlier last page is after to =
     said_of earlier (codes "page " ++ page.url) (line_says.Page page.url) to.some (lemma.says_page page.url is.fit)
     ∙ ap (page_fault (length earlier + 1) (λ (url : List ℕ). list_any (is_page_at url) earlier)) is.own
-    ∙ page_passes (list_any (is_page_at page.url) earlier) (wrong.PageTwice (length earlier + 1)) (to.known page.url behind)
+    ∙ page_passes (list_any (is_page_at page.url) earlier) (wrong.PageTwice (length earlier + 1)) (to.known page.url after)
 
 sound_join : (earlier xs ys : List (List ℕ)) → SoundAfter fault_after earlier xs → SoundAfter fault_after (earlier ++ xs) ys → SoundAfter fault_after earlier (xs ++ ys)
 sound_join earlier [] ys front back =
@@ -173,10 +173,10 @@ sound_join earlier (x ∷ xs) ys front back =
     let P : List (List ℕ) → Type 0 = λ e. SoundAfter fault_after e ys in
     (front.0, sound_join (earlier ++ x ∷ []) xs ys front.1 (subst P (sym (append_assoc earlier (x ∷ []) xs)) back))
 
-page_sound : (earlier : List (List ℕ)) (last : List ℕ) (page : SitePage) → IsPage page → is_behind last page.url ≡ true → UpTo earlier last → SoundAfter fault_after earlier (page_lines page)
-page_sound earlier last page is behind to = grind (arith, own_passes, under_sound, second_push, is_page_line)
+page_sound : (earlier : List (List ℕ)) (last : List ℕ) (page : SitePage) → IsPage page → is_after last page.url ≡ true → UpTo earlier last → SoundAfter fault_after earlier (page_lines page)
+page_sound earlier last page is after to = grind (arith, own_passes, under_sound, second_push, is_page_line)
 
-pages_sound : (earlier : List (List ℕ)) (last : List ℕ) (pages : List SitePage) → AllPages pages → AscendsBehind last pages → UpTo earlier last → SoundAfter fault_after earlier (flat_map page_lines pages)
+pages_sound : (earlier : List (List ℕ)) (last : List ℕ) (pages : List SitePage) → AllPages pages → AscendsAfter last pages → UpTo earlier last → SoundAfter fault_after earlier (flat_map page_lines pages)
 pages_sound earlier last [] all up to = tt
 pages_sound earlier last (page ∷ more) all up to =
     sound_join earlier (page_lines page) (flat_map page_lines more) (page_sound earlier last page all.0 up.0 to)
@@ -192,5 +192,5 @@ at_header url = grind arith
 header_first : UpTo (codes "savedweb 2" ∷ []) []
 header_first = grind arith
 
-pub web_sound : (pages : List SitePage) → AllPages pages → AscendsBehind [] pages → IsSound (lines (web_text pages))
+pub web_sound : (pages : List SitePage) → AllPages pages → AscendsAfter [] pages → IsSound (lines (web_text pages))
 web_sound pages all up = grind (arith, web_cut, header_sound, pages_sound, header_first)

@@ -1,16 +1,16 @@
 -- The text of a saved web, page by page.
-use Rattle.saved_site.proofs.Prelude.{common_steps, ◌≡◌, ℕ, ◌+◌, ◌<◌, true, List, [], ◌∷◌, ◌++◌, Option, codes, get_or, length, take, refl, sym, ap, subst, ◌∙◌, arith, Appends, append_known, flat_map, and_parts, cond-true, flat_map_more, take_more, IsWebBelow, is_next, IsSiteWeb, page_in, page_text, web_text, is_behind, ascending_behind, AscendsBehind, IsPage, AreInOrder, IsPageText, TextAt, last_url, web_bytes, SitePage, is_below}
+use Rattle.saved_site.proofs.Prelude.{common_steps, ◌≡◌, ℕ, ◌+◌, ◌<◌, true, List, [], ◌∷◌, ◌++◌, Option, codes, get_or, length, take, refl, sym, ap, subst, ◌∙◌, arith, Appends, append_known, flat_map, and_parts, cond-true, flat_map_more, take_more, IsWebBelow, is_next, IsSiteWeb, page_in, page_text, web_text, is_after, ascending_after, AscendsAfter, IsPage, AreInOrder, IsPageText, TextAt, last_url, web_bytes, SitePage, is_below}
 use Rattle.saved_site.proofs.Found.{AreBelow, none_outside, web_at}
 use Rattle.saved_site.proofs.Sound.{AllPages, web_sound}
 
 -- ---- pages that ascend
 
-all_taken : (last : List ℕ) (pages : List SitePage) → AscendsBehind last pages → ascending_behind last pages ≡ pages
+all_taken : (last : List ℕ) (pages : List SitePage) → AscendsAfter last pages → ascending_after last pages ≡ pages
 all_taken last [] up = refl
 all_taken last (page ∷ pages) up = grind (arith, cond-true, all_taken page.url pages up.1)
 
 -- they are read as a saved web
-pub site_web : (pages : List SitePage) → AllPages pages → AscendsBehind [] pages → IsSiteWeb (web_text pages)
+pub site_web : (pages : List SitePage) → AllPages pages → AscendsAfter [] pages → IsSiteWeb (web_text pages)
 site_web pages all up =
     let taken = all_taken [] pages up in
     record {
@@ -42,7 +42,7 @@ record TextPages (top last : List ℕ) (texts : List TextAt) : Type 0 where
   pages : List SitePage
   text : flat_map (λ (t : TextAt). t.1) texts ≡ flat_map page_text pages
   all : AllPages pages
-  up : AscendsBehind last pages
+  up : AscendsAfter last pages
   below : AreBelow top pages
 
 text_pages : (top last : List ℕ) (texts : List TextAt) → AreInOrder top last texts → TextPages top last texts
@@ -50,14 +50,14 @@ text_pages top last [] all = record { pages = []; text = refl; all = tt; up = tt
 text_pages top last (first ∷ more) all =
     let is = all.0 in
     let rest = text_pages top first.0 more all.1.1 in
-    let next = and_parts (is_behind last first.0) (is_below top first.0) all.1.0 in
+    let next = and_parts (is_after last first.0) (is_below top first.0) all.1.0 in
     record {
       pages = is.page ∷ rest.pages;
       text =
           ap (λ (b : List ℕ). b ++ flat_map (λ (t : TextAt). t.1) more) (sym is.told)
           ∙ ap (λ (b : List ℕ). page_text is.page ++ b) rest.text;
       all = (is.owes, rest.all);
-      up = subst (λ (u : List ℕ). (is_behind last u ≡ true) × AscendsBehind u rest.pages) (sym is.there) (next.0, rest.up);
+      up = subst (λ (u : List ℕ). (is_after last u ≡ true) × AscendsAfter u rest.pages) (sym is.there) (next.0, rest.up);
       below = (subst (λ (u : List ℕ). is_below top u ≡ true) (sym is.there) next.1, rest.below);
     }
 

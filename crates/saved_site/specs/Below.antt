@@ -4,11 +4,11 @@ use Rattle.std.specs.Str.Lines.{lines}
 use Rattle.saved_pages.specs.SavedWeb.{page_of}
 use Rattle.crawl_pages.specs.declared.page.Page.TheVariants as page
 use Rattle.site_files.specs.Below.{IsTop, is_below}
-use Rattle.saved_site.specs.Pages.{is_behind}
+use Rattle.saved_site.specs.Pages.{is_after}
 
 -- the URL is below the top, and after the last one
 abbrev pub is_next : List ℕ → List ℕ → List ℕ → Bool
-is_next top last url = is_behind last url && is_below top url
+is_next top last url = is_after last url && is_below top url
 
 -- a saved web has no page but below the top
 pub record IsWebBelow (top bytes : List ℕ) : Type 0 where

@@ -1,4 +1,5 @@
 pub mod Aliases
+pub mod AllPages
 pub mod Below
 pub mod FileLinks
 pub mod LinkTables
@@ -6,6 +7,8 @@ pub mod Linked
 pub mod LinkedPages
 pub mod Meaning
 pub mod Pages
+pub mod Served
 pub mod SiteTexts
 pub mod Sitemaps
+pub mod TaskPages
 pub mod WebTexts

@@ -36,15 +36,16 @@ page_with (first ∷ more) url = if bytes_eq first.0 url then Some first.1 else 
 abbrev pub found_of : SitePage → PageFound
 found_of page = (page.url, under_page page.url page.under)
 
--- what is found is a page of the site's web
-pub record IsKept (top : List ℕ) (found : PageFound) : Type 0 where
+-- what is found is a page of the site's web, and it is served
+pub record IsKept (serves : SitePage → Type 0) (top : List ℕ) (found : PageFound) : Type 0 where
   pub page : SitePage
   pub is : found ≡ found_of page
   pub owes : IsPage page
   pub kept : is_next top [] page.url ≡ true
+  pub served : ∥ serves page ∥₁
 
-abbrev pub AreKept : List ℕ → List PageFound → Type 0
-AreKept top pages = All (IsKept top) pages
+abbrev pub AreKept : (SitePage → Type 0) → List ℕ → List PageFound → Type 0
+AreKept serves top pages = All (IsKept serves top) pages
 
 -- with a page more, unless its URL has one or is not kept
 abbrev pub with_found : List ℕ → List PageFound → PageFound → List PageFound

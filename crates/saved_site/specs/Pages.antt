@@ -36,23 +36,23 @@ web_text pages = codes "savedweb 2" ++ 10 ∷ flat_map page_text pages
 -- ---- their order
 
 -- the URL is after the other, byte by byte
-abbrev pub is_behind : List ℕ → List ℕ → Bool
-is_behind last url = is_lt (slice_cmp nat_cmp last url)
+abbrev pub is_after : List ℕ → List ℕ → Bool
+is_after last url = is_lt (slice_cmp nat_cmp last url)
 
 -- the pages whose URL is after this one and after those of all pages that were taken before
-abbrev pub ascending_behind : List ℕ → List SitePage → List SitePage
-ascending_behind last [] = []
-ascending_behind last (page ∷ more) =
-    if is_behind last page.url then page ∷ ascending_behind page.url more else ascending_behind last more
+abbrev pub ascending_after : List ℕ → List SitePage → List SitePage
+ascending_after last [] = []
+ascending_after last (page ∷ more) =
+    if is_after last page.url then page ∷ ascending_after page.url more else ascending_after last more
 
 -- the pages in order, each URL once; no URL is empty
 abbrev pub ascending : List SitePage → List SitePage
-ascending pages = ascending_behind [] pages
+ascending pages = ascending_after [] pages
 
 -- each URL is after the one before it
-abbrev pub AscendsBehind : List ℕ → List SitePage → Type 0
-AscendsBehind last [] = Unit {0}
-AscendsBehind last (page ∷ more) = (is_behind last page.url ≡ true) × AscendsBehind page.url more
+abbrev pub AscendsAfter : List ℕ → List SitePage → Type 0
+AscendsAfter last [] = Unit {0}
+AscendsAfter last (page ∷ more) = (is_after last page.url ≡ true) × AscendsAfter page.url more
 
 -- ---- what a page owes
 

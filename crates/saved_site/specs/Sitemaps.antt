@@ -5,7 +5,7 @@ use Rattle.std.specs.Option.{option_to_list}
 use Rattle.crawl_pages.specs.declared.page.Page.{Page}
 use Rattle.crawl_pages.specs.declared.page.Page.TheVariants as page
 use Rattle.saved_site.specs.Linked.{PageFound, page_at}
-use Rattle.saved_site.specs.Pages.{is_behind}
+use Rattle.saved_site.specs.Pages.{is_after}
 use Rattle.site_files.specs.Files.{pages_of}
 use Rattle.site_files.specs.Own.{may_be_sitemap, sitemap_at}
 use Rattle.site_files.specs.declared.files.SiteFiles.{SiteFiles}
@@ -39,4 +39,4 @@ listed_in files pages = listed_with files pages (links_at pages (named_sitemaps 
 -- the same URLs in order
 pub record AreListed (files : SiteFiles) (pages : List PageFound) (urls : List (List ℕ)) : Type 0 where
   pub same : IsPermutation (listed_in files pages) urls
-  pub sorted : IsSortedBy is_behind urls
+  pub sorted : IsSortedBy is_after urls

@@ -1,7 +1,7 @@
 //! Which pages are below the top of a site, and in order.
 ghost use Rattle.std.specs.Prelude.{◌≡◌, IfOk};
 ghost use Rattle.saved_site.specs.Below.{is_next};
-ghost use Rattle.saved_site.specs.Pages.{is_behind};
+ghost use Rattle.saved_site.specs.Pages.{is_after};
 
 use crawl_keys::CanonUrl;
 use site_files::is_below;
@@ -16,15 +16,15 @@ pub(crate) fn is_next(
 ) -> Result<bool, AllocError>
     ensures { IfOk result (λ is. is ≡ is_next top.now last.now url.now) }
 {
-    if !is_behind(last, url.as_str().as_bytes()) {
+    if !is_after(last, url.as_str().as_bytes()) {
         return Ok(false);
     }
     is_below(alloc, top, url)
 }
 
 /// Whether a URL is after the last one, byte by byte.
-fn is_behind(last: &[u8], url: &[u8]) -> bool
-    ensures { result ≡ is_behind last.now url.now }
+fn is_after(last: &[u8], url: &[u8]) -> bool
+    ensures { result ≡ is_after last.now url.now }
 {
     last.cmp(url).is_lt()
 }

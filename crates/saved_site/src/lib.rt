@@ -3,15 +3,20 @@
 #![tactic(auto)]
 
 mod aliases;
+mod all_pages;
 mod below;
 mod file_document;
+pub mod laws;
 mod linked;
 mod new_page;
 mod on_disk;
 mod page;
 mod page_maker;
+mod page_sink;
 mod rounds;
 mod site_data;
+mod site_name;
+mod site_reader;
 mod sitemaps;
 mod spellings;
 mod task;
@@ -19,6 +24,7 @@ mod tasks;
 mod web;
 mod web_text;
 
+pub use all_pages::has_all_pages;
 pub use linked::LinkedPages;
 pub use on_disk::OnDisk;
 pub use page::{LineText, SitePage, Under};

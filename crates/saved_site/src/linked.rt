@@ -1,6 +1,7 @@
 //! The pages of a site as a source of a crawl. Their links are stored as indices of URLs.
-ghost use Rattle.std.specs.Prelude.{◌≡◌, IfOk, IfErr, flat_map};
+ghost use Rattle.std.specs.Prelude.{◌≡◌, IfOk, IfErr, flat_map, is_some};
 ghost use Rattle.saved_site.specs.Linked.{AreKept, IsSiteSource, page_at, page_with};
+ghost use Rattle.saved_site.specs.Served.{AreServed};
 
 mod known_texts;
 mod link_table;
@@ -8,18 +9,19 @@ mod linked_page;
 mod linker;
 mod page_list;
 
+use crate::site_name::SiteName;
 use crawl_keys::CanonUrl;
 use crawl_pages::{Fetch, FetchError, Page};
 pub(crate) use linker::Linker;
-use page_list::Part;
+use page_list::ThreadPages;
 use std::alloc::{AllocError, Global};
 use std::marker::Model;
 
 /// The pages of a site. Of each link the index of its URL is stored.
 #[derive(Drop)]
 pub struct LinkedPages {
-    /// A part for each thread that made pages. Each part has URLs of its own.
-    parts: Vec<Part>,
+    /// The pages of each thread. Each has a list of URLs of its own.
+    threads: Vec<ThreadPages>,
 }
 
 // Contracts see the page at each URL.
@@ -29,44 +31,72 @@ impl Model for LinkedPages {
 
     ghost Value = { List (List ℕ × Page) };
 
-    ghost view = { λ pages. flat_map (λ part. part) pages.parts.items };
+    ghost view = { λ pages. flat_map (λ made. made) pages.threads.items };
 }
 
 impl LinkedPages {
     /// Returns the pages of the site with this top, which threads have made.
-    #[tactic(auto, using(crate::proofs::SiteSource::site_source))]
-    pub(crate) fn new(
+    pub(crate) fn new<K: SiteName>(
         alloc: Global,
         top: &str,
-        linkers: Vec<Linker>,
+        linkers: Vec<Linker<K>>,
     ) -> Result<LinkedPages, AllocError>
-        ensures { IfOk result (IsSiteSource top.now) }
+        ensures source { IfOk result (IsSiteSource top.now) }
+        ensures served { IfOk result (AreServed K.serves) }
     {
-        let parts = parts_of(alloc, top, linkers)?;
-        Ok(LinkedPages { parts })
+        let threads = kept_pages(alloc, top, linkers)?;
+        Ok(LinkedPages { threads })
     }
+
+    /// Whether there is a page at the URL.
+    pub(crate) fn has(&self, url: &CanonUrl) -> bool
+        ensures { result ≡ is_some (page_with self.now url.now) }
+    {
+        has_page(self.threads.as_slice(), url)
+    }
+}
+
+/// Whether one of the threads has a page at the URL.
+#[tactic(auto, using(crate::proofs::Threads::has_passed, crate::proofs::Threads::has_there))]
+fn has_page(threads: &[ThreadPages], url: &CanonUrl) -> bool
+    ensures { result ≡ is_some (page_with (flat_map (λ made. made) threads.now) url.now) }
+{
+    'threads: for made in threads {
+        if made.has(url) {
+            return true;
+        }
+    }
+    false
 }
 
 /// Returns the pages that threads have made, except those of another site.
-fn parts_of(alloc: Global, top: &str, linkers: Vec<Linker>) -> Result<Vec<Part>, AllocError>
-    ensures { IfOk result (λ parts. AreKept top.now (flat_map (λ part. part) parts.items)) }
+fn kept_pages<K: SiteName>(
+    alloc: Global,
+    top: &str,
+    linkers: Vec<Linker<K>>,
+) -> Result<Vec<ThreadPages>, AllocError>
+    ensures { IfOk result (λ threads. AreKept K.serves top.now (flat_map (λ made. made) threads.items)) }
 {
-    let mut parts = Vec::with_capacity(alloc, linkers.len())?;
+    let mut threads = Vec::with_capacity(alloc, linkers.len())?;
     'linkers: for linker in linkers {
         if linker.is_of(top) {
-            parts.push(linker.into_part())?;
+            threads.push(linker.into_pages())?;
         }
     }
-    Ok(parts)
+    Ok(threads)
 }
 
-/// Returns the page at the URL in the first part that has one.
-#[tactic(auto, using(crate::proofs::Parts::passed_part, crate::proofs::Parts::found_part))]
-fn first_page(alloc: Global, parts: &[Part], url: &CanonUrl) -> Result<Option<Page>, AllocError>
-    ensures { IfOk result (λ page. page ≡ page_with (flat_map (λ part. part) parts.now) url.now) }
+/// Returns the page at the URL of the first thread that has one.
+#[tactic(auto, using(crate::proofs::Threads::passed_thread, crate::proofs::Threads::found_thread))]
+fn first_page(
+    alloc: Global,
+    threads: &[ThreadPages],
+    url: &CanonUrl,
+) -> Result<Option<Page>, AllocError>
+    ensures { IfOk result (λ page. page ≡ page_with (flat_map (λ made. made) threads.now) url.now) }
 {
-    'parts: for part in parts {
-        match part.page(alloc, url)? {
+    'threads: for made in threads {
+        match made.page(alloc, url)? {
             Some(page) => return Ok(Some(page)),
             None => {}
         }
@@ -84,7 +114,7 @@ impl Fetch for LinkedPages {
         // Its only error is `NoMemory`.
         ensures refused { IfErr result (λ e. e ≡ FetchError.NoMemory) }
     {
-        match first_page(alloc, self.parts.as_slice(), url)? {
+        match first_page(alloc, self.threads.as_slice(), url)? {
             Some(page) => Ok(page),
             None => Ok(Page::Missing),
         }

@@ -2,6 +2,7 @@
 ghost use Rattle.std.specs.Prelude.{◌≡◌, [], IfOk, IfSome, option_map, string_bytes};
 ghost use Rattle.saved_site.specs.FileLinks.{IsFilePage, IsPageOf};
 ghost use Rattle.saved_site.specs.SiteTexts.{begins_slash, is_path, is_url, link_to, redirect_to, target_at, text_to, with_query, without_origin};
+ghost use Rattle.saved_site.specs.TaskPages.{IsReadPage};
 ghost use Rattle.saved_site.specs.declared.page.Under.TheVariants.{Links};
 ghost use Rattle.site_files.specs.Files.{url_of};
 ghost use Rattle.site_files.specs.Server.{after_front, query_of};
@@ -50,7 +51,7 @@ pub(crate) struct SiteAnchors {
 
 /// Makes the page at the own URL of a file of this kind with these contents. A file of unknown kind has no links, unless its first bytes
 /// are those of a document. `room` is memory for the links.
-pub(crate) fn file_page(
+fn file_page(
     alloc: Global,
     files: &SiteFiles<'_>,
     task: &Task,
@@ -65,6 +66,23 @@ pub(crate) fn file_page(
     }
     let document = file_document(alloc, files, &task.url, kind, body, room)?;
     document_page(alloc, files, task, document)
+}
+
+/// Makes the page at the own URL of a file of this kind, of which this was read. If it cannot be read, the page has no links.
+pub(crate) fn read_page(
+    alloc: Global,
+    files: &SiteFiles<'_>,
+    task: &Task,
+    kind: FileKind,
+    body: Option<&[u8]>,
+    room: &mut RawLinks,
+) -> Result<NewPage, AllocError>
+    ensures { IfOk result (λ new. IfSome new.page (IsReadPage files.now task.now.url kind (option_map (λ b. b.now) body.entry))) }
+{
+    match body {
+        Some(body) => file_page(alloc, files, task, kind, body, room),
+        None => empty_page(alloc, task),
+    }
 }
 
 /// Whether a file of this kind with these contents is an HTML or XHTML document. Of a file that cannot be read there are no contents.

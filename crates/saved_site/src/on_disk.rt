@@ -18,6 +18,9 @@ pub struct OnDisk<'a, R> {
 }
 
 impl<R: Files> FileBytes for OnDisk<'_, R> {
+    // What is on disk has no value in a contract.
+    ghost reads = { λ _ _ _. Unit {0} };
+
     fn read(&self, file: SiteFile<'_>, body: &mut Body) -> Result<Option<Left>, AllocError> {
         match self.read_file(file, body) {
             Ok(left) => Ok(left),

@@ -53,15 +53,6 @@ impl SitePage {
     }
 }
 
-/// The pages that one thread makes, in the form that is needed of them.
-pub(crate) trait PageSink: Send + Drop {
-    /// No pages of the site with this top.
-    fn empty(alloc: Global, top: &str) -> Result<Self, AllocError>;
-
-    /// The same with one more page.
-    fn with_page(self, page: SitePage) -> Result<Self, AllocError>;
-}
-
 /// The number of bytes before the text in the line of a redirect.
 const MOVED_FRONT: usize = 6;
 

@@ -1,6 +1,11 @@
 //! Makes pages in threads, each of which reads the files of its pages.
-use crate::new_page::{NewPage, alias_page, empty_page, file_page, is_html, moved_page};
-use crate::page::PageSink;
+ghost use Rattle.std.specs.Prelude.{◌≡◌, [], IfOk, IfSome};
+ghost use Rattle.saved_site.specs.TaskPages.{IsOwnPage, IsTaskPage, file_of, read_if};
+
+use crate::new_page::{NewPage, alias_page, empty_page, is_html, moved_page, read_page};
+use crate::page::SitePage;
+use crate::page_sink::PageSink;
+use crate::site_reader::SiteReader;
 use crate::task::{Response, Task};
 use document_links::RawLinks;
 use site_files::{Body, FileBytes, Note, SiteFile, SiteFiles};
@@ -87,8 +92,7 @@ impl<S: PageSink> PageMaker<S> {
     /// Takes tasks and makes their pages, until no task is left or the batch has enough. A long file occupies only one thread.
     fn run<B: FileBytes>(
         self,
-        files: &SiteFiles<'_>,
-        bytes: &B,
+        site: &SiteReader<'_, '_, B, S>,
         tasks: &[Task],
         counter: &TaskCounter,
     ) -> Result<PageMaker<S>, AllocError> {
@@ -100,7 +104,7 @@ impl<S: PageSink> PageMaker<S> {
             if first >= tasks.len() {
                 break;
             }
-            maker = maker.with_block(files, bytes, tasks, first, counter)?;
+            maker = maker.with_block(site, tasks, first, counter)?;
         }
         Ok(maker)
     }
@@ -108,8 +112,7 @@ impl<S: PageSink> PageMaker<S> {
     /// Makes the pages of the block of tasks that begins with this number.
     fn with_block<B: FileBytes>(
         self,
-        files: &SiteFiles<'_>,
-        bytes: &B,
+        site: &SiteReader<'_, '_, B, S>,
         tasks: &[Task],
         first: usize,
         counter: &TaskCounter,
@@ -119,10 +122,11 @@ impl<S: PageSink> PageMaker<S> {
             let Some(task) = tasks.get(number) else {
                 break;
             };
-            let page = maker.page_of(files, bytes, number, task)?;
+            let mut page = maker.page_of(site, number, task)?;
+            page.number = number;
             counter.add(maker.body.as_slice().len());
             counter.add(page.byte_count);
-            maker = maker.with_new(page)?;
+            maker = maker.with_new(site, task, page)?;
         }
         Ok(maker)
     }
@@ -130,38 +134,44 @@ impl<S: PageSink> PageMaker<S> {
     /// Makes the page of the task with this number.
     fn page_of<B: FileBytes>(
         &mut self,
-        files: &SiteFiles<'_>,
-        bytes: &B,
+        site: &SiteReader<'_, '_, B, S>,
         number: usize,
         task: &Task,
-    ) -> Result<NewPage, AllocError> {
+    ) -> Result<NewPage, AllocError>
+        ensures { IfOk result (λ new. IfSome new.page (IsTaskPage site.now.files.now (B.reads site.now.bytes.now) task.now.entry task.now.url)) }
+    {
+        let files = site.files;
         self.body.clear();
-        let mut page = match task.response(files) {
-            Response::Own(Some(file)) => self.page_in(files, bytes, number, task, file)?,
-            Response::Own(None) => empty_page(self.alloc, task)?,
-            Response::Alias(own) => alias_page(self.alloc, files, task, own)?,
-            Response::Moved(target) => moved_page(self.alloc, files, task, target)?,
-        };
-        page.number = number;
-        Ok(page)
+        match task.response(files) {
+            Response::Own(Some(file)) => self.page_in(site, number, task, file),
+            Response::Own(None) => empty_page(self.alloc, task),
+            Response::Alias(own) => alias_page(self.alloc, files, task, own),
+            Response::Moved(target) => moved_page(self.alloc, files, task, target),
+        }
     }
 
     /// Makes the page of the task with this number, whose links are in a file. If the file cannot be read, the page has no links.
     fn page_in<B: FileBytes>(
         &mut self,
-        files: &SiteFiles<'_>,
-        bytes: &B,
+        site: &SiteReader<'_, '_, B, S>,
         number: usize,
         task: &Task,
         file: SiteFile<'_>,
-    ) -> Result<NewPage, AllocError> {
-        let is_read = self.read(bytes, number, file)?;
+    ) -> Result<NewPage, AllocError>
+        requires { self.old.body ≡ [] }
+        ensures { IfOk result (λ new. IfSome new.page (IsOwnPage site.now.files.now (B.reads site.now.bytes.now) task.now.url (file_of file.entry))) }
+    {
+        let is_read = self.read(site.bytes, number, file)?;
         let body = self.body.as_slice();
-        let mut page = if is_read {
-            file_page(self.alloc, files, task, file.kind, body, &mut self.room)?
-        } else {
-            empty_page(self.alloc, task)?
-        };
+        let read = is_read.then_some(body);
+        let mut page = read_page(
+            self.alloc,
+            site.files,
+            task,
+            file.kind,
+            read,
+            &mut self.room,
+        )?;
         page.is_document = is_html(file.kind, body);
         Ok(page)
     }
@@ -172,7 +182,10 @@ impl<S: PageSink> PageMaker<S> {
         bytes: &B,
         number: usize,
         file: SiteFile<'_>,
-    ) -> Result<bool, AllocError> {
+    ) -> Result<bool, AllocError>
+        requires { self.old.body ≡ [] }
+        ensures { IfOk result (λ is_read. B.reads bytes.now file.entry.index (read_if is_read self.new.body)) }
+    {
         let Some(left) = bytes.read(file, &mut self.body)? else {
             return Ok(true);
         };
@@ -183,19 +196,41 @@ impl<S: PageSink> PageMaker<S> {
         Ok(false)
     }
 
-    /// The same with a new page. The page itself goes into the sink.
-    fn with_new(self, new: NewPage) -> Result<PageMaker<S>, AllocError> {
+    /// The same with the new page of a task. The page itself goes into the sink.
+    fn with_new<B: FileBytes>(
+        self,
+        site: &SiteReader<'_, '_, B, S>,
+        task: &Task,
+        new: NewPage,
+    ) -> Result<PageMaker<S>, AllocError>
+        requires { IfSome new.page (IsTaskPage site.now.files.now (B.reads site.now.bytes.now) task.now.entry task.now.url) }
+    {
         let mut maker = self;
         let mut new = new;
         let page = new.page.take();
         maker.pages.push(new)?;
         match page {
-            Some(page) => {
-                let sink = maker.sink.with_page(page)?;
-                Ok(PageMaker { sink, ..maker })
-            }
+            Some(page) => maker.with_page(site, task, page),
             None => Ok(maker),
         }
+    }
+
+    /// The same with the page of a task in the sink.
+    fn with_page<B: FileBytes>(
+        self,
+        site: &SiteReader<'_, '_, B, S>,
+        task: &Task,
+        page: SitePage,
+    ) -> Result<PageMaker<S>, AllocError>
+        requires { IsTaskPage site.now.files.now (B.reads site.now.bytes.now) task.now.entry task.now.url page }
+    {
+        let maker = self;
+        let is_served = task.is_served(maker.alloc, site.files)?;
+        if !is_served {
+            return Ok(maker);
+        }
+        let sink = maker.sink.with_page(page)?;
+        Ok(PageMaker { sink, ..maker })
     }
 }
 
@@ -234,11 +269,11 @@ impl<S: PageSink> Batch<S> {
     /// The pages that threads made.
     fn of(
         alloc: Global,
-        parts: Vec<Result<PageMaker<S>, AllocError>>,
+        made: Vec<Result<PageMaker<S>, AllocError>>,
     ) -> Result<Batch<S>, AllocError> {
         let mut batch = Batch::new(alloc);
-        for part in parts {
-            batch.makers.push(part?)?;
+        for maker in made {
+            batch.makers.push(maker?)?;
         }
         batch.take_pages()?;
         Ok(batch)
@@ -271,18 +306,17 @@ impl<S: PageSink> Batch<S> {
 /// Makes the pages of the first of these tasks, at least one if there is a maker. Each maker has its own thread.
 pub(crate) fn next_batch<R: Threads + Sync, B: FileBytes + Sync, S: PageSink>(
     rt: &R,
-    files: &SiteFiles<'_>,
-    bytes: &B,
+    site: &SiteReader<'_, '_, B, S>,
     tasks: &[Task],
     makers: Vec<PageMaker<S>>,
 ) -> Result<Batch<S>, AllocError> {
     let alloc = *makers.allocator();
     let counter = TaskCounter::new();
     let counter = &counter;
-    let parts = thread::map_vec(
+    let made = thread::map_vec(
         rt,
         makers,
-        &|maker: PageMaker<S>| { maker.run(files, bytes, tasks, counter) },
+        &|maker: PageMaker<S>| { maker.run(site, tasks, counter) },
     )?;
-    Batch::of(alloc, parts)
+    Batch::of(alloc, made)
 }

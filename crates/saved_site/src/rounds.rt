@@ -2,12 +2,13 @@
 ghost use Rattle.std.specs.Prelude.{IfErr};
 ghost use Rattle.saved_site.specs.Meaning.{IsOfWeb};
 
-use crate::page::PageSink;
 use crate::page_maker::{Batch, next_batch};
+use crate::page_sink::PageSink;
 use crate::site_data::SiteData;
+use crate::site_reader::SiteReader;
 use crate::task::Task;
 use crate::tasks::TaskQueue;
-use site_files::{FileBytes, SiteError, SiteFiles};
+use site_files::{FileBytes, SiteError};
 use std::alloc::AllocError;
 use std::thread;
 use std::thread::Threads;
@@ -16,8 +17,7 @@ use std::thread::Threads;
 /// the third the targets of redirects among these. Links of aliases spell nothing, so no round follows unless a name contains `//`.
 pub(crate) fn make_all<R: Threads + Sync, B: FileBytes + Sync, S: PageSink>(
     rt: &R,
-    files: &SiteFiles<'_>,
-    bytes: &B,
+    site: &SiteReader<'_, '_, B, S>,
     queue: &mut TaskQueue,
     data: &mut SiteData<S>,
 ) -> Result<(), SiteError>
@@ -28,7 +28,7 @@ pub(crate) fn make_all<R: Threads + Sync, B: FileBytes + Sync, S: PageSink>(
         if tasks.is_empty() {
             break;
         }
-        make_round(rt, files, bytes, tasks.as_slice(), queue, data)?;
+        make_round(rt, site, tasks.as_slice(), queue, data)?;
     }
     Ok(())
 }
@@ -36,15 +36,14 @@ pub(crate) fn make_all<R: Threads + Sync, B: FileBytes + Sync, S: PageSink>(
 /// Makes the page of each task.
 fn make_round<R: Threads + Sync, B: FileBytes + Sync, S: PageSink>(
     rt: &R,
-    files: &SiteFiles<'_>,
-    bytes: &B,
+    site: &SiteReader<'_, '_, B, S>,
     tasks: &[Task],
     queue: &mut TaskQueue,
     data: &mut SiteData<S>,
 ) -> Result<(), SiteError>
     ensures { IfErr result IsOfWeb }
 {
-    let last = make_batches(rt, files, bytes, tasks, queue, data)?;
+    let last = make_batches(rt, site, tasks, queue, data)?;
     let Batch { pages, makers, .. } = last;
     data.add_makers(makers)?;
     data.push_all(pages)?;
@@ -55,8 +54,7 @@ fn make_round<R: Threads + Sync, B: FileBytes + Sync, S: PageSink>(
 /// made. The last one is not added yet.
 fn make_batches<R: Threads + Sync, B: FileBytes + Sync, S: PageSink>(
     rt: &R,
-    files: &SiteFiles<'_>,
-    bytes: &B,
+    site: &SiteReader<'_, '_, B, S>,
     tasks: &[Task],
     queue: &mut TaskQueue,
     data: &mut SiteData<S>,
@@ -64,13 +62,14 @@ fn make_batches<R: Threads + Sync, B: FileBytes + Sync, S: PageSink>(
     ensures { IfErr result IsOfWeb }
 {
     let alloc = *data.notes.allocator();
+    let files = site.files;
     let mut batch = Batch::before(alloc, files, files.threads().min(tasks.len()).max(1))?;
     let mut rest = tasks;
     'batches: for _ in 0..tasks.len() {
         if rest.is_empty() {
             break;
         }
-        batch = make_batch(rt, files, bytes, rest, batch, data)?;
+        batch = make_batch(rt, site, rest, batch, data)?;
         data.notes.append(&mut batch.notes)?;
         queue.count(batch.pages.as_mut_slice())?;
         rest = rest.get(batch.pages.len()..).unwrap_or(&[]);
@@ -81,8 +80,7 @@ fn make_batches<R: Threads + Sync, B: FileBytes + Sync, S: PageSink>(
 /// Makes the pages of the first of the tasks in threads. Meanwhile those of the batch before are added to the data.
 fn make_batch<R: Threads + Sync, B: FileBytes + Sync, S: PageSink>(
     rt: &R,
-    files: &SiteFiles<'_>,
-    bytes: &B,
+    site: &SiteReader<'_, '_, B, S>,
     tasks: &[Task],
     batch: Batch<S>,
     data: &mut SiteData<S>,
@@ -90,7 +88,7 @@ fn make_batch<R: Threads + Sync, B: FileBytes + Sync, S: PageSink>(
     let Batch { pages, makers, .. } = batch;
     let (next, added) = thread::join(
         rt,
-        move || next_batch(rt, files, bytes, tasks, makers),
+        move || next_batch(rt, site, tasks, makers),
         move || data.push_all(pages),
     );
     match added {

@@ -1,7 +1,7 @@
 //! The pages of a site, and what is known of them.
 use crate::new_page::{NewPage, SiteAnchors};
-use crate::page::PageSink;
 use crate::page_maker::PageMaker;
+use crate::page_sink::PageSink;
 use crawl_keys::CanonUrl;
 use document_links::{InvalidLink, LinkPlaces, PageAnchors};
 use site_files::{Alias, Note};
@@ -19,7 +19,7 @@ struct PageNotes {
 #[derive(Drop)]
 pub(crate) struct SiteData<S> {
     /// The pages that each thread has made.
-    pub(crate) parts: Vec<S>,
+    pub(crate) sinks: Vec<S>,
     pub(crate) notes: Vec<Note>,
     pub(crate) aliases: Vec<Alias>,
     pub(crate) documents: Vec<CanonUrl>,
@@ -33,7 +33,7 @@ impl<S: PageSink> SiteData<S> {
     /// No pages and no notes.
     pub(crate) fn new(alloc: Global) -> SiteData<S> {
         SiteData {
-            parts: Vec::new(alloc),
+            sinks: Vec::new(alloc),
             notes: Vec::new(alloc),
             aliases: Vec::new(alloc),
             documents: Vec::new(alloc),
@@ -117,7 +117,7 @@ impl<S: PageSink> SiteData<S> {
     /// Adds the pages of the makers of a round.
     pub(crate) fn add_makers(&mut self, makers: Vec<PageMaker<S>>) -> Result<(), AllocError> {
         for maker in makers {
-            self.parts.push(maker.into_sink())?;
+            self.sinks.push(maker.into_sink())?;
         }
         Ok(())
     }

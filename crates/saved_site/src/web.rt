@@ -4,13 +4,17 @@ ghost use Rattle.saved_site.specs.Aliases.{AreAliases};
 ghost use Rattle.saved_site.specs.Below.{IsWebBelow};
 ghost use Rattle.saved_site.specs.Linked.{IsSiteSource};
 ghost use Rattle.saved_site.specs.Meaning.{IsOfWeb, IsSiteWeb};
+ghost use Rattle.saved_site.specs.Served.{AreServed, IsServedPage};
 ghost use Rattle.saved_site.specs.Sitemaps.{AreListed, named_sitemaps};
+ghost use Rattle.saved_site.specs.declared.page.SitePage.{SitePage};
 
 use crate::aliases::aliases_among;
 use crate::linked::{LinkedPages, Linker};
-use crate::page::PageSink;
+use crate::page_sink::PageSink;
 use crate::rounds::make_all;
 use crate::site_data::SiteData;
+use crate::site_name::SiteName;
+use crate::site_reader::SiteReader;
 use crate::sitemaps::ListedUrls;
 use crate::tasks::TaskQueue;
 use crate::web_text::WebText;
@@ -18,6 +22,7 @@ use crawl_keys::CanonUrl;
 use document_links::{LinkPlaces, PageAnchors};
 use site_files::{Alias, FileBytes, Note, SiteError, SiteFiles};
 use std::alloc::{AllocError, Global};
+use std::marker::Brand;
 use std::thread::Threads;
 
 /// The saved web of a site.
@@ -65,9 +70,10 @@ pub fn site_web<R: Threads + Sync, B: FileBytes + Sync>(
     ensures below { IfOk result (λ web. IsWebBelow (string_bytes files.now.site.top) web.text) }
     ensures error { IfErr result IsOfWeb }
 {
-    let data = data_of(rt, alloc, files, seeds, bytes)?;
-    let SiteData { parts, notes, .. } = data;
-    let text = WebText::new(alloc, files.top(), parts)?;
+    let site = SiteReader::new(files, bytes);
+    let data = data_of(rt, alloc, &site, seeds)?;
+    let SiteData { sinks, notes, .. } = data;
+    let text = WebText::new(alloc, files.top(), sinks)?;
     Ok(Web { text, notes })
 }
 
@@ -83,30 +89,53 @@ pub fn site_pages<R: Threads + Sync, B: FileBytes + Sync>(
     bytes: &B,
 ) -> Result<LinkedSite, SiteError>
     ensures source { IfOk result (λ site. IsSiteSource (string_bytes files.now.site.top) site.pages) }
+    // Each page is the one that a server returns for its URL.
+    ensures served { IfOk result (λ site. AreServed (IsServedPage files.now (B.reads bytes.now)) site.pages) }
     ensures aliases { IfOk result (λ site. AreAliases site.pages site.aliases.items) }
     // The URLs that sitemaps list are the links of their pages.
     ensures listed { IfOk result (λ site. AreListed files.now site.pages site.listed.items) }
     ensures sitemaps { IfOk result (λ site. site.has_sitemap ≡ not (length (named_sitemaps files.now) == 0)) }
     ensures error { IfErr result IsOfWeb }
 {
-    let mut data = data_of(rt, alloc, files, seeds, bytes)?;
+    named_pages::<Brand, R, B>(rt, alloc, files, seeds, bytes)
+}
+
+/// Makes these pages, with a name for the site.
+fn named_pages<K: SiteName + Send + Sync, R: Threads + Sync, B: FileBytes + Sync>(
+    rt: &R,
+    alloc: Global,
+    files: &SiteFiles<'_>,
+    seeds: &[String],
+    bytes: &B,
+) -> Result<LinkedSite, SiteError>
+    requires { (page : SitePage) → IsServedPage files.now (B.reads bytes.now) page → K.serves page }
+    ensures source { IfOk result (λ site. IsSiteSource (string_bytes files.now.site.top) site.pages) }
+    ensures served { IfOk result (λ site. AreServed K.serves site.pages) }
+    ensures aliases { IfOk result (λ site. AreAliases site.pages site.aliases.items) }
+    ensures listed { IfOk result (λ site. AreListed files.now site.pages site.listed.items) }
+    ensures sitemaps { IfOk result (λ site. site.has_sitemap ≡ not (length (named_sitemaps files.now) == 0)) }
+    ensures error { IfErr result IsOfWeb }
+{
+    let site: SiteReader<'_, '_, B, Linker<K>> = SiteReader::new(files, bytes);
+    let mut data = data_of(rt, alloc, &site, seeds)?;
     data.sort()?;
     Ok(linked_site(alloc, files, data)?)
 }
 
 /// The site with these pages.
-fn linked_site(
+fn linked_site<K: SiteName>(
     alloc: Global,
     files: &SiteFiles<'_>,
-    data: SiteData<Linker>,
+    data: SiteData<Linker<K>>,
 ) -> Result<LinkedSite, AllocError>
     ensures source { IfOk result (λ site. IsSiteSource (string_bytes files.now.site.top) site.pages) }
+    ensures served { IfOk result (λ site. AreServed K.serves site.pages) }
     ensures aliases { IfOk result (λ site. AreAliases site.pages site.aliases.items) }
     ensures listed { IfOk result (λ site. AreListed files.now site.pages site.listed.items) }
     ensures sitemaps { IfOk result (λ site. site.has_sitemap ≡ not (length (named_sitemaps files.now) == 0)) }
 {
     let SiteData {
-        parts,
+        sinks,
         notes,
         aliases,
         documents,
@@ -114,7 +143,7 @@ fn linked_site(
         places,
         ..
     } = data;
-    let pages = LinkedPages::new(alloc, files.top(), parts)?;
+    let pages = LinkedPages::new(alloc, files.top(), sinks)?;
     let aliases = aliases_among(alloc, &pages, aliases)?;
     let listed = ListedUrls::new(alloc, files, &pages)?;
     Ok(LinkedSite {
@@ -133,15 +162,15 @@ fn linked_site(
 fn data_of<R: Threads + Sync, B: FileBytes + Sync, S: PageSink>(
     rt: &R,
     alloc: Global,
-    files: &SiteFiles<'_>,
+    site: &SiteReader<'_, '_, B, S>,
     seeds: &[String],
-    bytes: &B,
 ) -> Result<SiteData<S>, SiteError>
     ensures { IfErr result IsOfWeb }
 {
+    let files = site.files;
     let mut data = SiteData::new(alloc);
-    files.copy_doubles(&mut data.notes)?;
+    files.copy_notes(&mut data.notes)?;
     let mut queue = TaskQueue::new(alloc, files, seeds)?;
-    make_all(rt, files, bytes, &mut queue, &mut data)?;
+    make_all(rt, site, &mut queue, &mut data)?;
     Ok(data)
 }

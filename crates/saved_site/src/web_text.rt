@@ -7,7 +7,8 @@ ghost use Rattle.saved_site.specs.Pages.{page_text};
 ghost use Rattle.saved_site.specs.WebTexts.{AreInOrder, IsPageText, last_url};
 
 use crate::below::is_next;
-use crate::page::{PageSink, SitePage};
+use crate::page::SitePage;
+use crate::page_sink::PageSink;
 use crawl_keys::CanonUrl;
 use std::alloc::{AllocError, Global};
 use std::io;
@@ -70,6 +71,9 @@ impl PageText {
 }
 
 impl PageSink for Vec<PageText> {
+    // Nothing is said of them.
+    ghost serves = { λ _. Unit {0} };
+
     fn empty(alloc: Global, _top: &str) -> Result<Vec<PageText>, AllocError> {
         Ok(Vec::new(alloc))
     }
@@ -104,15 +108,15 @@ impl WebText {
     pub(crate) fn new(
         alloc: Global,
         top: &str,
-        parts: Vec<Vec<PageText>>,
+        made: Vec<Vec<PageText>>,
     ) -> Result<WebText, AllocError>
         ensures web { IfOk result IsSiteWeb }
         ensures below { IfOk result (IsWebBelow top.now) }
     {
         let mut pages = Vec::new(alloc);
-        for part in parts {
-            let mut part = part;
-            pages.append(&mut part)?;
+        for of_thread in made {
+            let mut of_thread = of_thread;
+            pages.append(&mut of_thread)?;
         }
         pages.sort_by(|a: &PageText, b: &PageText| a.url().as_str().cmp(b.url().as_str()))?;
         let pages = in_order(alloc, top, pages)?;

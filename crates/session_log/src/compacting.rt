@@ -1,5 +1,5 @@
 //! The compacted log of a session, in a new file, with the same settings or with other ones.
-ghost use Rattle.std.specs.Prelude.{◌≡◌, ◌∷◌, [], Ok, IfOk, IsOk, OnOk, string_bytes};
+ghost use Rattle.std.specs.Prelude.{◌≡◌, ◌∷◌, [], Ok, IfOk, IfSome, IsOk, OnOk, string_bytes};
 ghost use Rattle.crawl_session.specs.Compacting.{log_text};
 ghost use Rattle.crawl_session.specs.Seen.{seen_lines};
 ghost use Rattle.session_log.specs.Compaction.{Compacted, Gained, IsCompacted, IsRebuilt, summing};
@@ -11,7 +11,7 @@ use crate::lines::LineReader;
 use crate::lock_file::LockFile;
 use crate::new_log::{NewLog, create_partial, publish};
 use crate::opening::{OpenedLog, open_session};
-use crate::plan::SessionPlan;
+use crate::plan::{LogPlan, SessionPlan};
 use crate::rebuilding::{filter_within, rebuild_to};
 use crawl_session::{Compactor, LeftOut, Session, write_seen};
 use std::alloc::Global;
@@ -39,22 +39,65 @@ pub fn compact<R: Files, L: LockFile<R::File>>(
 {
     let own = plan.own(rt, alloc)?;
     let wanted = plan.wanted(&own.session)?;
+    compact_as(rt, locks, alloc, &own, &wanted, plan.new.as_str())
+}
+
+/// Writes the copy of the log of this plan, with its new settings, to a new file of this name.
+fn compact_as<R: Files, L: LockFile<R::File>>(
+    rt: &R,
+    locks: &L,
+    alloc: Global,
+    own: &LogPlan,
+    wanted: &SessionPlan,
+    new: &str,
+) -> Result<LeftOut, LogFault>
+    requires own { IsSessionPlan own.now.session }
+    requires wanted { IsSessionPlan wanted.now }
+{
     let filter = filter_within(alloc, &own.session.within)?;
-    let (mut log, mut session) = open_session(rt, locks, alloc, &own, filter, false)?;
-    let (partial, file) = create_partial(rt, alloc, plan.new.as_str())?;
-    let mut new = NewLog::new(alloc, file);
-    let written = if own.session.is_like(&wanted) {
-        compact_synced(alloc, &mut session, &mut log, &mut new)
+    let (mut log, mut session) = open_session(rt, locks, alloc, own, filter, false)?;
+    let changed = if own.session.is_like(wanted) {
+        None
     } else {
-        rebuild_synced(alloc, &mut session, &mut log, &wanted, &mut new)
+        Some(wanted)
     };
+    write_new(rt, alloc, &mut session, &mut log, changed, new)
+}
+
+/// Writes the copy of a log to a new file of this name, with other settings if there are any.
+fn write_new<R: Files, F: Read + Seek>(
+    rt: &R,
+    alloc: Global,
+    session: &mut Session,
+    log: &mut OpenedLog<F>,
+    changed: Option<&SessionPlan>,
+    name: &str,
+) -> Result<LeftOut, LogFault>
+    requires { IfSome changed (λ wanted. IsSessionPlan wanted.now) }
+{
+    let (partial, file) = create_partial(rt, alloc, name)?;
+    let mut new = NewLog::new(alloc, file);
+    let written = match changed {
+        None => compact_synced(alloc, session, log, &mut new),
+        Some(wanted) => rebuild_synced(alloc, session, log, wanted, &mut new),
+    };
+    name_new(rt, partial.as_str(), name, written)
+}
+
+/// Gives a new log its name instead of the temporary one, or removes it if it could not be written.
+fn name_new<R: Files>(
+    rt: &R,
+    partial: &str,
+    name: &str,
+    written: Result<LeftOut, LogFault>,
+) -> Result<LeftOut, LogFault> {
     match written {
         Ok(left_out) => {
-            publish(rt, partial.as_str(), plan.new.as_str())?;
+            publish(rt, partial, name)?;
             Ok(left_out)
         }
         Err(fault) => {
-            let _ = fs::remove_file(rt, partial.as_str());
+            let _ = fs::remove_file(rt, partial);
             Err(fault)
         }
     }

@@ -1,6 +1,7 @@
 //! The log of a session with other settings, which has the URLs of a log, in a new file.
 ghost use Rattle.std.specs.Prelude.{◌≡◌, ◌<◌, ◌≤◌, Ok, length, IfOk, OnOk, string_bytes};
 ghost use Rattle.crawl_keys.specs.HostFilter.{filter_of};
+ghost use Rattle.crawl_session.specs.Settings.{SessionView};
 ghost use Rattle.session_log.specs.Compaction.{InPieces, IsRebuilt, IsRebuiltText, ReadsUrls, first_queue, suffixes_of, summing};
 ghost use Rattle.session_log.specs.Faults.{of_rebuild};
 ghost use Rattle.session_log.specs.Plans.{IsSessionPlan};
@@ -33,8 +34,22 @@ pub fn rebuild_to<F: Read + Seek, O: Write>(
 {
     let mut lines = LineReader::new(alloc, &mut log.file, log.start, log.whole)?;
     let inventory = read_urls(alloc, session, &mut lines)?;
-    let identity = log.identity.as_str();
-    let (text, left_out) = rebuilt_text(alloc, &inventory, wanted, identity)?;
+    append_rebuilt(alloc, &inventory, wanted, log.identity.as_str(), new)
+}
+
+/// Appends the first line of a log of this plan, and the lines that have the URLs of the inventory. Returns how many of them it leaves
+/// out.
+fn append_rebuilt<O: Write>(
+    alloc: Global,
+    inventory: &Inventory,
+    wanted: &SessionPlan,
+    identity: &str,
+    new: &mut NewLog<O>,
+) -> Result<LeftOut, LogFault>
+    requires { IsSessionPlan wanted.now }
+    ensures { IfOk result (λ left_out. (session : SessionView) → ReadsUrls session inventory.now → IsRebuilt session wanted.now identity.now left_out new.old.frame.sum (O.contents new.old.file) (O.contents new.new.file)) }
+{
+    let (text, left_out) = rebuilt_text(alloc, inventory, wanted, identity)?;
     let first = first_line_of(alloc, wanted, identity)?;
     new.append(first.as_bytes())?;
     append_pieces(new, &text)?;

@@ -2,8 +2,9 @@
 use Rattle.site_check.proofs.Prelude.{common_steps, ◌≡◌, ◌∙◌, ℕ, Bool, true, false, not, ◌&&◌, List, [], ◌∷◌, ◌++◌, map, filter, refl, sym, ap, arith, cases_Bool, flat_map, Page, PageResult, Linked, hint_of, hints_at, hints_of, hints_of_page, is_ignored, is_unfound, shown, linked, linked_at, result_at, rows_at, rows_with, broken_of, ways_at, ways_with, redirects_of, missing_texts, text_at, SiteFiles, leaving_of, outside_at, outside_linked, outside_of, outside_row, outside_texts, row_at, shown_at}
 use Rattle.crawl_pages.proofs.StableSort.{filter-kept, filter-dropped}
 use Rattle.crawl_pages.specs.Pages.{is_found, is_missing}
-use Rattle.site_check.specs.Broken.{Row}
-use Rattle.site_check.specs.declared.leaving.Outside.{Outside}
+use Rattle.site_check.specs.Leaving.{LeavingRow}
+use Rattle.site_check.specs.declared.input.MapName.{MapName}
+use Rattle.site_check.specs.declared.outside.Outside.{Outside}
 use Rattle.site_check.specs.declared.linked.Linked as code
 
 -- what fails the test gives nothing
@@ -14,7 +15,7 @@ flat_filter : {X Y : Type 0} (p : X → Bool) (f : X → List Y) → GivesNothin
 flat_filter p f none [] = refl
 flat_filter p f none (x ∷ xs) = grind (arith, common_steps, cases_Bool, filter-kept, filter-dropped, flat_filter p f none xs)
 
-flat_mapped : {X Y Z : Type 0} (g : Y → List Z) (h : X → Y) (xs : List X) → flat_map g (map h xs) ≡ flat_map (λ x. g (h x)) xs
+pub flat_mapped : {X Y Z : Type 0} (g : Y → List Z) (h : X → Y) (xs : List X) → flat_map g (map h xs) ≡ flat_map (λ x. g (h x)) xs
 flat_mapped g h [] = refl
 flat_mapped g h (x ∷ xs) = ap (λ l. g (h x) ++ l) (flat_mapped g h xs)
 
@@ -45,7 +46,7 @@ ways_of_all front results = grind (arith, common_steps, flat_linked, no_way, fou
 
 pub own_row : (front : List ℕ) (entries : List (List ℕ)) (url : List ℕ) (pages : ℕ) (page : Page) → (is_missing page && not (is_ignored entries (shown front url))) ≡ true →
     rows_at front entries url pages page ≡ record { text = shown front url; pages = pages } ∷ []
-own_row front entries url pages page told = grind (arith, common_steps, cases_Bool)
+own_row front entries url pages page reported = grind (arith, common_steps, cases_Bool)
 
 pub other_row : (front : List ℕ) (entries : List (List ℕ)) (url : List ℕ) (pages : ℕ) (page : Page) → (is_missing page && not (is_ignored entries (shown front url))) ≡ false →
     rows_at front entries url pages page ≡ []
@@ -53,7 +54,7 @@ other_row front entries url pages page other = grind (arith, common_steps, cases
 
 pub own_hint : (front : List ℕ) (entries : List (List ℕ)) (files : SiteFiles) (url : List ℕ) (page : Page) → (is_missing page && not (is_ignored entries (shown front url))) ≡ true →
     hints_of_page front entries files url page ≡ hint_of files url ∷ []
-own_hint front entries files url page told = grind (arith, common_steps, cases_Bool)
+own_hint front entries files url page reported = grind (arith, common_steps, cases_Bool)
 
 pub other_hint : (front : List ℕ) (entries : List (List ℕ)) (files : SiteFiles) (url : List ℕ) (page : Page) → (is_missing page && not (is_ignored entries (shown front url))) ≡ false →
     hints_of_page front entries files url page ≡ []
@@ -93,21 +94,21 @@ hints_of_all front entries files results all is =
 
 -- ---- the links that lead out of the site
 
-mapped : {X Y Z : Type 0} (g : Y → Z) (h : X → Y) (xs : List X) → map g (map h xs) ≡ map (λ x. g (h x)) xs
+pub mapped : {X Y Z : Type 0} (g : Y → Z) (h : X → Y) (xs : List X) → map g (map h xs) ≡ map (λ x. g (h x)) xs
 mapped g h [] = refl
 mapped g h (x ∷ xs) = ap (λ l. g (h x) ∷ l) (mapped g h xs)
 
-pub leaving_of_all : (entries : List (List ℕ)) (rooted : Bool) (files : SiteFiles) (results found : List PageResult) (outside : List Outside) → map outside_at outside ≡ outside_linked rooted files results found →
-    flat_map (row_at entries) (map outside_at outside) ≡ leaving_of entries rooted files results found
-leaving_of_all entries rooted files results found outside are =
+pub leaving_of_all : (entries : List (List ℕ)) (rooted : Bool) (maps : List MapName) (files : SiteFiles) (results found : List PageResult) (outside : List Outside) → map outside_at outside ≡ outside_linked rooted maps files results found →
+    flat_map (row_at entries) (map outside_at outside) ≡ leaving_of entries rooted maps files results found
+leaving_of_all entries rooted maps files results found outside are =
     let out = outside_of files found in
-    ap (flat_map (row_at entries)) are ∙ flat_mapped (row_at entries) (outside_row rooted files) (map (linked results) out)
-    ∙ flat_mapped (λ l. row_at entries (outside_row rooted files l)) (linked results) out
+    ap (flat_map (row_at entries)) are ∙ flat_mapped (row_at entries) (outside_row rooted maps files) (map (linked results) out)
+    ∙ flat_mapped (λ l. row_at entries (outside_row rooted maps files l)) (linked results) out
 
-pub outside_texts_of_all : (rooted : Bool) (files : SiteFiles) (results found : List PageResult) (outside : List Outside) → map outside_at outside ≡ outside_linked rooted files results found →
+pub outside_texts_of_all : (rooted : Bool) (maps : List MapName) (files : SiteFiles) (results found : List PageResult) (outside : List Outside) → map outside_at outside ≡ outside_linked rooted maps files results found →
     outside_texts rooted files found ≡ map shown_at outside
-outside_texts_of_all rooted files results found outside are =
-    let text : Row → List ℕ = λ w. w.text in
+outside_texts_of_all rooted maps files results found outside are =
+    let text : LeavingRow → List ℕ = λ w. w.text in
     let out = outside_of files found in
-    sym (mapped text (outside_row rooted files) (map (linked results) out) ∙ mapped (λ l. text (outside_row rooted files l)) (linked results) out)
+    sym (mapped text (outside_row rooted maps files) (map (linked results) out) ∙ mapped (λ l. text (outside_row rooted maps files l)) (linked results) out)
     ∙ sym (ap (map text) are) ∙ mapped text outside_at outside

@@ -18,10 +18,10 @@ pub linked_more : (front back : List PageResult) (r : PageResult) → with_pages
 linked_more front back r = grind (arith, common_steps, filter-append, length-append)
 
 -- the count that is at an index
-pub pages_there : (list : List code.Linked) (results told : List PageResult) → map linked_at list ≡ map (linked results) told → (k : ℕ) (one : PageResult) → slice_get told k ≡ Some one → option_map linked_at (slice_get list k) ≡ Some (linked results one)
-pages_there list results told same k one is =
-    sym (slice_get-map linked_at list k) ∙ ap (λ xs. slice_get xs k) same ∙ slice_get-map (linked results) told k ∙ ap (option_map (linked results)) is
+pub pages_there : (list : List code.Linked) (results those : List PageResult) → map linked_at list ≡ map (linked results) those → (k : ℕ) (one : PageResult) → slice_get those k ≡ Some one → option_map linked_at (slice_get list k) ≡ Some (linked results one)
+pages_there list results those same k one is =
+    sym (slice_get-map linked_at list k) ∙ ap (λ xs. slice_get xs k) same ∙ slice_get-map (linked results) those k ∙ ap (option_map (linked results)) is
 
 -- there is one at each index at which there is a result
-pub within_counts : (list : List code.Linked) (results told : List PageResult) → map linked_at list ≡ map (linked results) told → (k : ℕ) (one : PageResult) → slice_get told k ≡ Some one → k < length list
-within_counts list results told same k one is = grind (arith, common_steps, slice_get_within, length-map)
+pub within_counts : (list : List code.Linked) (results those : List PageResult) → map linked_at list ≡ map (linked results) those → (k : ℕ) (one : PageResult) → slice_get those k ≡ Some one → k < length list
+within_counts list results those same k one is = grind (arith, common_steps, slice_get_within, length-map)

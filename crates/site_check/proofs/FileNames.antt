@@ -1,5 +1,5 @@
 -- The name of a file, cut after its last slash.
-use Rattle.site_check.proofs.Prelude.{common_steps, ◌≡◌, ◌∙◌, ℕ, ◌||◌, Bool, true, false, List, [], ◌∷◌, ◌++◌, length, length-append, take, refl, sym, ap, arith, cond-true, cond-false, list_any, behind_slashes, folder_in, is_slash}
+use Rattle.site_check.proofs.Prelude.{common_steps, ◌≡◌, ◌∙◌, ℕ, ◌||◌, true, false, List, [], ◌∷◌, ◌++◌, length, length-append, take, refl, sym, ap, arith, cond-true, cond-false, list_any, after_slashes, folder_in, is_slash}
 use Rattle.std.proofs.Common.{◌-◌, codes}
 use Rattle.std.proofs.Math.Seq.{take-append_seam}
 use Rattle.site_check.proofs.Outsides.{IsName, first_free, more_name}
@@ -12,21 +12,21 @@ has_slash : (folder file : List ℕ) → list_any is_slash (folder ++ 47 ∷ fil
 has_slash [] file = refl
 has_slash (b ∷ folder) file = grind (arith, common_steps, has_slash folder file)
 
-pub file_alone : (name : List ℕ) → IsName name → name ≡ behind_slashes name
+pub file_alone : (name : List ℕ) → IsName name → name ≡ after_slashes name
 file_alone [] free = refl
 file_alone (b ∷ name) free = sym (cond-false (list_any is_slash (b ∷ name)) _ _ (no_slash (b ∷ name) free))
 
-file_behind : (folder file : List ℕ) → IsName file → behind_slashes (folder ++ 47 ∷ file) ≡ file
+file_behind : (folder file : List ℕ) → IsName file → after_slashes (folder ++ 47 ∷ file) ≡ file
 file_behind [] file free = sym (file_alone file free)
 file_behind (b ∷ folder) file free = cond-true (list_any is_slash (b ∷ folder ++ 47 ∷ file)) _ _ (has_slash (b ∷ folder) file) ∙ file_behind folder file free
 
-pub file_cut : (name folder file : List ℕ) → name ≡ folder ++ 47 ∷ file → IsName file → file ≡ behind_slashes name
-file_cut name folder file is free = sym (ap behind_slashes is ∙ file_behind folder file free)
+pub file_cut : (name folder file : List ℕ) → name ≡ folder ++ 47 ∷ file → IsName file → file ≡ after_slashes name
+file_cut name folder file is free = sym (ap after_slashes is ∙ file_behind folder file free)
 
 -- what is before the slash has the length of all without the file and the slash
-before_slash : (folder file : List ℕ) → IsName file → take (length (folder ++ 47 ∷ file) - length (behind_slashes (folder ++ 47 ∷ file)) - 1) (folder ++ 47 ∷ file) ≡ folder
+before_slash : (folder file : List ℕ) → IsName file → take (length (folder ++ 47 ∷ file) - length (after_slashes (folder ++ 47 ∷ file)) - 1) (folder ++ 47 ∷ file) ≡ folder
 before_slash folder file free =
-    let count : length (folder ++ 47 ∷ file) - length (behind_slashes (folder ++ 47 ∷ file)) - 1 ≡ length folder =
+    let count : length (folder ++ 47 ∷ file) - length (after_slashes (folder ++ 47 ∷ file)) - 1 ≡ length folder =
     omega (arith, length-append folder (47 ∷ file), ap length (file_behind folder file free)) in
     ap (λ n. take n (folder ++ 47 ∷ file)) count ∙ take-append_seam folder (47 ∷ file)
 

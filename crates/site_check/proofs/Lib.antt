@@ -6,11 +6,15 @@ pub mod FileEntries
 pub mod FileNames
 pub mod Fronts
 pub mod LeadsFound
+pub mod LeavingRows
 pub mod Listed
+pub mod Marks
 pub mod Namesakes
 pub mod Outsides
 pub mod Patterns
 pub mod Retained
 pub mod RootFolders
+pub mod RowsLeft
 pub mod TextsOnce
 pub mod Verdicts
+pub mod WorstFiles

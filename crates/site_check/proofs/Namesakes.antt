@@ -1,5 +1,5 @@
 -- What is known of the pages that have a file name.
-use Rattle.site_check.proofs.Prelude.{common_steps, ◌≡◌, ◌∙◌, ℕ, zero, suc, ◌+◌, ◌<◌, arith, Bool, true, false, cond, List, [], ◌∷◌, ◌++◌, filter, take, get_or, length, slice_get, Option, Some, None, refl, sym, ap, subst, cases_Bool, cond-true, cond-false, filter_more, get_or_from_slice_get, Bor, list_any, bytes_eq, PageFile, SiteFiles, is_slash, behind_slashes, has_name, Names, named_at, IsKnown, known_with, known_at, only_told}
+use Rattle.site_check.proofs.Prelude.{common_steps, ◌≡◌, ◌∙◌, ℕ, zero, suc, ◌+◌, ◌<◌, arith, Bool, true, false, cond, List, [], ◌∷◌, ◌++◌, filter, take, get_or, length, slice_get, Option, Some, None, refl, sym, ap, subst, cases_Bool, cond-true, cond-false, filter_more, get_or_from_slice_get, Bor, list_any, bytes_eq, PageFile, SiteFiles, is_slash, after_slashes, has_name, Names, named_at, IsKnown, known_with, known_at, only_name}
 use Rattle.std.proofs.lemmas.Map.Text.{btree_map_updates_str}
 use Rattle.std.specs.BTreeMap as tree
 use Rattle.std.specs.Cmp.Lexicographic.{slice_cmp}
@@ -10,15 +10,15 @@ use Rattle.site_check.specs.declared.names.Namesakes.{Namesakes}
 -- ---- the last part of a path
 
 -- a text without slashes is all after the last
-no_slash : (bs : List ℕ) → list_any is_slash bs ≡ false → behind_slashes bs ≡ bs
+no_slash : (bs : List ℕ) → list_any is_slash bs ≡ false → after_slashes bs ≡ bs
 no_slash [] none = refl
 no_slash (b ∷ bs) none = cond-false (list_any is_slash (b ∷ bs)) _ _ none
 
 -- the name so far, or what follows a slash of the rest
 abbrev pub name_on : List ℕ → List ℕ → List ℕ
-name_on name rest = cond (list_any is_slash rest) (behind_slashes rest) name
+name_on name rest = cond (list_any is_slash rest) (after_slashes rest) name
 
-pub name_first : (path : List ℕ) → name_on path path ≡ behind_slashes path
+pub name_first : (path : List ℕ) → name_on path path ≡ after_slashes path
 name_first path = grind (arith, common_steps, cases_Bool, cond-true, cond-false, no_slash)
 
 slash_on : (name : List ℕ) (b : ℕ) (more : List ℕ) → is_slash b ≡ true → name_on more more ≡ name_on name (b ∷ more)
@@ -73,5 +73,5 @@ names_more pages n name old new within is e =
 
 -- none has it
 pub none_known : (front : List ℕ) (files : SiteFiles) (places : List Place) (pages found : List PageFile) (known : Option Namesakes) → known ≡ None → IsKnown pages found known →
-    None ≡ only_told front files places found
+    None ≡ only_name front files places found
 none_known front files places pages found known e is = grind (arith, common_steps)

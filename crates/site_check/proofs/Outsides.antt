@@ -3,7 +3,8 @@ use Rattle.site_check.proofs.Prelude.{common_steps, ◌≡◌, ◌∙◌, ℕ, s
 use Rattle.std.proofs.Common.{codes, ◌≢◌, eqb, eq-eqb, eqb-true, ne_eqb}
 use Rattle.site_check.proofs.LeadsFound.{no_more}
 use Rattle.site_check.specs.Leaving.{outside_row, path_after, path_from, steps_up}
-use Rattle.site_check.specs.declared.leaving.Outside.{Outside}
+use Rattle.site_check.specs.declared.input.MapName.{MapName}
+use Rattle.site_check.specs.declared.outside.Outside.{Outside}
 
 -- ---- on the host
 
@@ -29,10 +30,10 @@ off_host front url lacks =
 
 -- ---- no such result
 
-pub none_outside : (rooted : Bool) (files : SiteFiles) (results rs : List PageResult) (found : List (Bor PageResult)) → length found ≡ 0 → pointed found ≡ rs →
-    [] ≡ map (outside_row rooted files) (map (linked results) rs)
-none_outside rooted files results rs [] none are = ap (λ own. map (outside_row rooted files) (map (linked results) own)) are
-none_outside rooted files results rs (r ∷ found) none are = absurd (omega (arith, none))
+pub none_outside : (rooted : Bool) (maps : List MapName) (files : SiteFiles) (results rs : List PageResult) (found : List (Bor PageResult)) → length found ≡ 0 → pointed found ≡ rs →
+    [] ≡ map (outside_row rooted maps files) (map (linked results) rs)
+none_outside rooted maps files results rs [] none are = ap (λ own. map (outside_row rooted maps files) (map (linked results) own)) are
+none_outside rooted maps files results rs (r ∷ found) none are = absurd (omega (arith, none))
 
 -- ---- their numbers
 

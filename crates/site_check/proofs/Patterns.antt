@@ -1,5 +1,5 @@
 -- Patterns: a text is searched for the pieces between their `*`, each at its first place.
-use Rattle.site_check.proofs.Prelude.{common_steps, ◌≡◌, ◌∙◌, ℕ, zero, suc, ◌+◌, ◌<◌, ◌≤◌, Bool, true, false, ◌||◌, cond, List, [], ◌∷◌, ◌++◌, length, length-append, drop, take, get_or, refl, sym, ap, inl, inr, arith, cases_Bool, cond-true, cond-false, take-append-drop, bytes_eq, bytes_eq-Decides, list_any, any_end, begins, fits, is_last, is_star}
+use Rattle.site_check.proofs.Prelude.{common_steps, ◌≡◌, ◌∙◌, ℕ, zero, suc, ◌+◌, ◌<◌, ◌≤◌, Bool, true, false, ◌||◌, cond, List, [], ◌∷◌, ◌++◌, length, drop, take, get_or, refl, sym, ap, inl, inr, arith, cases_Bool, cond-true, cond-false, take-append-drop, bytes_eq, bytes_eq-Decides, list_any, any_end, begins, fits, is_last, is_star}
 use Rattle.std.proofs.Common.{◌≢◌, ◌-◌, ◌&&◌, eqb, length-drop, ne_eqb}
 use Rattle.std.proofs.Math.Bool.{or-false}
 use Rattle.std.proofs.Math.Seq.{drop-append-add, drop-append_seam, drop-nil, take-append_seam}

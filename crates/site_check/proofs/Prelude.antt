@@ -3,14 +3,14 @@ pub use Rattle.crawl_pages.specs.declared.page.Page.{Page}
 pub use Rattle.crawl_pages.specs.declared.page.PageResult.{PageResult}
 pub use Rattle.crawl_sources.specs.Tallies.{Count, IsTally, count_of, pointed}
 pub use Rattle.site_check.specs.Aliases.{is_alias, is_alias_page, is_document, is_document_page, is_file_page, is_in, is_own_page}
-pub use Rattle.site_check.specs.Base.{Counts, count_at, ends_path, first_in, has_folder, hint_among, hint_at, hint_for, hint_with, is_in_folder, is_often, named_folder, often_first, one_if, path_count, place_folder, root_folder, row_folders, to_slash}
+pub use Rattle.site_check.specs.Base.{Counts, begins_name, count_at, first_in, has_folder, hint_among, hint_at, hint_for, hint_with, is_in_folder, is_often, is_special, named_folder, often_first, one_if, path_count, place_folder, root_folder, row_folders, to_slash}
 pub use Rattle.site_check.specs.Broken.{Linked, after_byte, any_end, begins, broken_of, file_in, file_mark, fits, is_ignored, is_last, is_place_ignored, is_star, is_unfound, linked, linked_at, matches, matches_place, matches_target, names_file, redirects_of, result_at, rows_at, rows_with, shown, target_in, ways_at, ways_with}
 pub use Rattle.site_check.specs.Hints.{folder_in, hint_of, hints_at, hints_in, hints_of, hints_of_page}
 pub use Rattle.site_check.specs.Ignored.{anchors_in, entries_in, entry_in, is_used, matches_row, missing_texts, not_ignored, text_at, unused}
 pub use Rattle.site_check.specs.Invalid.{AreInvalid, AreTexts, ascends, ascends_after, invalid_at, invalid_in, invalid_rows_in, invalid_with, link_text, link_texts, next_text, once, once_after, once_next, rises, rises_after, row_of, text_of, texts_if, texts_in}
 pub use Rattle.site_check.specs.Leads.{HasNoLink, Indices, Numbers, Target, indices_at, indices_in, indices_with, lead_to, leads_at, leads_from, leads_of, missing_from, moved_target, number_at, number_in, number_with, own_number, target_at, targets_of, to_number}
-pub use Rattle.site_check.specs.Leaving.{if_leaving, is_outside, leaving_in, leaving_of, leaving_row_in, outside_at, outside_linked, outside_number, outside_of, outside_row, outside_targets, outside_text, outside_texts, path_after, path_from, row_at, shown_at, step_up, steps_up}
-pub use Rattle.site_check.specs.Names.{AreNamed, IsKnown, Names, behind_slashes, has_name, is_slash, known_at, known_with, named_at, only_told, stands_in}
+pub use Rattle.site_check.specs.Leaving.{is_outside, leaving_in, leaving_of, leaving_row_in, outside_at, outside_linked, outside_number, outside_of, outside_row, outside_targets, outside_text, outside_texts, path_after, path_from, row_at, shown_at, step_up, steps_up}
+pub use Rattle.site_check.specs.Names.{AreNamed, IsKnown, Names, after_slashes, has_name, is_slash, known_at, known_with, named_at, only_name, has_place_in}
 pub use Rattle.site_check.specs.Anchors.{anchor_text}
 pub use Rattle.site_check.specs.Reported.{TargetRow, is_gone, places_left, rows_left, target_row, with_left}
 pub use Rattle.site_check.specs.Told.{rows_in, way_of}

@@ -1,6 +1,7 @@
 -- The first folder of a path, and how many paths have it.
-use Rattle.site_check.proofs.Prelude.{common_steps, ◌≡◌, ◌∙◌, ℕ, zero, suc, ◌+◌, ◌<◌, ◌^◌, ◌≤◌, ◌&&◌, Bool, true, false, not, ◌||◌, cond, List, [], ◌∷◌, ◌++◌, Option, Some, None, length, length-map, filter, drop, get_or, slice_get, refl, subst, sym, ap, inl, inr, arith, cases_Bool, cond-true, cond-false, bytes_eq, bytes_eq-Decides, count_by-le-length, list_any, option_map, Bor, pointed, Counts, PageFile, SiteFiles, count_at, ends_path, first_in, hint_among, hint_for, hint_with, is_often, is_slash, named_folder, often_first, one_if, path_count, root_folder, to_slash}
-use Rattle.std.proofs.Common.{◌==◌, add-one, codes, drop-cons, eqb-true}
+use Rattle.site_check.proofs.Prelude.{common_steps, ◌≡◌, ◌∙◌, ℕ, zero, suc, ◌+◌, ◌<◌, ◌^◌, ◌≤◌, ◌&&◌, Bool, true, false, not, ◌||◌, cond, List, [], ◌∷◌, ◌++◌, Option, Some, None, length, length-map, filter, drop, get_or, slice_get, refl, subst, sym, ap, inl, inr, arith, cases_Bool, cond-true, cond-false, bytes_eq, bytes_eq-Decides, count_by-le-length, list_any, option_map, Bor, pointed, Counts, PageFile, SiteFiles, begins_name, count_at, first_in, hint_among, hint_for, hint_with, is_often, is_slash, is_special, named_folder, often_first, one_if, path_count, root_folder, to_slash}
+use Rattle.std.proofs.Common.{◌==◌, add-one, codes, drop-cons, eqb-true, true≢false}
+use Rattle.std.proofs.lemmas.Bool.{and_parts, not-true}
 use Rattle.std.proofs.lemmas.List.{drop_all}
 use Rattle.std.proofs.lemmas.List.Sums.{sum_by-cons}
 use Rattle.std.specs.Option.{option_and_then, unwrap_or}
@@ -17,9 +18,9 @@ no_folder : (path : List ℕ) → IsName path → to_slash path ≡ None
 no_folder [] free = refl
 no_folder (b ∷ path) free =
     cond-false (is_slash b) _ _ (first_free b path free)
-    ∙ elim (cases_Bool (ends_path b)) [
-      | inl ends ↦ cond-true (ends_path b) _ _ ends
-      | inr more ↦ cond-false (ends_path b) _ _ more ∙ ap (option_map (λ name. b ∷ name)) (no_folder path (more_name b path free))
+    ∙ elim (cases_Bool (is_special b)) [
+      | inl ends ↦ cond-true (is_special b) _ _ ends
+      | inr more ↦ cond-false (is_special b) _ _ more ∙ ap (option_map (λ name. b ∷ name)) (no_folder path (more_name b path free))
     ]
 
 -- the bytes before a slash are the folder, unless one of them ends the path
@@ -27,27 +28,40 @@ longer : (is : Bool) (b : ℕ) (folder : List ℕ) → option_map (λ name. b �
 longer true b folder = refl
 longer false b folder = refl
 
-cut_folder : (folder more : List ℕ) → IsName folder → to_slash (folder ++ 47 ∷ more) ≡ cond (list_any ends_path folder) None (Some folder)
+cut_folder : (folder more : List ℕ) → IsName folder → to_slash (folder ++ 47 ∷ more) ≡ cond (list_any is_special folder) None (Some folder)
 cut_folder [] more free = refl
 cut_folder (b ∷ folder) more free =
     cond-false (is_slash b) _ _ (first_free b folder free)
-    ∙ elim (cases_Bool (ends_path b)) [
-      | inl ends ↦ cond-true (ends_path b) _ _ ends ∙ sym (cond-true (list_any ends_path (b ∷ folder)) _ _ (λ i. ends i || list_any ends_path folder))
+    ∙ elim (cases_Bool (is_special b)) [
+      | inl ends ↦ cond-true (is_special b) _ _ ends ∙ sym (cond-true (list_any is_special (b ∷ folder)) _ _ (λ i. ends i || list_any is_special folder))
       | inr goes_on ↦
-          cond-false (ends_path b) _ _ goes_on ∙ ap (option_map (λ name. b ∷ name)) (cut_folder folder more (more_name b folder free))
-          ∙ longer (list_any ends_path folder) b folder ∙ ap (λ is. cond is None (Some (b ∷ folder))) (sym (λ i. goes_on i || list_any ends_path folder))
+          cond-false (is_special b) _ _ goes_on ∙ ap (option_map (λ name. b ∷ name)) (cut_folder folder more (more_name b folder free))
+          ∙ longer (list_any is_special folder) b folder ∙ ap (λ is. cond is None (Some (b ∷ folder))) (sym (λ i. goes_on i || list_any is_special folder))
     ]
 
 abbrev pub is_folder : List ℕ → Bool
-is_folder name = not (length name == 0) && not (list_any ends_path name)
+is_folder name = begins_name name && not (list_any is_special name)
 
-named : (folder : List ℕ) → is_folder folder ≡ true → Some folder ≡ named_folder (cond (list_any ends_path folder) None (Some folder))
-named [] is = grind (arith, common_steps)
-named (b ∷ folder) is = grind (arith, common_steps, cases_Bool, cond-true, cond-false)
+named : (folder : List ℕ) → is_folder folder ≡ true → Some folder ≡ named_folder (cond (list_any is_special folder) None (Some folder))
+named [] is = absurd (true≢false (sym is))
+named (b ∷ folder) is =
+    let special = list_any is_special (b ∷ folder) in
+    let parts = and_parts (not (b == 46)) (not special) is in
+    sym (ap named_folder (cond-false special None (Some (b ∷ folder)) (not-true special parts.1)) ∙ cond-false (b == 46) None (Some (b ∷ folder)) (not-true (b == 46) parts.0))
 
-unnamed : (folder : List ℕ) → is_folder folder ≡ false → None ≡ named_folder (cond (list_any ends_path folder) None (Some folder))
+begins_with_dot : (dot special : Bool) → (not dot && not special) ≡ false → special ≡ false → dot ≡ true
+begins_with_dot true special is plain = refl
+begins_with_dot false special is plain = absurd (true≢false (sym (ap not plain) ∙ is))
+
+unnamed : (folder : List ℕ) → is_folder folder ≡ false → None ≡ named_folder (cond (list_any is_special folder) None (Some folder))
 unnamed [] is = refl
-unnamed (b ∷ folder) is = grind (arith, common_steps, cases_Bool, cond-true, cond-false)
+unnamed (b ∷ folder) is =
+    let special = list_any is_special (b ∷ folder) in
+    elim (cases_Bool special) [
+      | inl other ↦ sym (ap named_folder (cond-true special None (Some (b ∷ folder)) other))
+      | inr plain ↦
+          sym (ap named_folder (cond-false special None (Some (b ∷ folder)) plain) ∙ cond-true (b == 46) None (Some (b ∷ folder)) (begins_with_dot (b == 46) special is plain))
+    ]
 
 pub folder_there : (path folder more : List ℕ) → path ≡ folder ++ 47 ∷ more → IsName folder → is_folder folder ≡ true → Some folder ≡ named_folder (to_slash path)
 folder_there path folder more is free own = named folder own ∙ sym (ap (λ p. named_folder (to_slash p)) is ∙ ap named_folder (cut_folder folder more free))
@@ -110,7 +124,7 @@ count_fits counts folder more folders small are =
     omega (arith, small, all, one, most, same, path_more folder more folder.now)
 
 -- what is left from an index on
-cut_here : (folders : List (Bor (List ℕ))) (i : ℕ) (folder : Bor (List ℕ)) → i < length folders → folder ≡ get_or folders i folder → drop i folders ≡ folder ∷ drop (i + 1) folders
+pub cut_here : (folders : List (Bor (List ℕ))) (i : ℕ) (folder : Bor (List ℕ)) → i < length folders → folder ≡ get_or folders i folder → drop i folders ≡ folder ∷ drop (i + 1) folders
 cut_here folders i folder below is =
     drop-cons folders i folder below ∙ ap (λ x. x ∷ drop (suc i) folders) (sym is) ∙ ap (λ n. folder ∷ drop n folders) (sym (add-one i))
 
@@ -161,7 +175,7 @@ drop_at [] i x at = grind (arith, common_steps)
 drop_at (y ∷ xs) zero x at = grind (arith, common_steps)
 drop_at (y ∷ xs) (suc i) x at = drop_at xs i x at
 
-drop_there : {X : Type 0} (xs : List X) (i : ℕ) (x : X) → slice_get xs i ≡ Some x → drop i xs ≡ x ∷ drop (i + 1) xs
+pub drop_there : {X : Type 0} (xs : List X) (i : ℕ) (x : X) → slice_get xs i ≡ Some x → drop i xs ≡ x ∷ drop (i + 1) xs
 drop_there xs i x at = drop_at xs i x at ∙ ap (λ n. x ∷ drop n xs) (sym (add-one i))
 
 -- the page with this number, which the test is about

@@ -62,7 +62,7 @@ pub are_unused : (front : List ℕ) (entries : List (List ℕ)) (results : List 
 are_unused front entries results anchors texts all others shown pages unused_ones rows are exact missing each same =
     record {
       anchors = anchors;
-      told_anchors = are;
+      row_anchors = are;
       exact = exact
           ∙ (λ i. filter (λ entry. not (cond (names_file entry) (list_any (matches_row (file_in entry) (target_in entry)) rows) (same_both (matches entry) anchors texts all shown pages (each.same (matches entry)) i))) entries)
           ∙ (λ i. unused entries (((anchors ++ all) ++ sym same i) ++ sym missing i) rows);

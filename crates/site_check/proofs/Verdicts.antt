@@ -4,7 +4,7 @@ use Rattle.std.proofs.Common.{◌==◌, lt-ltb, max, nat_lt}
 use Rattle.check_report.specs.Text.{is_broken}
 use Rattle.check_report.specs.declared.value.Broken.{Broken}
 use Rattle.check_report.specs.declared.value.Kind.{Kind}
-use Rattle.check_report.specs.declared.value.Kind.TheVariants.{NoPage, NoAnchor, NotUrl, UnknownScheme, LocalFile, Leaves, OutsideBase}
+use Rattle.check_report.specs.declared.value.Kind.TheVariants.{NoPage, NoAnchor, NotUrl, UnknownScheme, LocalFile, Leaves, OutsideBase, NotInMap}
 use Rattle.check_report.specs.declared.value.Redirect.{Redirect}
 use Rattle.check_report.specs.declared.value.Totals.{Totals}
 use Rattle.site_files.specs.declared.alias.Alias.{Alias}
@@ -24,6 +24,7 @@ counted UnknownScheme w n urls anchors invalid leaving = let some = some_capped 
 counted LocalFile w n urls anchors invalid leaving = let some = some_capped n invalid in grind (arith, common_steps)
 counted Leaves w n urls anchors invalid leaving = let some = some_capped n leaving in grind (arith, common_steps)
 counted OutsideBase w n urls anchors invalid leaving = let some = some_capped n leaving in grind (arith, common_steps)
+counted NotInMap w n urls anchors invalid leaving = let some = some_capped n leaving in grind (arith, common_steps)
 
 by_rows : (is_other is_text : List ℕ → Bool) (results : List PageResult) (broken : List Broken) (redirects : List Redirect) →
     is_broken (totals_by is_other is_text results broken redirects) ≡ not (length broken == 0)

@@ -1,7 +1,8 @@
 -- The hint at a missing BASE: paths from the root that begin with a folder which the site does not have.
-use Rattle.std.specs.Prelude.{◌==◌, ◌-◌, ℕ, Bool, ◌&&◌, ◌||◌, if◌then◌else◌, List, [], ◌∷◌, ◌++◌, length, filter, count_by, nat_le, Option, None, Some, option_and_then, option_map, unwrap_or, string_bytes, bytes_eq}
+use Rattle.std.specs.Prelude.{◌==◌, ◌-◌, ℕ, Bool, false, not, ◌&&◌, ◌||◌, if◌then◌else◌, List, [], ◌∷◌, ◌++◌, length, filter, count_by, nat_le, Option, None, Some, option_and_then, option_map, unwrap_or, string_bytes, bytes_eq}
 use Rattle.std.specs.Borrow.{Bor}
 use Rattle.std.specs.BTreeMap.{BTreeMap, get_by}
+use Rattle.std.specs.Char.{is_ascii_alphanumeric}
 use Rattle.std.specs.Cmp.Lexicographic.{slice_cmp}
 use Rattle.std.specs.List.{flat_map, list_any}
 use Rattle.std.specs.Option.{option_to_list}
@@ -17,20 +18,33 @@ use Rattle.site_files.specs.declared.files.SiteFiles.{SiteFiles}
 
 -- ---- the folders
 
--- a `#` or a `?`, which ends the path of a URL
-abbrev pub ends_path : ℕ → Bool
-ends_path byte = byte == 35 || byte == 63
+-- one of `-`, `.`, `_` and `~`
+abbrev pub is_mark : ℕ → Bool
+is_mark byte = byte == 45 || (byte == 46 || (byte == 95 || byte == 126))
 
--- what is before the first slash, if the path has one
+-- a letter, a digit or such a mark, which a URL and the name of a folder have as it is
+unfoldable pub is_plain : ℕ → Bool
+is_plain byte = is_ascii_alphanumeric byte || is_mark byte
+
+-- any other byte
+abbrev pub is_special : ℕ → Bool
+is_special byte = not (is_plain byte)
+
+-- what is before the first slash, if the path has one and no special byte before it
 abbrev pub to_slash : List ℕ → Option (List ℕ)
 to_slash [] = None
-to_slash (byte ∷ path) = if is_slash byte then Some [] else (if ends_path byte then None else option_map (λ name. byte ∷ name) (to_slash path))
+to_slash (byte ∷ path) = if is_slash byte then Some [] else (if is_special byte then None else option_map (λ name. byte ∷ name) (to_slash path))
 
--- the folder, unless its name is empty
+-- the folder, unless its name is empty or begins with a dot
 abbrev pub named_folder : Option (List ℕ) → Option (List ℕ)
 named_folder None = None
 named_folder (Some []) = None
-named_folder (Some (byte ∷ name)) = Some (byte ∷ name)
+named_folder (Some (byte ∷ name)) = if byte == 46 then None else Some (byte ∷ name)
+
+-- the name begins with another byte than a dot
+abbrev pub begins_name : List ℕ → Bool
+begins_name [] = false
+begins_name (byte ∷ name) = not (byte == 46)
 
 -- the first folder of a link that is written with one slash at its start
 abbrev pub root_folder : List ℕ → Option (List ℕ)

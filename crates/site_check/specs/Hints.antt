@@ -1,14 +1,14 @@
 -- Hints: what a server with other rules finds for a page that is missing, as it is reported with the page.
-use Rattle.std.specs.Prelude.{ℕ, ◌-◌, Bool, if◌then◌else◌, List, [], ◌∷◌, ◌++◌, codes, length, take, Option, Some, None, unwrap_or, string_bytes, option_map}
+use Rattle.std.specs.Prelude.{ℕ, ◌-◌, if◌then◌else◌, List, [], ◌∷◌, ◌++◌, codes, length, take, Option, Some, None, unwrap_or, string_bytes, option_map}
 use Rattle.std.specs.List.{flat_map, list_any}
 use Rattle.check_report.specs.declared.value.Broken.{Broken}
 use Rattle.check_report.specs.declared.value.Kind.{Kind}
-use Rattle.check_report.specs.declared.value.Kind.TheVariants.{NoPage}
+use Rattle.check_report.specs.declared.value.Kind.TheVariants.{NoPage, Leaves, OutsideBase, NotInMap}
 use Rattle.crawl_pages.specs.declared.page.Page.{Page}
 use Rattle.crawl_pages.specs.declared.page.Page.TheVariants.{Missing}
 use Rattle.crawl_pages.specs.declared.page.PageResult.{PageResult}
 use Rattle.site_check.specs.Broken.{is_ignored, shown}
-use Rattle.site_check.specs.Names.{behind_slashes, is_slash}
+use Rattle.site_check.specs.Names.{after_slashes, is_slash}
 use Rattle.site_files.specs.Files.{name_at}
 use Rattle.site_files.specs.Hints.{hint_at}
 use Rattle.site_files.specs.declared.files.SiteFiles.{SiteFiles}
@@ -19,13 +19,13 @@ use Rattle.site_files.specs.declared.hint.Hint.TheVariants.{HtmlFallback, IndexF
 
 -- the folder of a file's name, without the slash
 abbrev pub folder_in : List ℕ → List ℕ
-folder_in name = if list_any is_slash name then take (length name - length (behind_slashes name) - 1) name else codes "."
+folder_in name = if list_any is_slash name then take (length name - length (after_slashes name) - 1) name else codes "."
 
 abbrev pub fallback_text : List ℕ → List ℕ
 fallback_text name = name ++ codes " exists: --fallback html"
 
 abbrev pub index_text : List ℕ → List ℕ
-index_text name = folder_in name ++ codes "/ has " ++ behind_slashes name ++ codes ": --index-file " ++ behind_slashes name
+index_text name = folder_in name ++ codes "/ has " ++ after_slashes name ++ codes ": --index-file " ++ after_slashes name
 
 -- the name of the file with this index
 abbrev pub name_in : SiteFiles → ℕ → List ℕ
@@ -55,9 +55,12 @@ hints_at front entries files r = hints_of_page front entries files r.url r.page
 abbrev pub hints_of : List ℕ → List (List ℕ) → SiteFiles → List PageResult → List (Option (List ℕ))
 hints_of front entries files results = flat_map (hints_at front entries files) results
 
--- the hint of a row of a missing page, and any hint of another row
+-- the hint of a row of a missing page, and any hint of another row. What is a hint of a link that leads out of the site is in its row
 abbrev pub hints_with : Kind → Option (List ℕ) → List (Option (List ℕ))
 hints_with NoPage hint = hint ∷ []
+hints_with Leaves hint = []
+hints_with OutsideBase hint = []
+hints_with NotInMap hint = []
 hints_with _ None = []
 hints_with _ (Some text) = Some text ∷ []
 

@@ -71,5 +71,5 @@ not_ignored entries texts = filter (λ text. not (is_ignored entries text)) text
 -- one of the texts `links`, none of the other texts, no page that is not there, and no location of the rows
 pub record AreUnused (front : List ℕ) (entries : List (List ℕ)) (results : List PageResult) (links others : List (List ℕ)) (rows : List Broken) (all : List (List ℕ)) : Type 0 where
   pub anchors : List (List ℕ)
-  pub told_anchors : anchors_in rows ≡ not_ignored entries anchors
+  pub row_anchors : anchors_in rows ≡ not_ignored entries anchors
   pub exact : all ≡ unused entries (((anchors ++ links) ++ others) ++ missing_texts front results) rows

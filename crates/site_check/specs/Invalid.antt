@@ -79,6 +79,7 @@ if_invalid row.UnknownScheme text = record { text = text; kind = Some UnknownSch
 if_invalid row.LocalFile text = record { text = text; kind = Some LocalFile } ∷ []
 if_invalid row.Leaves text = []
 if_invalid row.OutsideBase text = []
+if_invalid row.NotInMap text = []
 
 abbrev pub invalid_row_in : Broken → List InvalidRow
 invalid_row_in b = if_invalid b.kind (string_bytes b.target)

@@ -28,11 +28,11 @@ to_number url None = []
 to_number url (Some number) = record { url = url; number = number } ∷ []
 
 -- the page is not there, and that is not known
-abbrev pub is_told : List ℕ → List (List ℕ) → PageResult → Bool
-is_told front entries r = is_missing r.page && not (is_ignored entries (shown front r.url))
+abbrev pub is_reported : List ℕ → List (List ℕ) → PageResult → Bool
+is_reported front entries r = is_missing r.page && not (is_ignored entries (shown front r.url))
 
 abbrev pub own_number : List ℕ → List (List ℕ) → ℕ → PageResult → Option ℕ
-own_number front entries number r = if is_told front entries r then Some number else None
+own_number front entries number r = if is_reported front entries r then Some number else None
 
 -- the pages that are reported, numbered among all of these
 abbrev pub missing_from : List ℕ → List (List ℕ) → ℕ → List PageResult → List Target

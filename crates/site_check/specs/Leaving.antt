@@ -1,14 +1,17 @@
 -- The links that lead out of a site: to URLs on its host that are not below its top.
-use Rattle.std.specs.Prelude.{◌==◌, ◌+◌, ℕ, Bool, not, ◌&&◌, if◌then◌else◌, List, [], ◌∷◌, ◌++◌, codes, filter, map, Option, None, Some, string_bytes}
+use Rattle.std.specs.Prelude.{◌==◌, ◌+◌, ℕ, Bool, true, false, not, ◌&&◌, if◌then◌else◌, List, [], ◌∷◌, ◌++◌, codes, filter, map, Option, None, Some, option_map, string_bytes}
 use Rattle.std.specs.List.{flat_map}
 use Rattle.check_report.specs.declared.value.Broken.{Broken}
 use Rattle.check_report.specs.declared.value.Kind.{Kind}
-use Rattle.check_report.specs.declared.value.Kind.TheVariants.{Leaves, OutsideBase}
+use Rattle.check_report.specs.declared.value.Kind.TheVariants.{Leaves, OutsideBase, NotInMap}
 use Rattle.crawl_pages.specs.Pages.{is_missing}
 use Rattle.crawl_pages.specs.declared.page.PageResult.{PageResult}
-use Rattle.site_check.specs.Broken.{Linked, Row, begins, is_ignored, linked, row_for}
+use Rattle.site_check.specs.Broken.{Linked, begins, is_ignored, linked}
 use Rattle.site_check.specs.Leads.{Target, to_number}
-use Rattle.site_check.specs.declared.leaving.Outside.{Outside}
+use Rattle.site_check.specs.Maps.{folder_of}
+use Rattle.site_check.specs.Totals.{is_leaving}
+use Rattle.site_check.specs.declared.input.MapName.{MapName}
+use Rattle.site_check.specs.declared.outside.Outside.{Outside}
 use Rattle.site_files.specs.declared.files.SiteFiles.{SiteFiles}
 
 -- ---- which URLs are outside
@@ -55,32 +58,44 @@ outside_texts rooted files found = map (λ r. outside_text rooted files r.url) (
 
 -- ---- the rows
 
+-- the row of a URL: its text, how many pages link to it, its kind, and the folder in which it was looked up
+pub record LeavingRow : Type 0 where
+  pub text : List ℕ
+  pub pages : ℕ
+  pub kind : Kind
+  pub folder : Option (List ℕ)
+
 -- a row is one of such a link by its kind
-abbrev pub if_leaving : Kind → Row → List Row
-if_leaving Leaves row = row ∷ []
-if_leaving OutsideBase row = row ∷ []
-if_leaving _ row = []
+abbrev pub leaving_row_in : Broken → List LeavingRow
+leaving_row_in b =
+    if is_leaving b.kind then record { text = string_bytes b.target; pages = b.pages; kind = b.kind; folder = option_map string_bytes b.hint } ∷ [] else []
 
-abbrev pub leaving_row_in : Broken → List Row
-leaving_row_in b = if_leaving b.kind (record { text = string_bytes b.target; pages = b.pages })
-
-abbrev pub leaving_in : List Broken → List Row
+abbrev pub leaving_in : List Broken → List LeavingRow
 leaving_in all = flat_map leaving_row_in all
 
+-- the kind of a row: by whether the URL was looked up in a folder, and whether the URL of the site is known
+abbrev pub leaving_kind : Bool → Option (List ℕ) → Kind
+leaving_kind rooted (Some folder) = NotInMap
+leaving_kind true None = Leaves
+leaving_kind false None = OutsideBase
+
+abbrev pub leaving_row : List ℕ → ℕ → Bool → Option (List ℕ) → LeavingRow
+leaving_row text pages rooted folder = record { text = text; pages = pages; kind = leaving_kind rooted folder; folder = folder }
+
 -- a URL and how many pages link to it, as in a row
-abbrev pub outside_row : Bool → SiteFiles → Linked → Row
-outside_row rooted files l = record { text = outside_text rooted files l.result.url; pages = l.pages }
+abbrev pub outside_row : Bool → List MapName → SiteFiles → Linked → LeavingRow
+outside_row rooted maps files l = leaving_row (outside_text rooted files l.result.url) l.pages rooted (folder_of maps l.result.url)
 
 -- those of the results outside the site, in order, each with the number of results that link to it
-abbrev pub outside_linked : Bool → SiteFiles → List PageResult → List PageResult → List Row
-outside_linked rooted files results found = map (outside_row rooted files) (map (linked results) (outside_of files found))
+abbrev pub outside_linked : Bool → List MapName → SiteFiles → List PageResult → List PageResult → List LeavingRow
+outside_linked rooted maps files results found = map (outside_row rooted maps files) (map (linked results) (outside_of files found))
 
-abbrev pub row_at : List (List ℕ) → Row → List Row
-row_at entries row = row_for entries row.text row.pages
+abbrev pub row_at : List (List ℕ) → LeavingRow → List LeavingRow
+row_at entries row = if is_ignored entries row.text then [] else row ∷ []
 
 -- the rows of these results, without those that an entry matches
-abbrev pub leaving_of : List (List ℕ) → Bool → SiteFiles → List PageResult → List PageResult → List Row
-leaving_of entries rooted files results found = flat_map (λ r. row_at entries (outside_row rooted files (linked results r))) (outside_of files found)
+abbrev pub leaving_of : List (List ℕ) → Bool → List MapName → SiteFiles → List PageResult → List PageResult → List LeavingRow
+leaving_of entries rooted maps files results found = flat_map (λ r. row_at entries (outside_row rooted maps files (linked results r))) (outside_of files found)
 
 -- ---- which links lead to them
 
@@ -95,8 +110,8 @@ outside_targets entries number (one ∷ more) = to_number one.linked.result.now.
 
 -- ---- how they are found
 
-abbrev pub outside_at : Outside → Row
-outside_at one = record { text = string_bytes one.text; pages = one.linked.pages }
+abbrev pub outside_at : Outside → LeavingRow
+outside_at one = record { text = string_bytes one.text; pages = one.linked.pages; kind = one.kind; folder = option_map (λ f. f.now) one.folder }
 
 abbrev pub shown_at : Outside → List ℕ
 shown_at one = string_bytes one.text

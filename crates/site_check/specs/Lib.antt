@@ -7,8 +7,11 @@ pub mod Ignored
 pub mod Invalid
 pub mod Leads
 pub mod Leaving
+pub mod Maps
 pub mod Names
 pub mod Reported
 pub mod Told
 pub mod Totals
 pub mod Unlisted
+pub mod Unreached
+pub mod Worst

@@ -20,37 +20,37 @@ abbrev pub is_slash : ℕ → Bool
 is_slash b = b == 47
 
 -- what follows the last slash, or all
-abbrev pub behind_slashes : List ℕ → List ℕ
-behind_slashes [] = []
-behind_slashes (b ∷ bs) = if list_any is_slash (b ∷ bs) then behind_slashes bs else b ∷ bs
+abbrev pub after_slashes : List ℕ → List ℕ
+after_slashes [] = []
+after_slashes (b ∷ bs) = if list_any is_slash (b ∷ bs) then after_slashes bs else b ∷ bs
 
 -- the file name that a URL ends with
 abbrev pub last_part : List ℕ → List ℕ
-last_part url = behind_slashes (before_query url)
+last_part url = after_slashes (before_query url)
 
 -- the page is made of a file, and its URL ends with this name
 abbrev pub has_name : List ℕ → PageFile → Bool
 has_name name page = is_some page.file && bytes_eq (last_part page.url) name
 
 -- one of the places is in the file
-abbrev pub stands_in : List ℕ → List Place → Bool
-stands_in file places = list_any (λ (place : Place). bytes_eq (string_bytes place.file) file) places
+abbrev pub has_place_in : List ℕ → List Place → Bool
+has_place_in file places = list_any (λ (place : Place). bytes_eq (string_bytes place.file) file) places
 
 -- the page at a URL that is made of a file, unless one of the places is in that
-abbrev pub page_told : List ℕ → SiteFiles → List Place → List ℕ → Option ℕ → Option (List ℕ)
-page_told front files places url None = None
-page_told front files places url (Some index) = if stands_in (unwrap_or (name_at files index) []) places then None else Some (shown front url)
+abbrev pub name_of_page : List ℕ → SiteFiles → List Place → List ℕ → Option ℕ → Option (List ℕ)
+name_of_page front files places url None = None
+name_of_page front files places url (Some index) = if has_place_in (unwrap_or (name_at files index) []) places then None else Some (shown front url)
 
 -- that of just one page
-abbrev pub only_told : List ℕ → SiteFiles → List Place → List PageFile → Option (List ℕ)
-only_told front files places [] = None
-only_told front files places (page ∷ []) = page_told front files places page.url page.file
-only_told front files places (page ∷ other ∷ more) = None
+abbrev pub only_name : List ℕ → SiteFiles → List Place → List PageFile → Option (List ℕ)
+only_name front files places [] = None
+only_name front files places (page ∷ []) = name_of_page front files places page.url page.file
+only_name front files places (page ∷ other ∷ more) = None
 
 -- what is reported with a target whose links are at these positions: the only page of the site with its file name
 abbrev pub same_name : List ℕ → SiteFiles → List ℕ → List Place → Option (List ℕ)
 same_name front files target places =
-    if length (last_part target) == 0 then None else only_told front files places (filter (has_name (last_part target)) (pages_of files))
+    if length (last_part target) == 0 then None else only_name front files places (filter (has_name (last_part target)) (pages_of files))
 
 -- this is reported only of pages
 abbrev pub name_for : Kind → Option (List ℕ) → Option (List ℕ)
@@ -60,12 +60,12 @@ name_for _ name = None
 abbrev pub own_name : List ℕ → SiteFiles → Broken → Option (List ℕ)
 own_name front files b = name_for b.kind (same_name front files (string_bytes b.target) b.places.items)
 
-abbrev pub told_name : Broken → Option (List ℕ)
-told_name b = option_map string_bytes b.same_name
+abbrev pub reported_name : Broken → Option (List ℕ)
+reported_name b = option_map string_bytes b.same_name
 
 -- each row has that name
 abbrev pub AreNamed : List ℕ → SiteFiles → List Broken → Type 0
-AreNamed front files all = map told_name all ≡ map (own_name front files) all
+AreNamed front files all = map reported_name all ≡ map (own_name front files) all
 
 -- ---- pages by their names
 

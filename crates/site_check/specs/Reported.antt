@@ -12,8 +12,9 @@ use Rattle.site_check.specs.Invalid.{AreInvalid, invalid_rows_in, row_of, text_o
 use Rattle.site_check.specs.Leaving.{leaving_in, leaving_of, outside_at, outside_texts, row_at, shown_at}
 use Rattle.site_check.specs.Names.{AreNamed}
 use Rattle.site_check.specs.Told.{rows_in}
+use Rattle.site_check.specs.declared.input.MapName.{MapName}
 use Rattle.site_check.specs.declared.invalid.InvalidText.{InvalidText}
-use Rattle.site_check.specs.declared.leaving.Outside.{Outside}
+use Rattle.site_check.specs.declared.outside.Outside.{Outside}
 use Rattle.site_check.specs.declared.linked.Linked as code
 use Rattle.site_check.specs.declared.missing_anchors.MissingAnchor.{MissingAnchor}
 use Rattle.site_files.specs.declared.files.SiteFiles.{SiteFiles}
@@ -51,18 +52,22 @@ rows_left entries rows = map (with_left entries) (filter (λ row. not (is_gone e
 
 -- ---- all rows
 
--- these rows are what the entries leave of rows for exactly the following: the missing pages, in order, each with the number of results that
--- link to it, the only page with its file name and the hint at it; the texts `links` of invalid links, each once; and the URLs outside the
--- site. The entries `unused_ones` match none of these, no missing anchor and no location
-pub record AreReported (front : List ℕ) (entries links : List (List ℕ)) (rooted : Bool) (files : SiteFiles) (results found : List PageResult) (rows : List Broken) (unused_ones : List (List ℕ)) : Type 0 where
+-- these rows are rows for exactly the following: the missing pages, in order, each with the number of results that link to it, the only page
+-- with its file name and the hint at it; the texts `links` of invalid links, each once; and the URLs outside the site, each with the folder of
+-- `maps` in which it was looked up. The entries `unused_ones` match none of these, no missing anchor and no location
+pub record AreAllRows (front : List ℕ) (entries links : List (List ℕ)) (rooted : Bool) (maps : List MapName) (files : SiteFiles) (results found : List PageResult) (rows : List Broken) (unused_ones : List (List ℕ)) : Type 0 where
+  pub pages : rows_in rows ≡ broken_of front entries results
+  pub names : AreNamed front files rows
+  pub hints : hints_in rows ≡ hints_of front entries files results
+  pub invalid : AreInvalid entries links (invalid_rows_in rows)
+  pub leaving : leaving_in rows ≡ leaving_of entries rooted maps files results found
+  pub ignores : AreUnused front entries results links (outside_texts rooted files found) rows unused_ones
+
+-- these rows are what the entries leave of such rows
+pub record AreReported (front : List ℕ) (entries links : List (List ℕ)) (rooted : Bool) (maps : List MapName) (files : SiteFiles) (results found : List PageResult) (rows : List Broken) (unused_ones : List (List ℕ)) : Type 0 where
   pub whole : List Broken
-  pub pages : rows_in whole ≡ broken_of front entries results
-  pub names : AreNamed front files whole
-  pub hints : hints_in whole ≡ hints_of front entries files results
-  pub invalid : AreInvalid entries links (invalid_rows_in whole)
-  pub leaving : leaving_in whole ≡ leaving_of entries rooted files results found
+  pub all : AreAllRows front entries links rooted maps files results found whole unused_ones
   pub left : map target_row rows ≡ rows_left entries (map target_row whole)
-  pub ignores : AreUnused front entries results links (outside_texts rooted files found) whole unused_ones
 
 -- ---- how they are found
 

@@ -2,7 +2,7 @@
 use Rattle.std.specs.Prelude.{ℕ, ◌+◌, ◌-◌, ◌^◌, Bool, true, false, ◌||◌, if◌then◌else◌, List, length, count_by, sum_by, min, max}
 use Rattle.check_report.specs.declared.value.Broken.{Broken}
 use Rattle.check_report.specs.declared.value.Kind.{Kind}
-use Rattle.check_report.specs.declared.value.Kind.TheVariants.{NoPage, NoAnchor, NotUrl, UnknownScheme, LocalFile, Leaves, OutsideBase}
+use Rattle.check_report.specs.declared.value.Kind.TheVariants.{NoPage, NoAnchor, NotUrl, UnknownScheme, LocalFile, Leaves, OutsideBase, NotInMap}
 use Rattle.check_report.specs.declared.value.Redirect.{Redirect}
 use Rattle.check_report.specs.declared.value.Totals.{Totals}
 use Rattle.crawl_pages.specs.declared.page.Page.{Page}
@@ -50,6 +50,7 @@ is_invalid _ = false
 abbrev pub is_leaving : Kind → Bool
 is_leaving Leaves = true
 is_leaving OutsideBase = true
+is_leaving NotInMap = true
 is_leaving _ = false
 
 -- the number of locations of such rows

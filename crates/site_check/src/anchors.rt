@@ -1,5 +1,5 @@
 //! Links to anchors that documents do not have.
-ghost use Rattle.std.specs.Prelude.{◌≡◌, ◌∷◌, ◌++◌, ℕ, List, [], IfOk, OnOk, map, string_bytes};
+ghost use Rattle.std.specs.Prelude.{◌≡◌, ◌∷◌, ◌++◌, ℕ, List, [], OnOk, map, string_bytes};
 ghost use Rattle.site_files.specs.declared.files.SiteFiles.{SiteFiles};
 ghost use Rattle.site_check.specs.Hints.{hints_in};
 ghost use Rattle.site_check.specs.Ignored.{not_ignored, anchors_in};
@@ -123,29 +123,29 @@ fn push_link<'a>(
     Ok(())
 }
 
-/// The rows of these anchors, in order, without those that an entry matches. `found` has the locations of the links to each, after those
-/// of `before` other targets.
-pub(crate) fn anchor_rows(
+/// Appends the rows of these anchors, in order, without those that an entry matches. `found` has the locations of the links to each,
+/// after those of `before` other targets.
+pub(crate) fn push_anchors(
     alloc: Global,
     ignores: &[String],
     anchors: &[MissingAnchor],
     before: usize,
     found: &mut [Vec<Place>],
-) -> Result<Vec<Broken>, NoMemory>
-    ensures rows { IfOk result (λ all. rows_in all.items ≡ []) }
-    ensures names { IfOk result (λ all. (front : List ℕ) (files : SiteFiles) → AreNamed front files all.items) }
-    ensures anchors { IfOk result (λ all. anchors_in all.items ≡ not_ignored (map string_bytes ignores.now) (map anchor_text anchors.now)) }
-    ensures invalid { IfOk result (λ all. invalid_rows_in all.items ≡ []) }
-    ensures leaving { IfOk result (λ all. leaving_in all.items ≡ []) }
-    ensures hints { IfOk result (λ all. hints_in all.items ≡ []) }
+    all: &mut Vec<Broken>,
+) -> Result<(), NoMemory>
+    ensures rows { OnOk result (rows_in all.new.items ≡ rows_in all.old.items) }
+    ensures names { OnOk result ((front : List ℕ) (files : SiteFiles) → AreNamed front files all.old.items → AreNamed front files all.new.items) }
+    ensures anchors { OnOk result (anchors_in all.new.items ≡ anchors_in all.old.items ++ not_ignored (map string_bytes ignores.now) (map anchor_text anchors.now)) }
+    ensures invalid { OnOk result (invalid_rows_in all.new.items ≡ invalid_rows_in all.old.items) }
+    ensures leaving { OnOk result (leaving_in all.new.items ≡ leaving_in all.old.items) }
+    ensures hints { OnOk result (hints_in all.new.items ≡ hints_in all.old.items) }
 {
-    let mut all = Vec::new(alloc);
     for (index, anchor) in anchors.iter().enumerate() {
         let number = before.saturating_add(index);
         let places = take_places(alloc, found, number, anchor.text.as_str());
-        push_anchor(ignores, anchor, places, &mut all)?;
+        push_anchor(ignores, anchor, places, all)?;
     }
-    Ok(all)
+    Ok(())
 }
 
 /// Appends the row of an anchor, unless an entry matches it.

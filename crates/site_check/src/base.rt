@@ -1,10 +1,11 @@
 //! The hint at a missing BASE.
-ghost use Rattle.std.specs.Prelude.{◌≡◌, ◌==◌, ◌<◌, ◌+◌, ◌^◌, ◌&&◌, ◌∷◌, ◌++◌, ℕ, List, [], IfOk, OnOk, Some, bytes_eq, length, not, option_map, slice_get, string_bytes};
+ghost use Rattle.std.specs.Prelude.{◌≡◌, ◌<◌, ◌+◌, ◌^◌, ◌&&◌, ◌∷◌, ◌++◌, ℕ, List, [], IfOk, OnOk, Some, bytes_eq, not, option_map, slice_get, string_bytes};
 ghost use Rattle.std.specs.List.{flat_map, list_any};
 ghost use Rattle.crawl_sources.specs.Tallies.{pointed};
 ghost use Rattle.site_files.specs.Files.{PageFile, pages_of};
-ghost use Rattle.site_check.specs.Base.{base_hint_of, count_at, ends_path, has_folder, hint_among, hint_at, hint_with, is_in_folder, is_often, named_folder, often_first, one_if, path_count, place_folder, root_folder, row_folders, to_slash, written_folder};
+ghost use Rattle.site_check.specs.Base.{base_hint_of, begins_name, count_at, has_folder, hint_among, hint_at, hint_with, is_in_folder, is_mark, is_often, is_plain, is_special, named_folder, often_first, one_if, path_count, place_folder, root_folder, row_folders, to_slash, written_folder};
 
+use crate::names::split_byte;
 use crate::shown::{is_below, shown};
 use crate::totals::is_page;
 use check_report::{BaseHint, Broken, Place};
@@ -84,7 +85,7 @@ fn written_folder(written: &Option<String>) -> Option<&str>
     }
 }
 
-/// The folder between the first two slashes of a text that begins with one. `None` if its name is empty, or if the path ends before.
+/// The folder between the first two slashes of a text that begins with one. `None` if it is not a plain name.
 #[tactic(auto, using(crate::proofs::RootFolders::root_there, crate::proofs::RootFolders::root_lacks))]
 fn root_folder(written: &str) -> Option<&str>
     ensures { option_map (λ folder. folder.now) result ≡ root_folder written.now }
@@ -95,7 +96,7 @@ fn root_folder(written: &str) -> Option<&str>
     }
 }
 
-/// The folder before the first slash of a path, unless its name is empty or has a byte that ends a path.
+/// The folder before the first slash of a path, if it is a plain name.
 fn first_folder(path: &str) -> Option<&str>
     ensures { option_map (λ folder. folder.now) result ≡ named_folder (to_slash path.now) }
 {
@@ -109,34 +110,59 @@ fn first_folder(path: &str) -> Option<&str>
     }
 }
 
-/// Whether a text can be the name of a folder in a path.
+/// Whether a name is plain: it is not empty, does not begin with a dot, and has only bytes that its URL has as well.
 fn is_folder(name: &str) -> bool
-    ensures { result ≡ (not (length name.now == 0) && not (list_any ends_path name.now)) }
+    ensures { result ≡ (begins_name name.now && not (list_any is_special name.now)) }
 {
-    !name.is_empty() && !has_path_end(name.as_bytes())
+    begins_name(name.as_bytes()) && !has_special(name.as_bytes())
 }
 
-/// Whether one of these bytes ends the path of a URL.
-fn has_path_end(name: &[u8]) -> bool
-    ensures { result ≡ list_any ends_path name.now }
+/// Whether a name begins with another byte than a dot.
+fn begins_name(name: &[u8]) -> bool
+    ensures { result ≡ begins_name name.now }
+{
+    match split_byte(name) {
+        Some((first, _)) => first != b'.',
+        None => false,
+    }
+}
+
+/// Whether one of these bytes is special.
+fn has_special(name: &[u8]) -> bool
+    ensures { result ≡ list_any is_special name.now }
 {
     for byte in name {
-        if ends_path(*byte) {
+        if is_special(*byte) {
             return true;
         }
     }
     false
 }
 
-/// Whether a byte ends the path of a URL.
-fn ends_path(byte: u8) -> bool
-    ensures { result ≡ ends_path byte }
+/// Whether a byte is special: it ends the path of a URL, or the URL of a folder may have it in another form.
+fn is_special(byte: u8) -> bool
+    ensures { result ≡ is_special byte }
 {
-    byte == b'#' || byte == b'?'
+    !is_plain(byte)
+}
+
+/// Whether a URL and the name of a folder have this byte as it is.
+#[tactic(auto, unfolding(crate::specs::Base::is_plain))]
+fn is_plain(byte: u8) -> bool
+    ensures { result ≡ is_plain byte }
+{
+    byte.is_ascii_alphanumeric() || is_mark(byte)
+}
+
+/// Whether a byte is `-`, `.`, `_` or `~`.
+fn is_mark(byte: u8) -> bool
+    ensures { result ≡ is_mark byte }
+{
+    byte == b'-' || byte == b'.' || byte == b'_' || byte == b'~'
 }
 
 /// The numbers of paths by their first folders.
-type PathCounts<'a> = BTreeMap<&'a [u8], u64>;
+pub(crate) type PathCounts<'a> = BTreeMap<&'a [u8], u64>;
 
 /// The hint, if at least half and at least two of the paths have the same first folder, and the site does not have that.
 #[tactic(auto, using(crate::proofs::RootFolders::hint_lacks))]
@@ -160,7 +186,10 @@ fn hint_among(
 
 /// Counts how many of the paths have each folder.
 #[tactic(auto, using(crate::proofs::RootFolders::counts_more, crate::proofs::RootFolders::counts_end))]
-fn path_counts<'a>(alloc: Global, folders: &[&'a str]) -> Result<PathCounts<'a>, NoMemory>
+pub(crate) fn path_counts<'a>(
+    alloc: Global,
+    folders: &[&'a str],
+) -> Result<PathCounts<'a>, NoMemory>
     ensures { IfOk result (λ counts. (folder : List ℕ) → count_at counts folder ≡ path_count (pointed folders.now) folder) }
 {
     let mut counts = BTreeMap::new(alloc);
@@ -171,7 +200,7 @@ fn path_counts<'a>(alloc: Global, folders: &[&'a str]) -> Result<PathCounts<'a>,
 }
 
 /// Counts a path with this first folder.
-fn count_path<'a>(folder: &'a str, counts: &mut PathCounts<'a>) -> Result<(), NoMemory>
+pub(crate) fn count_path<'a>(folder: &'a str, counts: &mut PathCounts<'a>) -> Result<(), NoMemory>
     ensures { OnOk result (count_at counts.old folder.now + 1 < 2 ^ 64 → (other : List ℕ) → count_at counts.new other ≡ one_if (bytes_eq folder.now other) + count_at counts.old other) }
 {
     let count = count_at(counts, folder).saturating_add(1);
@@ -180,7 +209,7 @@ fn count_path<'a>(folder: &'a str, counts: &mut PathCounts<'a>) -> Result<(), No
 }
 
 /// The number of paths with this first folder so far.
-fn count_at<'a>(counts: &PathCounts<'a>, folder: &'a str) -> u64
+pub(crate) fn count_at<'a>(counts: &PathCounts<'a>, folder: &'a str) -> u64
     ensures { result ≡ count_at counts.now folder.now }
 {
     counts.get(&folder.as_bytes()).copied().unwrap_or(0)

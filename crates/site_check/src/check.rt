@@ -16,19 +16,22 @@ ghost use Rattle.site_check.specs.Anchors.{anchor_text};
 ghost use Rattle.site_check.specs.Told.{rows_in, way_of};
 ghost use Rattle.site_check.specs.Totals.{totals_of};
 ghost use Rattle.site_check.specs.Unlisted.{unlisted_in};
+ghost use Rattle.site_check.specs.Unreached.{unreached_in};
+ghost use Rattle.site_check.specs.Worst.{file_links, worst_of};
 
-use crate::anchors::anchor_rows;
+use crate::anchors::push_anchors;
 use crate::base::base_hint;
 use crate::file_entries::leave_out;
 use crate::ignored::unused;
 use crate::input::CheckInput;
-use crate::invalid::{InvalidText, invalid_rows, invalid_texts};
+use crate::invalid::{InvalidText, invalid_texts, push_texts};
 use crate::leads::{Lead, Maps, link_indices, targets};
-use crate::leaving::{Outside, outside_leads, outside_rows, outside_urls};
+use crate::leaving::{outside_leads, outside_urls, push_outside};
 use crate::linked::{Linked, linked_results};
 use crate::located::{TargetPlace, by_number};
 use crate::missing_anchors::{MissingAnchor, missing_anchors, sort_by_anchor};
 use crate::names::{Named, names_of};
+use crate::outside::Outside;
 use crate::rows::{broken_rows, redirect_rows};
 use crate::shown::shown;
 use crate::site_pages::{Pages, Site, documents_of};
@@ -110,9 +113,13 @@ pub fn check_site<'f, R: Threads + Sync, B: FileBytes + Sync>(
     // that an entry matches. A missing page has the number of results that link to it, the only page with its file name, unless a link
     // to the missing page is in the file of that page, and the hint at what a server with other rules finds. The unused entries are those
     // that match none of these and no location.
-    ensures rows { IfOk result (λ checked. AreReported input.entry.front.now (map string_bytes input.entry.ignores.now) (texts_if input.entry.invalid input.entry.places.now results.now) input.entry.rooted files.now results.now input.entry.found.now checked.broken.items (map string_bytes checked.unused_ignores.items)) }
+    ensures rows { IfOk result (λ checked. AreReported input.entry.front.now (map string_bytes input.entry.ignores.now) (texts_if input.entry.invalid input.entry.places.now results.now) input.entry.rooted input.entry.maps.now files.now results.now input.entry.found.now checked.broken.items (map string_bytes checked.unused_ignores.items)) }
     // The rows of redirects are the moved results that are linked to.
     ensures redirects { IfOk result (λ checked. map way_of checked.redirects.items ≡ redirects_of input.entry.front.now results.now) }
+    // The unreached files are those of which a search from the starts found no page, by the first URL of each, in order, if they are listed.
+    ensures unreached { IfOk result (λ checked. map string_bytes checked.unreached.items ≡ unreached_in input.entry.front.now files.now input.entry.reached) }
+    // The worst files are the first ten of those with locations, in the order of the number of their locations and then of their names.
+    ensures worst { IfOk result (λ checked. map file_links checked.worst.items ≡ worst_of checked.broken.items) }
     // The unlisted documents are those of which no sitemap lists the own URL or an alias, in order, without `404.html`, if they are listed.
     ensures unlisted { IfOk result (λ checked. map string_bytes checked.unlisted.items ≡ unlisted_in input.entry.front.now input.entry.aliases.now input.entry.documents.now input.entry.listed) }
     // The hint of BASE is the first folder that at least half and at least two of the paths from the root in the rows of missing pages
@@ -129,7 +136,7 @@ pub fn check_site<'f, R: Threads + Sync, B: FileBytes + Sync>(
     let all = linked.as_slice();
     let sought = sought_by(rt, alloc, input, site, all)?;
     let places = locate_by(rt, alloc, site, sought.leads.as_slice(), bytes)?;
-    told(alloc, input, site, all, &sought, places)
+    results_of(alloc, input, site, all, &sought, places)
 }
 
 /// Puts together what the threads of a check read: the results, the anchors and aliases, and the files of the site.
@@ -173,7 +180,7 @@ fn sought_by<'p, R: Threads + Sync>(
     linked: &[Linked<'p>],
 ) -> Result<BrokenLinks<'p>, NoMemory>
     ensures invalid { IfOk result (λ sought. AreTexts (texts_if input.entry.invalid input.entry.places.now site.entry.pages.results.now) (map text_of sought.invalid.items)) }
-    ensures outside { IfOk result (λ sought. map outside_at sought.outside.items ≡ outside_linked input.entry.rooted site.entry.files.now site.entry.pages.results.now input.entry.found.now) }
+    ensures outside { IfOk result (λ sought. map outside_at sought.outside.items ≡ outside_linked input.entry.rooted input.entry.maps.now site.entry.files.now site.entry.pages.results.now input.entry.found.now) }
 {
     let threads = site.files.threads().max(1);
     let (leads, lacked) = join(
@@ -225,7 +232,7 @@ fn page_leads<'p, R: Threads + Sync>(
 }
 
 /// The results of a check, with the locations of the links.
-fn told(
+fn results_of(
     alloc: Global,
     input: CheckInput<'_>,
     site: Site<'_, '_>,
@@ -235,6 +242,8 @@ fn told(
 ) -> Result<Checked, NoMemory>
     ensures rows { IfOk result (λ checked. AreRows input.entry.front.now (map string_bytes input.entry.ignores.now) site.entry.files.now linked.now sought.now.anchors.items sought.now.invalid.items sought.now.outside.items checked.broken.items (map string_bytes checked.unused_ignores.items)) }
     ensures redirects { IfOk result (λ checked. map way_of checked.redirects.items ≡ flat_map (ways_with input.entry.front.now) (map linked_at linked.now)) }
+    ensures worst { IfOk result (λ checked. map file_links checked.worst.items ≡ worst_of checked.broken.items) }
+    ensures unreached { IfOk result (λ checked. map string_bytes checked.unreached.items ≡ unreached_in input.entry.front.now site.entry.files.now input.entry.reached) }
     ensures unlisted { IfOk result (λ checked. map string_bytes checked.unlisted.items ≡ unlisted_in input.entry.front.now input.entry.aliases.now input.entry.documents.now input.entry.listed) }
     ensures base_hint { IfOk result (λ checked. option_map hint_at checked.base_hint ≡ base_hint_of input.entry.rooted site.entry.files.now checked.broken.items) }
     ensures totals { IfOk result (λ checked. checked.totals ≡ totals_of input.entry.aliases.now input.entry.documents.now site.entry.pages.results.now checked.broken.items checked.redirects.items) }
@@ -317,10 +326,11 @@ fn lists_of(
     site: Site<'_, '_>,
     broken: &[Broken],
 ) -> Result<Lists, NoMemory>
+    ensures unreached { IfOk result (λ lists. map string_bytes lists.unreached.items ≡ unreached_in input.entry.front.now site.entry.files.now input.entry.reached) }
     ensures unlisted { IfOk result (λ lists. map string_bytes lists.unlisted.items ≡ unlisted_in input.entry.front.now input.entry.aliases.now input.entry.documents.now input.entry.listed) }
     ensures base_hint { IfOk result (λ lists. option_map hint_at lists.base_hint ≡ base_hint_of input.entry.rooted site.entry.files.now broken.now) }
 {
-    let unreached = unreached_files(alloc, input, site)?;
+    let unreached = unreached(alloc, input, site.files)?;
     let unlisted = unlisted(alloc, input)?;
     let base_hint = base_hint(alloc, input.rooted, site.files, broken)?;
     Ok(Lists {
@@ -328,18 +338,6 @@ fn lists_of(
         unlisted,
         base_hint,
     })
-}
-
-/// Returns the files that the crawl did not reach, if the check has to list them.
-fn unreached_files(
-    alloc: Global,
-    input: CheckInput<'_>,
-    site: Site<'_, '_>,
-) -> Result<Vec<String>, NoMemory> {
-    match input.reached {
-        Some(results) => unreached(alloc, input.front, results, site.files),
-        None => Ok(Vec::new(alloc)),
-    }
 }
 
 /// What is reported after the missing pages: the missing anchors, the texts of invalid links, and the URLs outside the site.
@@ -371,13 +369,25 @@ fn broken_all(
     let invalid = anchors.saturating_add(others.invalid.len());
     let mut found = by_number(alloc, places, invalid.saturating_add(others.outside.len()))?;
     let found = found.as_mut_slice();
-    let rows = missing_rows(alloc, input, site, linked, found)?;
-    let anchor = anchor_rows(alloc, input.ignores, others.anchors, pages, found)?;
-    let text = invalid_rows(alloc, input.ignores, others.invalid, anchors, found)?;
-    let outside = outside_rows(alloc, input, others.outside, invalid, found)?;
-    let rows = joined(rows, anchor)?;
-    let rows = joined(rows, text)?;
-    joined(rows, outside)
+    let mut all = missing_rows(alloc, input, site, linked, found)?;
+    push_anchors(alloc, input.ignores, others.anchors, pages, found, &mut all)?;
+    push_texts(
+        alloc,
+        input.ignores,
+        others.invalid,
+        anchors,
+        found,
+        &mut all,
+    )?;
+    push_outside(
+        alloc,
+        input.ignores,
+        others.outside,
+        invalid,
+        found,
+        &mut all,
+    )?;
+    Ok(all)
 }
 
 /// The rows of the missing pages. Which pages have a file name is only looked up if a page is missing.
@@ -420,21 +430,6 @@ fn has_none(linked: &[Linked<'_>]) -> bool
     true
 }
 
-/// Some rows, and then others that are not of pages.
-fn joined(rows: Vec<Broken>, others: Vec<Broken>) -> Result<Vec<Broken>, NoMemory>
-    ensures rows { IfOk result (λ all. rows_in all.items ≡ rows_in rows.items ++ rows_in others.items) }
-    ensures names { IfOk result (λ all. (front : List ℕ) (files : SiteFiles) → AreNamed front files rows.items → AreNamed front files others.items → AreNamed front files all.items) }
-    ensures hints { IfOk result (λ all. hints_in all.items ≡ hints_in rows.items ++ hints_in others.items) }
-    ensures anchors { IfOk result (λ all. anchors_in all.items ≡ anchors_in rows.items ++ anchors_in others.items) }
-    ensures invalid { IfOk result (λ all. invalid_rows_in all.items ≡ invalid_rows_in rows.items ++ invalid_rows_in others.items) }
-    ensures leaving { IfOk result (λ all. leaving_in all.items ≡ leaving_in rows.items ++ leaving_in others.items) }
-{
-    let mut all = rows;
-    let mut others = others;
-    all.append(&mut others)?;
-    Ok(all)
-}
-
 /// The entries that match no missing page, none of these others, and no location of these rows.
 fn unused_entries(
     alloc: Global,
@@ -447,7 +442,7 @@ fn unused_entries(
 {
     let mut texts = anchor_texts(alloc, others.anchors)?;
     push_invalid(others.invalid, &mut texts)?;
-    push_outside(others.outside, &mut texts)?;
+    push_urls(others.outside, &mut texts)?;
     push_missing(input.front, linked, &mut texts)?;
     let all = unused(alloc, input.ignores, texts.as_slice(), rows)?;
     Ok(all)
@@ -475,7 +470,7 @@ fn push_invalid<'a>(invalid: &[InvalidText<'a>], texts: &mut Vec<&'a str>) -> Re
 }
 
 /// Appends the URLs outside the site, as they are printed.
-fn push_outside<'a>(outside: &'a [Outside<'_>], texts: &mut Vec<&'a str>) -> Result<(), NoMemory>
+fn push_urls<'a>(outside: &'a [Outside<'_>], texts: &mut Vec<&'a str>) -> Result<(), NoMemory>
     ensures { OnOk result (pointed texts.new.items ≡ pointed texts.old.items ++ map shown_at outside.now) }
 {
     for one in outside {

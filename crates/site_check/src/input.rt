@@ -4,6 +4,15 @@ use crawl_pages::PageResult;
 use document_links::{LinkPlaces, PageAnchors};
 use site_files::Alias;
 
+/// A folder in which links that lead out of the site are looked up.
+#[derive(Clone, Copy)]
+pub struct MapName<'a> {
+    /// The URL of the folder, which ends in a slash and begins the URLs that are looked up there.
+    pub prefix: &'a str,
+    /// The folder as it is reported.
+    pub folder: &'a str,
+}
+
 /// The settings of a check, and what is known of the site.
 #[derive(Clone, Copy)]
 pub struct CheckInput<'a> {
@@ -27,6 +36,9 @@ pub struct CheckInput<'a> {
     pub found: &'a [PageResult],
     /// Whether the URL of the folder is not known, so that a URL above the top is shown as a path from the top.
     pub rooted: bool,
+    /// The folders in which the links that lead out of the site were looked up. A URL that is under several belongs to the one with the
+    /// longest prefix. The results of pages that are there are not among `found`.
+    pub maps: &'a [MapName<'a>],
     /// The results of a search from the site's starts, if the files that it does not reach are listed.
     pub reached: Option<&'a [PageResult]>,
     /// The URLs that sitemaps list, if the documents that none lists are reported.

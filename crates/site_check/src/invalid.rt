@@ -252,29 +252,29 @@ fn page_count(links: &[PageLink<'_>]) -> u64 {
     count
 }
 
-/// The rows of these texts, in order, without those that an entry matches. `found` has the locations of the links with each, after
-/// those of `before` other targets.
-pub(crate) fn invalid_rows(
+/// Appends the rows of these texts, in order, without those that an entry matches. `found` has the locations of the links with each,
+/// after those of `before` other targets.
+pub(crate) fn push_texts(
     alloc: Global,
     ignores: &[String],
     texts: &[InvalidText<'_>],
     before: usize,
     found: &mut [Vec<Place>],
-) -> Result<Vec<Broken>, NoMemory>
-    ensures rows { IfOk result (λ all. rows_in all.items ≡ []) }
-    ensures names { IfOk result (λ all. (front : List ℕ) (files : SiteFiles) → AreNamed front files all.items) }
-    ensures anchors { IfOk result (λ all. anchors_in all.items ≡ []) }
-    ensures invalid { IfOk result (λ all. invalid_rows_in all.items ≡ map row_of (not_ignored (map string_bytes ignores.now) (map text_of texts.now))) }
-    ensures leaving { IfOk result (λ all. leaving_in all.items ≡ []) }
-    ensures hints { IfOk result (λ all. hints_in all.items ≡ []) }
+    all: &mut Vec<Broken>,
+) -> Result<(), NoMemory>
+    ensures rows { OnOk result (rows_in all.new.items ≡ rows_in all.old.items) }
+    ensures names { OnOk result ((front : List ℕ) (files : SiteFiles) → AreNamed front files all.old.items → AreNamed front files all.new.items) }
+    ensures anchors { OnOk result (anchors_in all.new.items ≡ anchors_in all.old.items) }
+    ensures invalid { OnOk result (invalid_rows_in all.new.items ≡ invalid_rows_in all.old.items ++ map row_of (not_ignored (map string_bytes ignores.now) (map text_of texts.now))) }
+    ensures leaving { OnOk result (leaving_in all.new.items ≡ leaving_in all.old.items) }
+    ensures hints { OnOk result (hints_in all.new.items ≡ hints_in all.old.items) }
 {
-    let mut all = Vec::new(alloc);
     for (index, text) in texts.iter().enumerate() {
         let number = before.saturating_add(index);
         let places = take_places(alloc, found, number, text.text());
-        push_row(ignores, *text, places, &mut all)?;
+        push_row(ignores, *text, places, all)?;
     }
-    Ok(all)
+    Ok(())
 }
 
 /// Appends the row of a text, unless an entry matches it.

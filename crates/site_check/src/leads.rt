@@ -1,7 +1,7 @@
 //! Links that lead to what is reported: to a missing page, or to a missing anchor.
 ghost use Rattle.std.specs.Prelude.{◌≡◌, ◌∷◌, ◌++◌, ◌+◌, ◌<◌, ◌^◌, ℕ, List, [], IfOk, MatchOption, OnOk, fold, length, map, string_bytes, flat_map, option_copied};
 ghost use Rattle.site_check.specs.Broken.{result_at};
-ghost use Rattle.site_check.specs.Leads.{HasNoLink, indices_at, indices_in, lead_to, leads_at, leads_from, leads_of, is_told, missing_from, moved_number, moved_target, number_at, number_in, number_with, own_number, target_at, targets_of, to_number};
+ghost use Rattle.site_check.specs.Leads.{HasNoLink, indices_at, indices_in, lead_to, leads_at, leads_from, leads_of, is_reported, missing_from, moved_number, moved_target, number_at, number_in, number_with, own_number, target_at, targets_of, to_number};
 
 use crate::ignored::is_ignored;
 use crate::linked::Linked;
@@ -73,7 +73,7 @@ fn missing_targets<'a>(
 fn own_number(front: &str, ignores: &[String], number: usize, one: &PageResult) -> Option<usize>
     ensures { result ≡ own_number front.now (map string_bytes ignores.now) number one.now }
 {
-    if is_told(front, ignores, one) {
+    if is_reported(front, ignores, one) {
         Some(number)
     } else {
         None
@@ -81,8 +81,8 @@ fn own_number(front: &str, ignores: &[String], number: usize, one: &PageResult) 
 }
 
 /// Whether the page is missing and is reported, because no entry of the ignore list matches it.
-pub(crate) fn is_told(front: &str, ignores: &[String], one: &PageResult) -> bool
-    ensures { result ≡ is_told front.now (map string_bytes ignores.now) one.now }
+pub(crate) fn is_reported(front: &str, ignores: &[String], one: &PageResult) -> bool
+    ensures { result ≡ is_reported front.now (map string_bytes ignores.now) one.now }
 {
     one.page.is_missing() && !is_ignored(ignores, shown(front, one.url.as_str()))
 }

@@ -1,14 +1,14 @@
 //! Links that lead out of the site: to URLs on its host that are not below its top.
-ghost use Rattle.std.specs.Prelude.{◌≡◌, ◌∷◌, ◌++◌, ◌+◌, ◌<◌, ◌^◌, ℕ, List, [], true, IfOk, MatchOption, OnOk, length, map, string_bytes};
+ghost use Rattle.std.specs.Prelude.{◌≡◌, ◌++◌, ◌+◌, ◌<◌, ◌^◌, ℕ, List, true, IfOk, MatchOption, OnOk, length, map, option_map, string_bytes};
 ghost use Rattle.std.specs.List.{flat_map};
 ghost use Rattle.crawl_sources.specs.Tallies.{pointed};
 ghost use Rattle.site_files.specs.declared.files.SiteFiles.{SiteFiles};
-ghost use Rattle.site_check.specs.Broken.{begins, linked_at};
+ghost use Rattle.site_check.specs.Broken.{linked_at};
 ghost use Rattle.site_check.specs.Hints.{hints_in};
 ghost use Rattle.site_check.specs.Ignored.{anchors_in};
 ghost use Rattle.site_check.specs.Invalid.{invalid_rows_in};
 ghost use Rattle.site_check.specs.Leads.{indices_in, leads_from, number_at, number_in, target_at};
-ghost use Rattle.site_check.specs.Leaving.{is_left, is_outside, leaving_in, outside_at, outside_linked, outside_number, outside_of, outside_row, outside_targets, outside_text, path_from, row_at, steps_up};
+ghost use Rattle.site_check.specs.Leaving.{is_left, is_outside, leaving_in, leaving_kind, outside_at, outside_linked, outside_number, outside_of, outside_row, outside_targets, outside_text, path_from, row_at, steps_up};
 ghost use Rattle.site_check.specs.Names.{AreNamed};
 ghost use Rattle.site_check.specs.Told.{rows_in};
 ghost use Rattle.site_check.specs.Totals.{is_leaving};
@@ -18,6 +18,8 @@ use crate::input::CheckInput;
 use crate::leads::{Lead, Maps, Target, TargetNumbers, insert_all, link_indices, push_target};
 use crate::linked::{Linked, linked_among};
 use crate::located::take_places;
+use crate::maps::folder_of;
+use crate::outside::Outside;
 use crate::shown::{begins, is_below};
 use crate::site_pages::Site;
 use crate::threads::leads_by;
@@ -28,15 +30,6 @@ use std::alloc::Global;
 use std::collections::BTreeMap;
 use std::thread::Threads;
 
-/// A URL on the site's host that is not below its top.
-#[derive(Drop)]
-pub(crate) struct Outside<'a> {
-    /// The result with this URL, and how many of the site's results link to it.
-    pub(crate) linked: Linked<'a>,
-    /// The URL as it is shown.
-    pub(crate) text: String,
-}
-
 /// The missing results on the site's host that are not below its top, in order, each with how many of the site's results link to its URL.
 #[tactic(auto, using(crate::proofs::Outsides::none_outside))]
 pub(crate) fn outside_urls<'a, R: Threads + Sync>(
@@ -45,7 +38,7 @@ pub(crate) fn outside_urls<'a, R: Threads + Sync>(
     input: CheckInput<'a>,
     site: Site<'a, '_>,
 ) -> Result<Vec<Outside<'a>>, NoMemory>
-    ensures { IfOk result (λ all. map outside_at all.items ≡ outside_linked input.entry.rooted site.entry.files.now site.entry.pages.results.now input.entry.found.now) }
+    ensures { IfOk result (λ all. map outside_at all.items ≡ outside_linked input.entry.rooted input.entry.maps.now site.entry.files.now site.entry.pages.results.now input.entry.found.now) }
 {
     let found = outside_results(alloc, site.files, input.found)?;
     if found.is_empty() {
@@ -53,7 +46,7 @@ pub(crate) fn outside_urls<'a, R: Threads + Sync>(
     }
     let results = site.pages.results;
     let linked = linked_among(rt, alloc, found.as_slice(), results, site.files.threads())?;
-    with_texts(alloc, site.files, input.rooted, linked.as_slice())
+    with_texts(alloc, site.files, input, linked.as_slice())
 }
 
 /// The missing results on the site's host that are not below its top, in order.
@@ -87,21 +80,53 @@ fn is_outside(files: &SiteFiles<'_>, url: &str) -> bool
     is_below(files.origin(), url) && !begins(files.top(), url)
 }
 
-/// These results with their URLs as they are shown.
+/// These results with their URLs as they are shown, and the folders in which they were looked up.
 fn with_texts<'a>(
     alloc: Global,
     files: &SiteFiles<'_>,
-    rooted: bool,
+    input: CheckInput<'a>,
     linked: &[Linked<'a>],
 ) -> Result<Vec<Outside<'a>>, NoMemory>
-    ensures { IfOk result (λ all. map outside_at all.items ≡ map (outside_row rooted files.now) (map linked_at linked.now)) }
+    ensures { IfOk result (λ all. map outside_at all.items ≡ map (outside_row input.entry.rooted input.entry.maps.now files.now) (map linked_at linked.now)) }
 {
     let mut all = Vec::new(alloc);
     for one in linked {
-        let text = outside_text(alloc, files, rooted, one.result.url.as_str())?;
-        all.push(Outside { linked: *one, text })?;
+        all.push(with_text(alloc, files, input, *one)?)?;
     }
     Ok(all)
+}
+
+/// A result with its URL as it is shown, and the folder in which it was looked up.
+fn with_text<'a>(
+    alloc: Global,
+    files: &SiteFiles<'_>,
+    input: CheckInput<'a>,
+    linked: Linked<'a>,
+) -> Result<Outside<'a>, NoMemory>
+    ensures { IfOk result (λ one. outside_at one ≡ outside_row input.entry.rooted input.entry.maps.now files.now (linked_at linked.entry)) }
+{
+    let url = linked.result.url.as_str();
+    let text = outside_text(alloc, files, input.rooted, url)?;
+    let folder = folder_of(input.maps, url);
+    let kind = kind_of(input.rooted, folder);
+    Ok(Outside {
+        linked,
+        text,
+        kind,
+        folder,
+    })
+}
+
+/// The kind of the row of a URL that was looked up in this folder, if in any.
+fn kind_of(rooted: bool, folder: Option<&str>) -> Kind
+    ensures exact { result ≡ leaving_kind rooted (option_map (λ folder. folder.now) folder.entry) }
+    ensures leaving { is_leaving result ≡ true }
+{
+    match folder {
+        Some(_) => Kind::NotInMap,
+        None if rooted => Kind::Leaves,
+        None => Kind::OutsideBase,
+    }
 }
 
 /// A URL that is not below the top, as it is shown: as a path from the top if the URL of the folder is not known.
@@ -233,52 +258,40 @@ fn outside_number(ignores: &[String], number: usize, one: &Outside<'_>) -> Optio
     }
 }
 
-/// The kind of the rows.
-fn kind_of(rooted: bool) -> Kind
-    ensures { is_leaving result ≡ true }
-{
-    if rooted {
-        Kind::Leaves
-    } else {
-        Kind::OutsideBase
-    }
-}
-
-/// The rows of these URLs, in order, without those that an entry matches. `found` has the locations of the links to each, after those
-/// of `before` other targets.
-pub(crate) fn outside_rows(
+/// Appends the rows of these URLs, in order, without those that an entry matches. `found` has the locations of the links to each, after
+/// those of `before` other targets.
+pub(crate) fn push_outside(
     alloc: Global,
-    input: CheckInput<'_>,
+    ignores: &[String],
     outside: &[Outside<'_>],
     before: usize,
     found: &mut [Vec<Place>],
-) -> Result<Vec<Broken>, NoMemory>
-    ensures rows { IfOk result (λ all. rows_in all.items ≡ []) }
-    ensures names { IfOk result (λ all. (front : List ℕ) (files : SiteFiles) → AreNamed front files all.items) }
-    ensures anchors { IfOk result (λ all. anchors_in all.items ≡ []) }
-    ensures invalid { IfOk result (λ all. invalid_rows_in all.items ≡ []) }
-    ensures leaving { IfOk result (λ all. leaving_in all.items ≡ flat_map (row_at (map string_bytes input.entry.ignores.now)) (map outside_at outside.now)) }
-    ensures hints { IfOk result (λ all. hints_in all.items ≡ []) }
+    all: &mut Vec<Broken>,
+) -> Result<(), NoMemory>
+    ensures rows { OnOk result (rows_in all.new.items ≡ rows_in all.old.items) }
+    ensures names { OnOk result ((front : List ℕ) (files : SiteFiles) → AreNamed front files all.old.items → AreNamed front files all.new.items) }
+    ensures anchors { OnOk result (anchors_in all.new.items ≡ anchors_in all.old.items) }
+    ensures invalid { OnOk result (invalid_rows_in all.new.items ≡ invalid_rows_in all.old.items) }
+    ensures leaving { OnOk result (leaving_in all.new.items ≡ leaving_in all.old.items ++ flat_map (row_at (map string_bytes ignores.now)) (map outside_at outside.now)) }
+    ensures hints { OnOk result (hints_in all.new.items ≡ hints_in all.old.items) }
 {
-    let kind = kind_of(input.rooted);
-    let mut all = Vec::new(alloc);
     for (index, one) in outside.iter().enumerate() {
         let number = before.saturating_add(index);
         let places = take_places(alloc, found, number, one.text.as_str());
-        push_row(input.ignores, kind, one, places, &mut all)?;
+        push_row(alloc, ignores, one, places, all)?;
     }
-    Ok(all)
+    Ok(())
 }
 
 /// Appends the row of a URL, unless an entry matches it.
+#[tactic(auto, using(crate::proofs::LeavingRows::no_page, crate::proofs::LeavingRows::no_anchor, crate::proofs::LeavingRows::no_text, crate::proofs::LeavingRows::no_hint, crate::proofs::LeavingRows::no_name))]
 fn push_row(
+    alloc: Global,
     ignores: &[String],
-    kind: Kind,
     one: &Outside<'_>,
     places: Vec<Place>,
     all: &mut Vec<Broken>,
 ) -> Result<(), NoMemory>
-    requires { is_leaving kind ≡ true }
     ensures rows { OnOk result (rows_in all.new.items ≡ rows_in all.old.items) }
     ensures names { OnOk result ((front : List ℕ) (files : SiteFiles) → AreNamed front files all.old.items → AreNamed front files all.new.items) }
     ensures anchors { OnOk result (anchors_in all.new.items ≡ anchors_in all.old.items) }
@@ -290,13 +303,27 @@ fn push_row(
         return Ok(());
     }
     let target = one.text.clone()?;
+    let hint = copy(alloc, one.folder)?;
     all.push(Broken {
         target,
-        kind,
+        kind: one.kind,
         pages: one.linked.pages,
         places,
         same_name: None,
-        hint: None,
+        hint,
     })?;
     Ok(())
+}
+
+/// Copies a text, if there is one.
+fn copy(alloc: Global, text: Option<&str>) -> Result<Option<String>, NoMemory>
+    ensures { IfOk result (λ copy. option_map string_bytes copy ≡ option_map (λ text. text.now) text.entry) }
+{
+    match text {
+        Some(text) => {
+            let copy = String::from_str(alloc, text)?;
+            Ok(Some(copy))
+        }
+        None => Ok(None),
+    }
 }

@@ -126,7 +126,7 @@ fn with_sum<'a>(one: &'a PageResult, first: u64, second: u64) -> Linked<'a>
 
 /// The count at the index.
 fn pages_at(counts: &[Linked<'_>], index: usize) -> u64
-    ensures { (results told : List PageResult) → map linked_at counts.now ≡ map (linked results) told → (one : PageResult) → slice_get told index ≡ Some one → result ≡ length (sources_of results one.url) }
+    ensures { (results those : List PageResult) → map linked_at counts.now ≡ map (linked results) those → (one : PageResult) → slice_get those index ≡ Some one → result ≡ length (sources_of results one.url) }
 {
     match counts.get(index) {
         Some(one) => one.pages,

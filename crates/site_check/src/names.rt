@@ -1,7 +1,7 @@
 //! Pages with the file name of one that is not there.
 ghost use Rattle.std.specs.Prelude.{◌≡◌, ◌∷◌, [], ℕ, List, None, Some, filter, if◌then◌else◌, IfOk, MatchOption, OnOk, slice_get, string_bytes, unwrap_or, option_copied, option_map, bytes_eq};
 ghost use Rattle.site_files.specs.Files.{PageFile, page_file, pages_of};
-ghost use Rattle.site_check.specs.Names.{AreNames, behind_slashes, has_name, is_slash, known_at, known_with, last_part, named_at, only_told, page_told, same_name, stands_in};
+ghost use Rattle.site_check.specs.Names.{AreNames, after_slashes, has_name, is_slash, known_at, known_with, last_part, named_at, only_name, name_of_page, same_name, has_place_in};
 
 use crate::shown::shown;
 use check_report::Place;
@@ -104,18 +104,18 @@ pub(crate) fn same_name<'n>(
     places: &[Place],
 ) -> Result<Option<String>, NoMemory>
     requires { AreNames named.files.now named.names.now }
-    ensures { IfOk result (λ told. option_map string_bytes told ≡ same_name front.now named.entry.files.now target.now places.now) }
+    ensures { IfOk result (λ found. option_map string_bytes found ≡ same_name front.now named.entry.files.now target.now places.now) }
 {
     let name = last_part(target);
     if name.is_empty() {
         return Ok(None);
     }
-    only_told(alloc, front, named, name, places)
+    only_name(alloc, front, named, name, places)
 }
 
 /// The only page with this name, unless one of the places is in its file.
 #[tactic(auto, using(crate::proofs::Namesakes::none_known))]
-fn only_told<'n>(
+fn only_name<'n>(
     alloc: Global,
     front: &str,
     named: Named<'_, 'n>,
@@ -123,33 +123,33 @@ fn only_told<'n>(
     places: &[Place],
 ) -> Result<Option<String>, NoMemory>
     requires { AreNames named.files.now named.names.now }
-    ensures { IfOk result (λ told. option_map string_bytes told ≡ only_told front.now named.entry.files.now places.now (filter (has_name name.now) (pages_of named.entry.files.now))) }
+    ensures { IfOk result (λ found. option_map string_bytes found ≡ only_name front.now named.entry.files.now places.now (filter (has_name name.now) (pages_of named.entry.files.now))) }
 {
     match named.names.get(&name) {
-        Some(Namesakes::One(number)) => { page_told(alloc, front, named.files, *number, places) }
+        Some(Namesakes::One(number)) => { name_of_page(alloc, front, named.files, *number, places) }
         Some(Namesakes::Several) => Ok(None),
         None => Ok(None),
     }
 }
 
 /// The page with this number, unless one of the places is in its file.
-fn page_told(
+fn name_of_page(
     alloc: Global,
     front: &str,
     files: &SiteFiles<'_>,
     number: usize,
     places: &[Place],
 ) -> Result<Option<String>, NoMemory>
-    ensures { (page : PageFile) → slice_get (pages_of files.now) number ≡ Some page → IfOk result (λ told. option_map string_bytes told ≡ only_told front.now files.now places.now (page ∷ [])) }
+    ensures { (page : PageFile) → slice_get (pages_of files.now) number ≡ Some page → IfOk result (λ found. option_map string_bytes found ≡ only_name front.now files.now places.now (page ∷ [])) }
 {
     match files.page(number) {
-        Some((url, file)) => { file_told(alloc, front, files, url, file, places) }
+        Some((url, file)) => { name_of_file(alloc, front, files, url, file, places) }
         None => Ok(None),
     }
 }
 
 /// The page at a URL that is made of a file, unless one of the places is in that.
-fn file_told(
+fn name_of_file(
     alloc: Global,
     front: &str,
     files: &SiteFiles<'_>,
@@ -157,7 +157,7 @@ fn file_told(
     file: Option<usize>,
     places: &[Place],
 ) -> Result<Option<String>, NoMemory>
-    ensures { IfOk result (λ told. option_map string_bytes told ≡ page_told front.now files.now places.now url.now file) }
+    ensures { IfOk result (λ found. option_map string_bytes found ≡ name_of_page front.now files.now places.now url.now file) }
 {
     match file {
         Some(index) => { unless_within(alloc, shown(front, url), files.name(index), places) }
@@ -172,18 +172,18 @@ fn unless_within(
     file: Option<&str>,
     places: &[Place],
 ) -> Result<Option<String>, NoMemory>
-    ensures { IfOk result (λ told. option_map string_bytes told ≡ (if stands_in (unwrap_or (option_map (λ name. name.now) file.entry) []) places.now then None else Some text.now)) }
+    ensures { IfOk result (λ found. option_map string_bytes found ≡ (if has_place_in (unwrap_or (option_map (λ name. name.now) file.entry) []) places.now then None else Some text.now)) }
 {
-    if stands_in(file.unwrap_or(""), places) {
+    if has_place_in(file.unwrap_or(""), places) {
         return Ok(None);
     }
-    let told = String::from_str(alloc, text)?;
-    Ok(Some(told))
+    let name = String::from_str(alloc, text)?;
+    Ok(Some(name))
 }
 
 /// Whether one of the places is in the file.
-fn stands_in(file: &str, places: &[Place]) -> bool
-    ensures { result ≡ stands_in file.now places.now }
+fn has_place_in(file: &str, places: &[Place]) -> bool
+    ensures { result ≡ has_place_in file.now places.now }
 {
     for place in places {
         if place.file.as_str() == file {
@@ -197,13 +197,13 @@ fn stands_in(file: &str, places: &[Place]) -> bool
 pub(crate) fn last_part(url: &str) -> &[u8]
     ensures { result.now ≡ last_part url.now }
 {
-    behind_slashes(before_query(url).as_bytes())
+    after_slashes(before_query(url).as_bytes())
 }
 
 /// What follows the last slash, or all.
 #[tactic(auto, using(crate::proofs::Namesakes::name_first, crate::proofs::Namesakes::name_more, crate::proofs::Namesakes::name_on))]
-fn behind_slashes(path: &[u8]) -> &[u8]
-    ensures { result.now ≡ behind_slashes path.now }
+fn after_slashes(path: &[u8]) -> &[u8]
+    ensures { result.now ≡ after_slashes path.now }
 {
     let mut name = path;
     let mut rest = path;

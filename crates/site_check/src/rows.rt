@@ -5,12 +5,12 @@ ghost use Rattle.site_check.specs.Hints.{hint_of, hints_at, hints_in, hints_in_r
 ghost use Rattle.site_check.specs.Ignored.{anchor_in, anchors_in};
 ghost use Rattle.site_check.specs.Invalid.{invalid_row_in, invalid_rows_in};
 ghost use Rattle.site_check.specs.Leaving.{leaving_in, leaving_row_in};
-ghost use Rattle.site_check.specs.Names.{AreNamed, AreNames, own_name, told_name};
+ghost use Rattle.site_check.specs.Names.{AreNamed, AreNames, own_name, reported_name};
 ghost use Rattle.site_check.specs.Told.{row_in, rows_in, way_of};
 
 use crate::hints::hint_of;
 use crate::input::CheckInput;
-use crate::leads::is_told;
+use crate::leads::is_reported;
 use crate::linked::Linked;
 use crate::located::take_places;
 use crate::names::{Named, same_name};
@@ -63,7 +63,7 @@ fn push_row<'n>(
     ensures leaving { OnOk result (leaving_in all.new.items ≡ leaving_in all.old.items) }
     ensures hints { OnOk result (hints_in all.new.items ≡ hints_in all.old.items ++ hints_at input.entry.front.now (map string_bytes input.entry.ignores.now) named.entry.files.now one.now.result.now) }
 {
-    if !is_told(input.front, input.ignores, one.result) {
+    if !is_reported(input.front, input.ignores, one.result) {
         return Ok(());
     }
     let row = missing_row(alloc, input.front, named, one, places)?;
@@ -81,7 +81,7 @@ fn missing_row<'n>(
 ) -> Result<Broken, NoMemory>
     requires { AreNames named.files.now named.names.now }
     ensures row { IfOk result (λ row. row_in row ≡ record { text = shown front.now one.now.result.now.url; pages = one.now.pages } ∷ []) }
-    ensures name { IfOk result (λ row. told_name row ≡ own_name front.now named.entry.files.now row) }
+    ensures name { IfOk result (λ row. reported_name row ≡ own_name front.now named.entry.files.now row) }
     ensures anchor { IfOk result (λ row. anchor_in row ≡ []) }
     ensures invalid { IfOk result (λ row. invalid_row_in row ≡ []) }
     ensures leaving { IfOk result (λ row. leaving_row_in row ≡ []) }

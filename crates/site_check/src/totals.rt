@@ -252,7 +252,7 @@ fn is_anchor(kind: Kind) -> bool
 fn is_leaving(kind: Kind) -> bool
     ensures { result ≡ is_leaving kind }
 {
-    matches!(kind, Kind::Leaves | Kind::OutsideBase)
+    matches!(kind, Kind::Leaves | Kind::OutsideBase | Kind::NotInMap)
 }
 
 /// Whether the row is that of an invalid link.

@@ -1,4 +1,5 @@
 pub mod Below
+pub mod Bodies
 pub mod Entries
 pub mod Files
 pub mod Firsts

@@ -1,9 +1,13 @@
 //! The contents of files.
+ghost use Rattle.std.specs.Prelude.{◌≡◌, ◌++◌, [], IfOk, OnOk};
+ghost use Rattle.site_files.specs.Bodies.{contents};
+
 use crate::files::SiteFile;
 use crate::notes::Left;
 use std::alloc::{AllocError, Global};
 use std::io;
 use std::io::Read;
+use std::marker::Model;
 
 /// The number of bytes of room that are kept for the next file, at most.
 const ROOM: usize = 1 << 23;
@@ -20,9 +24,21 @@ pub struct Body {
     used: usize,
 }
 
+// Contracts see the contents.
+impl Model for Body {
+    ghost use Rattle.std.specs.Prelude.{ℕ, List};
+    ghost use Rattle.site_files.specs.Bodies.{in_use};
+
+    ghost Value = { List ℕ };
+
+    ghost view = { λ body. in_use body.used body.room.items };
+}
+
 impl Body {
     /// An empty body.
-    pub fn new(alloc: Global) -> Body {
+    pub fn new(alloc: Global) -> Body
+        ensures { result ≡ [] }
+    {
         Body {
             room: Vec::new(alloc),
             used: 0,
@@ -30,7 +46,9 @@ impl Body {
     }
 
     /// Removes the contents. The room is kept for the next file, unless it is large.
-    pub fn clear(&mut self) {
+    pub fn clear(&mut self)
+        ensures { self.new ≡ [] }
+    {
         self.used = 0;
         if self.room.len() > ROOM {
             let alloc = *self.room.allocator();
@@ -39,7 +57,9 @@ impl Body {
     }
 
     /// Returns the contents, without the room that is not in use.
-    pub fn as_slice(&self) -> &[u8] {
+    pub fn as_slice(&self) -> &[u8]
+        ensures { result.now ≡ self.now }
+    {
         self.room.as_slice().get(..self.used).unwrap_or(&[])
     }
 
@@ -47,8 +67,11 @@ impl Body {
     ///
     /// # Errors
     /// Out of memory.
-    pub fn push(&mut self, bytes: &[u8]) -> Result<(), AllocError> {
-        self.room.truncate(self.used);
+    pub fn push(&mut self, bytes: &[u8]) -> Result<(), AllocError>
+        ensures { OnOk result (self.new ≡ self.old ++ bytes.now) }
+    {
+        let used = self.as_slice().len();
+        self.room.truncate(used);
         self.room.extend_from_slice(bytes)?;
         self.used = self.room.len();
         Ok(())
@@ -104,11 +127,17 @@ impl Body {
 
 /// Reads the files of a site, for several threads at the same time.
 pub trait FileBytes {
+    ghost use Rattle.std.specs.Prelude.{ℕ, List, Option};
+
+    /// What a file can contain when it is read, by its index among the names of the site; nothing if it is skipped.
+    ghost reads: { Self → ℕ → Option (List ℕ) → Type 0 };
+
     /// Reads a file into an empty body. Returns why it is skipped, if it is.
     ///
     /// # Errors
     /// Out of memory.
-    fn read(&self, file: SiteFile<'_>, body: &mut Body) -> Result<Option<Left>, AllocError>;
+    fn read(&self, file: SiteFile<'_>, body: &mut Body) -> Result<Option<Left>, AllocError>
+        ensures { body.old ≡ [] → IfOk result (λ left. reads self.now file.entry.index (contents left body.new)) };
 }
 
 /// Files in memory, in the order of the site's names.
@@ -118,6 +147,11 @@ pub struct InMemory<'a> {
 }
 
 impl FileBytes for InMemory<'_> {
+    ghost use Rattle.std.specs.Prelude.{◌≡◌};
+    ghost use Rattle.site_files.specs.Bodies.{contents_at};
+
+    ghost reads = { λ files index found. found ≡ contents_at files.bodies.now index };
+
     fn read(&self, file: SiteFile<'_>, body: &mut Body) -> Result<Option<Left>, AllocError> {
         if let Some(bytes) = self.bodies.get(file.index) {
             body.push(bytes.as_slice())?;

@@ -118,7 +118,7 @@ impl<'a> SiteFiles<'a> {
     }
 
     /// Adds the notes about the files and listed URLs without a page.
-    pub fn copy_doubles(&self, notes: &mut Vec<Note>) -> Result<(), AllocError> {
+    pub fn copy_notes(&self, notes: &mut Vec<Note>) -> Result<(), AllocError> {
         for note in &self.notes {
             notes.push(note.copy()?)?;
         }
@@ -263,7 +263,9 @@ impl<'a> SiteFiles<'a> {
     }
 
     /// The number of names.
-    pub fn name_count(&self) -> usize {
+    pub fn name_count(&self) -> usize
+        ensures { result ≡ length self.now.names.now }
+    {
         self.names.len()
     }
 

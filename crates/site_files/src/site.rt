@@ -38,15 +38,8 @@ impl Site {
         let Some((origin, path)) = split_origin(page.as_str()) else {
             return Err(SiteError::BadBase);
         };
-        let mut top = String::from_str(alloc, origin)?;
-        push_respelled(alloc, path.trim_end_matches('/').as_bytes(), &mut top)?;
-        top.push('/')?;
-        let top_url = top_at(alloc, &page, top.as_str())?;
-        Ok(Site {
-            origin: String::from_str(alloc, origin)?,
-            top,
-            top_url,
-        })
+        let top = top_text(alloc, origin, path)?;
+        site_with(alloc, &page, origin, top)
     }
 
     /// The URL of a path below the top, with a query.
@@ -93,6 +86,29 @@ pub(crate) fn url_at(alloc: Global, text: &str) -> Result<CanonUrl, SiteError>
         Err(KeyError::NoMemory) => Err(SiteError::NoMemory),
         Err(_) => Err(SiteError::BadBase),
     }
+}
+
+/// The text of the top of a site with this origin and path.
+fn top_text(alloc: Global, origin: &str, path: &str) -> Result<String, AllocError> {
+    let mut top = String::from_str(alloc, origin)?;
+    push_respelled(alloc, path.trim_end_matches('/').as_bytes(), &mut top)?;
+    top.push('/')?;
+    Ok(top)
+}
+
+/// The site at a URL with this origin, whose top has this text.
+fn site_with(alloc: Global, page: &CanonUrl, origin: &str, top: String) -> Result<Site, SiteError>
+    ensures error { IfErr result IsOfUrl }
+    ensures top { IfOk result (λ site. (base : List ℕ) → canonical base ≡ Ok page.now → IsTop base (string_bytes site.top)) }
+    ensures url { IfOk result (λ site. site.top_url ≡ string_bytes site.top) }
+{
+    let top_url = top_at(alloc, page, top.as_str())?;
+    let origin = String::from_str(alloc, origin)?;
+    Ok(Site {
+        origin,
+        top,
+        top_url,
+    })
 }
 
 /// The URL of the top with this text of a site at a URL, which has no query.

@@ -6,6 +6,7 @@ ghost use Rattle.site_files.specs.Files.{server_of};
 ghost use Rattle.site_files.specs.Links.{own_in};
 ghost use Rattle.site_files.specs.Pages.{Missing, ends_in_slash, fallback_at, own_spelling, plain_at, spelled_at};
 ghost use Rattle.site_files.specs.Server.{before_query, is_accepted, known_query, names_of, path_at, plain_url};
+ghost use Rattle.site_files.specs.Serving.{served_at};
 ghost use Rattle.site_files.specs.Urls.{with_html};
 
 use crate::below::unescaped;
@@ -26,6 +27,20 @@ impl SiteFiles<'_> {
         }
         let bytes = text.as_bytes();
         !self.rules.exact && (memchr3(b'?', b'%', b'\\', bytes).is_some() || has_empty_name(bytes))
+    }
+
+    /// The number of the page that a server returns for a URL, if it returns one.
+    ///
+    /// # Errors
+    /// Out of memory.
+    #[tactic(auto, using(crate::proofs::Lookups::leads_first, crate::proofs::Lookups::leads_other))]
+    pub fn served(&self, alloc: Global, url: &CanonUrl) -> Result<Option<usize>, AllocError>
+        ensures { IfOk result (λ found. LeadsTo self.now.pages (served_at self.now url.now) found) }
+    {
+        match self.find(url.as_str()) {
+            Some(number) => Ok(Some(number)),
+            None => self.look_up(alloc, url),
+        }
     }
 
     /// The number of the page that a server returns for a URL, if the URL is not that of a page.

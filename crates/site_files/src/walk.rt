@@ -103,38 +103,46 @@ fn level_of<R: Files<File: Send, Dir: Send> + Threads + Sync>(
     let next = AtomicUsize::new(first);
     let next = &next;
     let threads = THREADS.min(entered.len().saturating_sub(first));
-    let parts = thread::map_indices(
+    let listed = thread::map_indices(
         rt,
         alloc,
         threads,
-        &|_: usize| { part_of(alloc, folders, entered, next) },
+        &|_: usize| { folders_of_one(alloc, folders, entered, next) },
     )?;
+    joined(alloc, listed)
+}
+
+/// The contents of the folders that several threads have listed, in the order of their indices.
+fn joined(
+    alloc: Global,
+    listed: Vec<Result<Vec<(usize, Inside)>, AllocError>>,
+) -> Result<Vec<(usize, Inside)>, AllocError> {
     let mut level: Vec<(usize, Inside)> = Vec::new(alloc);
-    for part in parts {
-        let mut part = part?;
-        level.append(&mut part)?;
+    for of_one in listed {
+        let mut of_one = of_one?;
+        level.append(&mut of_one)?;
     }
     level.sort_by(|a: &(usize, Inside), b: &(usize, Inside)| a.0.cmp(&b.0))?;
     Ok(level)
 }
 
 /// Lists the folders that one of several threads takes. Each takes the next.
-fn part_of<R: Files>(
+fn folders_of_one<R: Files>(
     alloc: Global,
     folders: &DiskFolders<'_, R>,
     entered: &[Folder],
     next: &AtomicUsize,
 ) -> Result<Vec<(usize, Inside)>, AllocError> {
     let mut room = vec![in alloc; 0u8; NAMES_ROOM]?;
-    let mut part = Vec::new(alloc);
+    let mut listed = Vec::new(alloc);
     for _ in 0..entered.len() {
         let index = next.fetch_add(1, Ordering::SeqCst);
         let Some(folder) = entered.get(index) else {
             break;
         };
-        part.push((index, folders.inside(folder, room.as_mut_slice())?))?;
+        listed.push((index, folders.inside(folder, room.as_mut_slice())?))?;
     }
-    Ok(part)
+    Ok(listed)
 }
 
 /// The state of a walk.

@@ -1,6 +1,7 @@
 //! 10,000 random inputs of `SavedWeb::read`, from a fixed seed. It must return for each, and agree with a second reader on the
 //! error and its line, or on every page.
 use crate::tests::second_reader::{Line, error_of, lines_of, page_of};
+use crawl_keys::CanonUrl;
 use crawl_pages::Fetch;
 use saved_web::{SavedWeb, WebError};
 use std::alloc::{AllocError, Global};
@@ -131,15 +132,20 @@ fn push_long_link(bytes: &mut Vec<u8>, letters: usize) -> Result<(), AllocError>
     Ok(())
 }
 
+// Whether the web has the page of the lines after its page line.
+fn has_page(alloc: Global, web: &SavedWeb, url: &CanonUrl, after: &[Line]) -> bool {
+    match (web.fetch(alloc, url), page_of(alloc, url, after)) {
+        (Ok(found), Ok(expected)) => found == expected,
+        _ => false,
+    }
+}
+
 // Whether the web has the page of each page line.
 fn has_pages(alloc: Global, web: &SavedWeb, lines: &[Line]) -> bool {
     for (index, line) in lines.iter().enumerate() {
         let Some(url) = &line.url else { continue };
         let after = lines.get(index.saturating_add(1)..).unwrap_or(&[]);
-        let (Ok(found), Ok(expected)) = (web.fetch(alloc, url), page_of(alloc, url, after)) else {
-            return false;
-        };
-        if found != expected {
+        if !has_page(alloc, web, url, after) {
             return false;
         }
     }

@@ -121,16 +121,27 @@ fn finished<K: Name>(
     sender: Sender<K>,
     ends: Vec<WorkerEnd<K>>,
 ) -> Option<Left> {
-    let (mut closed, mut results) = (Vec::new(alloc), Vec::new(alloc));
-    let lost = gather(ends, &mut closed, &mut results)?;
-    let mut senders = Vec::new(alloc);
-    let _ = senders.push(sender);
-    let account = frontier.finish(closed, senders).ok()?;
+    let mut closed = Vec::new(alloc);
+    let mut results = Vec::new(alloc);
+    let lost = gather(ends, &mut closed, &mut results);
+    let account = account_of(alloc, frontier, closed, sender)?;
+    let lost = lost?;
     Some(Left {
         account,
         results,
         lost,
     })
+}
+
+fn account_of<K: Name>(
+    alloc: Global,
+    frontier: Frontier<K>,
+    closed: Vec<ClosedWorker<K>>,
+    sender: Sender<K>,
+) -> Option<Account> {
+    let mut senders = Vec::new(alloc);
+    let _ = senders.push(sender);
+    frontier.finish(closed, senders).ok()
 }
 
 // Takes the ends apart, if they are in the order of the queues, and returns how many URLs were lost.
@@ -143,9 +154,22 @@ fn gather<K: Name>(
     for end in ends {
         in_order = in_order && end.closed.queue() as usize == closed.len();
         lost = lost.saturating_add(end.lost);
-        let mut found = end.results;
-        let _ = results.append(&mut found);
-        let _ = closed.push(end.closed);
+        push_end(end, closed, results);
     }
     in_order.then_some(lost)
+}
+
+fn push_end<K: Name>(
+    end: WorkerEnd<K>,
+    closed: &mut Vec<ClosedWorker<K>>,
+    results: &mut Vec<PageResult>,
+) {
+    let WorkerEnd {
+        closed: worker,
+        results: mut found,
+        lost: _,
+        losses: _,
+    } = end;
+    let _ = results.append(&mut found);
+    let _ = closed.push(worker);
 }

@@ -4,7 +4,7 @@ use check_report::{
     Redirect, Totals, print_annotations, print_json, print_junit, print_page, print_sarif,
     print_text,
 };
-use std::alloc::Global;
+use std::alloc::{AllocError, Global};
 
 /// A target, what is wrong with it, the suggested page, and the locations of its links.
 type Target = (
@@ -49,6 +49,7 @@ const TARGETS: &[Target] = &[
         &[("b.html", 7, 2), ("c.html", 1, 1)],
     ),
     ("../", Kind::Leaves, "", &[]),
+    ("../m/x.html", Kind::NotInMap, "", &[("c.html", 2, 3)]),
 ];
 
 const TOTALS: Totals = Totals {
@@ -66,7 +67,7 @@ const TOTALS: Totals = Totals {
 
 /// The text with three locations of each target, by file, without colour.
 const TEXT: &str =
-    "pages 4, files 1, links 20, redirects 2, aliases 3, unreached files 1, documents that no sitemap lists 1, external URLs 2
+    "pages 4, other files 1, links 20, redirects 2, aliases 3, unreached files 1, documents that no sitemap lists 1, external URLs 2
 broken links 5, missing pages 2, missing anchors 1, invalid links 4, leaving links 3
 hint: 3 of 4 paths from the root begin with /d&/, which is not in the folder: pass BASE, such as https://HOST/d&/
 
@@ -78,17 +79,18 @@ b.html:3:1: down.html: no such page (did you mean lib/down.html?)
 b.html:4:1: down.html: no such page (did you mean lib/down.html?)
 b.html:5:2: http://[<b>: not a URL
 b.html:6:2: htp://a,b: unknown scheme
-b.html:7:2: http://s.test/<b>: outside BASE
-c.html:1:1: http://s.test/<b>: outside BASE
+b.html:7:2: http://s.test/<b>: outside BASE, on the same host
+c.html:1:1: http://s.test/<b>: outside BASE, on the same host
+c.html:2:3: ../m/x.html: no such page in the mapped folder
 d,e:f%\\u{d}.html:1:2: a<b>&\"'.html#x\\u{a}: no such anchor
 start.html: no such page
 ../: leaves the folder
-down.html: no such page: 1 more
+down.html: no such page: 1 more link (--all-sources lists it)
 
 files with the most broken links:
   2 b.html
 
-links to redirects:
+links to redirects (not errors):
   guide -> guide/ (linked from 7 pages)
   old.html -> - (linked from 1 page)
 
@@ -111,7 +113,7 @@ const BY_TARGET: &str = "
 a.html:41:12: down.html: no such page (did you mean lib/down.html?)
 b.html:3:1: down.html: no such page (did you mean lib/down.html?)
 b.html:4:1: down.html: no such page (did you mean lib/down.html?)
-  and 1 more
+  and 1 more link (--all-sources lists it)
 start.html: no such page
 d,e:f%\\u{d}.html:1:2: a<b>&\"'.html#x\\u{a}: no such anchor
 a.html:7:9: C:\\x: local file
@@ -120,8 +122,9 @@ a.html:8:9: http://[<b>: not a URL
 b.html:5:2: http://[<b>: not a URL
 ../: leaves the folder
 a.html:9:9: ../../doc/x,y.css: leaves the folder
-b.html:7:2: http://s.test/<b>: outside BASE
-c.html:1:1: http://s.test/<b>: outside BASE
+c.html:2:3: ../m/x.html: no such page in the mapped folder
+b.html:7:2: http://s.test/<b>: outside BASE, on the same host
+c.html:1:1: http://s.test/<b>: outside BASE, on the same host
 ";
 
 const JSON: &str =
@@ -148,6 +151,8 @@ const JSON: &str =
 {\"kind\":\"leaving_place\",\"target\":\"http://s.test/<b>\",\"reason\":\"outside_base\",\"file\":\"b.html\",\"line\":7,\"column\":2,\"written\":null}
 {\"kind\":\"leaving_place\",\"target\":\"http://s.test/<b>\",\"reason\":\"outside_base\",\"file\":\"c.html\",\"line\":1,\"column\":1,\"written\":null}
 {\"kind\":\"leaving\",\"target\":\"../\",\"reason\":\"above_folder\",\"pages\":3}
+{\"kind\":\"leaving\",\"target\":\"../m/x.html\",\"reason\":\"not_in_map\",\"pages\":3,\"hint\":null}
+{\"kind\":\"leaving_place\",\"target\":\"../m/x.html\",\"reason\":\"not_in_map\",\"file\":\"c.html\",\"line\":2,\"column\":3,\"written\":null}
 {\"kind\":\"worst\",\"file\":\"b.html\",\"links\":2}
 {\"kind\":\"redirect\",\"page\":\"guide\",\"to\":\"guide/\",\"pages\":7}
 {\"kind\":\"redirect\",\"page\":\"old.html\",\"to\":null,\"pages\":1}
@@ -170,9 +175,10 @@ const ANNOTATIONS: &str =
 ::error file=s%3Ate/b.html,line=5,col=2::http://[<b>: not a URL
 ::error file=s%3Ate/b.html,line=6,col=2::htp://a,b: unknown scheme
 ::error file=s%3Ate/a.html,line=9,col=9::../../doc/x,y.css: leaves the folder
-::error file=s%3Ate/b.html,line=7,col=2::http://s.test/<b>: outside BASE
-::error file=s%3Ate/c.html,line=1,col=1::http://s.test/<b>: outside BASE
+::error file=s%3Ate/b.html,line=7,col=2::http://s.test/<b>: outside BASE, on the same host
+::error file=s%3Ate/c.html,line=1,col=1::http://s.test/<b>: outside BASE, on the same host
 ::error::../: leaves the folder
+::error file=s%3Ate/c.html,line=2,col=3::../m/x.html: no such page in the mapped folder
 ::error::p%2520q.html: not in a sitemap
 ";
 
@@ -190,10 +196,11 @@ const JUNIT: &str = "<?xml version=\"1.0\" encoding=\"UTF-8\"?>
 <testcase name=\"4:1: down.html\" classname=\"b.html\" file=\"s:te/b.html\"><failure type=\"missing-page\" message=\"down.html: no such page (did you mean lib/down.html?)\">down.html: no such page (did you mean lib/down.html?)</failure></testcase>
 <testcase name=\"5:2: http://[&lt;b&gt;\" classname=\"b.html\" file=\"s:te/b.html\"><failure type=\"not-a-url\" message=\"http://[&lt;b&gt;: not a URL\">http://[&lt;b&gt;: not a URL</failure></testcase>
 <testcase name=\"6:2: htp://a,b\" classname=\"b.html\" file=\"s:te/b.html\"><failure type=\"unknown-scheme\" message=\"htp://a,b: unknown scheme\">htp://a,b: unknown scheme</failure></testcase>
-<testcase name=\"7:2: http://s.test/&lt;b&gt;\" classname=\"b.html\" file=\"s:te/b.html\"><failure type=\"outside-base\" message=\"http://s.test/&lt;b&gt;: outside BASE\">http://s.test/&lt;b&gt;: outside BASE</failure></testcase>
+<testcase name=\"7:2: http://s.test/&lt;b&gt;\" classname=\"b.html\" file=\"s:te/b.html\"><failure type=\"outside-base\" message=\"http://s.test/&lt;b&gt;: outside BASE, on the same host\">http://s.test/&lt;b&gt;: outside BASE, on the same host</failure></testcase>
 </testsuite>
-<testsuite name=\"c.html\" tests=\"2\" failures=\"2\" errors=\"0\">
-<testcase name=\"1:1: http://s.test/&lt;b&gt;\" classname=\"c.html\" file=\"s:te/c.html\"><failure type=\"outside-base\" message=\"http://s.test/&lt;b&gt;: outside BASE\">http://s.test/&lt;b&gt;: outside BASE</failure></testcase>
+<testsuite name=\"c.html\" tests=\"3\" failures=\"3\" errors=\"0\">
+<testcase name=\"1:1: http://s.test/&lt;b&gt;\" classname=\"c.html\" file=\"s:te/c.html\"><failure type=\"outside-base\" message=\"http://s.test/&lt;b&gt;: outside BASE, on the same host\">http://s.test/&lt;b&gt;: outside BASE, on the same host</failure></testcase>
+<testcase name=\"2:3: ../m/x.html\" classname=\"c.html\" file=\"s:te/c.html\"><failure type=\"not-in-map\" message=\"../m/x.html: no such page in the mapped folder\">../m/x.html: no such page in the mapped folder</failure></testcase>
 <testcase name=\"5:6: down.html\" classname=\"c.html\" file=\"s:te/c.html\"><failure type=\"missing-page\" message=\"down.html: no such page (did you mean lib/down.html?)\">down.html: no such page (did you mean lib/down.html?)</failure></testcase>
 </testsuite>
 <testsuite name=\"d,e:f%\\u{d}.html\" tests=\"1\" failures=\"1\" errors=\"0\">
@@ -238,7 +245,9 @@ const PAGE: &str = "</form>
 <b>../</b>\tleaves the folder
 <b>../../doc/x,y.css</b>\tleaves the folder
 \ta.html:9:9
-<b>http://s.test/&lt;b&gt;</b>\toutside BASE
+<b>../m/x.html</b>\tno such page in the mapped folder
+\tc.html:2:3
+<b>http://s.test/&lt;b&gt;</b>\toutside BASE, on the same host
 \tb.html:7:2
 \tc.html:1:1
 </pre>
@@ -250,7 +259,7 @@ b.html\t2
 </pre>
 </section>
 <section id=redirects aria-labelledby=h-redirects>
-<h2 id=h-redirects>Links to redirects</h2>
+<h2 id=h-redirects>Links to redirects (not errors)</h2>
 <pre>
 guide\tto guide/\tlinked from 7 pages
 old.html\tto -\tlinked from 1 page
@@ -288,7 +297,7 @@ http://a.test/
 ";
 
 /// The text of a report without rows, with colour: only the totals.
-const NOTHING: &str = "pages 4, files 1, links 20, redirects 2, aliases 3
+const NOTHING: &str = "pages 4, other files 1, links 20, redirects 2, aliases 3
 \x1b[31mbroken links 5\x1b[0m, missing pages 2, missing anchors 1, invalid links 4, leaving links 3
 ";
 
@@ -647,6 +656,14 @@ fn ends_with(bytes: &[u8], first: &[u8], second: &str, third: &[u8]) -> Option<b
     Some(rest.strip_suffix(second.as_bytes())?.ends_with(first))
 }
 
+/// Whether the form was printed, and ends with these three.
+fn shows(form: Result<Vec<u8>, NoMemory>, first: &[u8], second: &str, third: &[u8]) -> bool {
+    match form {
+        Ok(form) => ends_with(form.as_slice(), first, second, third) == Some(true),
+        Err(_) => false,
+    }
+}
+
 /// A missing page without locations, and an unused entry of an ignore list.
 #[derive(Drop)]
 struct Named {
@@ -681,13 +698,13 @@ fn seen(alloc: Global, row: &Seen) -> Option<[bool; 3]> {
         folder: "",
         source_url: "",
     };
-    let text = print_text(alloc, &named.findings(), contents, false).ok()?;
-    let page = print_page(alloc, &named.findings(), contents).ok()?;
-    let command = print_annotations(alloc, &named.findings(), contents).ok()?;
+    let text = print_text(alloc, &named.findings(), contents, false);
+    let page = print_page(alloc, &named.findings(), contents);
+    let command = print_annotations(alloc, &named.findings(), contents);
     Some([
-        ends_with(text.as_slice(), b":\n  ", row.1, b"\n")?,
-        ends_with(page.as_slice(), b"<pre>\n", row.1, AFTER_NAME)?,
-        ends_with(command.as_slice(), b"::error::", row.1, b": no such page\n")?,
+        shows(text, b":\n  ", row.1, b"\n"),
+        shows(page, b"<pre>\n", row.1, AFTER_NAME),
+        shows(command, b"::error::", row.1, b": no such page\n"),
     ])
 }
 
@@ -735,22 +752,34 @@ fn is_headed(alloc: Global, row: &Heading) -> Option<bool> {
     Some(has_heading && is_red == row.4.contains("bad"))
 }
 
+/// The location of a link in `NAMES`.
+fn named_place(alloc: Global, file: &str, written: &'static str) -> Option<Place> {
+    let written = if written.is_empty() { ENDING } else { written };
+    let file = text(alloc, file)?;
+    let written = Some(text(alloc, written)?);
+    Some(Place {
+        file,
+        line: 1,
+        column: 1,
+        written,
+    })
+}
+
+/// The locations of these links, in the reverse order.
+fn named_places(
+    alloc: Global,
+    names: &'static [(&'static str, &'static str)],
+) -> Option<Vec<Place>> {
+    let mut places = Vec::new(alloc);
+    for (file, written) in names.iter().rev() {
+        places.push(named_place(alloc, file, *written)?).ok()?;
+    }
+    Some(places)
+}
+
 /// The page of `NAMES`, with the links in the reverse order.
 fn named_target(alloc: Global) -> Option<Broken> {
-    let mut places = Vec::new(alloc);
-    for (file, written) in NAMES.iter().rev() {
-        let written = if written.is_empty() { ENDING } else { *written };
-        let file = text(alloc, file)?;
-        let written = Some(text(alloc, written)?);
-        places
-            .push(Place {
-                file,
-                line: 1,
-                column: 1,
-                written,
-            })
-            .ok()?;
-    }
+    let places = named_places(alloc, NAMES)?;
     let target = text(alloc, NAMED_URL)?;
     let same_name = Some(text(alloc, "%C3%A4%0A.html")?);
     let hint = Some(text(alloc, "about.html exists: --fallback html")?);
@@ -764,20 +793,25 @@ fn named_target(alloc: Global) -> Option<Broken> {
     })
 }
 
-/// The lines of the links in `NAMES`.
-fn named_lines(alloc: Global) -> Option<String> {
+/// Appends the line of a link in `NAMES`.
+fn push_named_line(lines: &mut String, file: &str, written: &str) -> Result<(), AllocError> {
+    lines.push_str(file)?;
+    lines.push_str(":1:1: ")?;
+    lines.push_str(NAMED)?;
+    lines.push_str(": no such page")?;
+    if !written.is_empty() {
+        lines.push_str(" (written as ")?;
+        lines.push_str(written)?;
+        lines.push_str(")")?;
+    }
+    lines.push_str(ADVICE)
+}
+
+/// The lines of these links.
+fn named_lines(alloc: Global, names: &'static [(&'static str, &'static str)]) -> Option<String> {
     let mut lines = String::new(alloc);
-    for (file, written) in NAMES {
-        lines.push_str(file).ok()?;
-        lines.push_str(":1:1: ").ok()?;
-        lines.push_str(NAMED).ok()?;
-        lines.push_str(": no such page").ok()?;
-        if !written.is_empty() {
-            lines.push_str(" (written as ").ok()?;
-            lines.push_str(written).ok()?;
-            lines.push_str(")").ok()?;
-        }
-        lines.push_str(ADVICE).ok()?;
+    for (file, written) in names {
+        push_named_line(&mut lines, file, written).ok()?;
     }
     Some(lines)
 }
@@ -805,7 +839,7 @@ fn is_by_file(alloc: Global) -> Option<bool> {
         folder: "",
         source_url: "",
     };
-    let lines = named_lines(alloc)?;
+    let lines = named_lines(alloc, NAMES)?;
     let text = print_text(alloc, &findings, contents, false).ok()?;
     Some(text.as_slice().ends_with(lines.as_str().as_bytes()))
 }

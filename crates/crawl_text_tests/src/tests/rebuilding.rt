@@ -161,44 +161,43 @@ fn session(alloc: Global, workers: u32, max: u64, within: &str) -> Option<Sessio
     }
 }
 
-/// The lines of the new session, and what it leaves out.
-fn rebuilt(
-    alloc: Global,
+/// Appends the lines of the new session, and returns what it leaves out.
+fn push_rebuilt(
     old: &mut Session,
     log: &str,
     new: &mut Session,
-) -> Result<(Vec<u8>, LeftOut), RebuildError> {
-    let mut inventory = Inventory::new(alloc);
+    inventory: &mut Inventory,
+    lines: &mut Vec<u8>,
+) -> Result<LeftOut, RebuildError> {
     inventory.read(old, log.as_bytes())?;
     inventory.read_unfinished(old)?;
-    let mut lines = Vec::new(alloc);
-    let left_out = rebuild_log(&inventory, new, 0, &mut lines)?;
-    Ok((lines, left_out))
+    rebuild_log(inventory, new, 0, lines)
 }
 
-fn is_rebuilt(alloc: Global, row: &Row) -> bool {
-    let Some(mut old) = session(alloc, row.queues, 40, "test") else {
-        return false;
-    };
-    let Some(mut new) = session(alloc, row.workers, row.max, row.within) else {
-        return false;
-    };
-    match (rebuilt(alloc, &mut old, row.log, &mut new), row.rebuilt) {
-        (Ok((lines, left_out)), Ok((expected, all, unfinished))) => {
-            lines.as_slice() == expected.as_bytes()
-                && left_out.all == all
-                && left_out.unfinished == unfinished
+fn is_expected(left_out: Result<LeftOut, RebuildError>, lines: &[u8], expected: Rebuilt) -> bool {
+    match (left_out, expected) {
+        (Ok(left_out), Ok((expected, all, unfinished))) => {
+            lines == expected.as_bytes() && left_out.all == all && left_out.unfinished == unfinished
         }
         (Err(error), Err(expected)) => error == expected,
         _ => false,
     }
 }
 
+fn is_rebuilt(alloc: Global, row: &Row) -> Option<bool> {
+    let mut old = session(alloc, row.queues, 40, "test")?;
+    let mut new = session(alloc, row.workers, row.max, row.within)?;
+    let mut inventory = Inventory::new(alloc);
+    let mut lines = Vec::new(alloc);
+    let left_out = push_rebuilt(&mut old, row.log, &mut new, &mut inventory, &mut lines);
+    Some(is_expected(left_out, lines.as_slice(), row.rebuilt))
+}
+
 #[test]
 fn rebuilds_a_log(rt: HostRuntime) {
     for row in ROWS {
         assert!(rt;
-            is_rebuilt(rt.alloc(), row),
+            is_rebuilt(rt.alloc(), row) == Some(true),
             "limit {}: {}",
             row.max,
             row.log

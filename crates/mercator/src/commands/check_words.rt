@@ -5,14 +5,18 @@ ghost use Rattle.mercator.specs.Formats.{form_named, format_of, has_links};
 use crate::commands::arguments::{
     Flag, Valued, command_with, flag_of, option, push, push_flags, push_options, workers,
 };
-use crate::commands::folder_words::{base, folder, push_folder_options, site_options, styles};
+use crate::commands::folder_words::{
+    base, folder, push_folder_options, site_options, styles, with_rivals,
+};
 use crate::commands::option_values::OptionValues;
 use clap::builder::ValueParser;
 use clap::{Arg, ArgAction, ArgGroup, ArgMatches, Command};
-use mercator_site::{CheckForm, CheckOptions, Lists, ReportOptions};
+use mercator_site::{
+    CheckForm, CheckOptions, Fix, FolderMap, Lists, MapError, ReportOptions, read_maps,
+};
 use std::alloc::{AllocError, Global};
 
-/// The URL of the top if no BASE is values. No site has this host, so no absolute URL leads there. The top is below many folders, so that
+/// The URL of the top if no BASE is given. No site has this host, so no absolute URL leads there. The top is below many folders, so that
 /// a link above it also has a URL.
 const LOCAL: &str =
     "http://folder.invalid/-/-/-/-/-/-/-/-/-/-/-/-/-/-/-/-/-/-/-/-/-/-/-/-/-/-/-/-/-/-/-/-/";
@@ -39,7 +43,7 @@ fn with_short_forms<'a>(alloc: Global, command: Command<'a>) -> Result<Command<'
     command.group(short_forms(alloc)?)
 }
 
-/// The short forms of `--format`, of which at most one may be values.
+/// The short forms of `--format`, of which at most one may be given.
 fn short_forms<'a>(alloc: Global) -> Result<ArgGroup<'a>, AllocError> {
     ArgGroup::new(alloc, "form")
         .arg("json")?
@@ -53,6 +57,7 @@ fn push_check_args<'a>(alloc: Global, args: &mut Vec<Arg<'a>>) -> Result<(), All
     push_report_args(alloc, args)?;
     push_scope_args(alloc, args)?;
     push_folder_options(alloc, args)?;
+    push_fix_args(alloc, args)?;
     push_places(alloc, args)
 }
 
@@ -103,9 +108,33 @@ fn push_report_args<'a>(alloc: Global, args: &mut Vec<Arg<'a>>) -> Result<(), Al
 /// Appends the options for which documents and links are checked.
 fn push_scope_args<'a>(alloc: Global, args: &mut Vec<Arg<'a>>) -> Result<(), AllocError> {
     push_options(alloc, args, Some(SCOPE), IGNORE_OPTIONS)?;
+    push(args, map(alloc).help_heading(SCOPE))?;
     push(args, seed(alloc).help_heading(SCOPE))?;
     push_flags(alloc, args, Some(SCOPE), SCOPE_FLAGS)?;
     push(args, styles(alloc).help_heading(SCOPE))
+}
+
+/// The heading in the help for rewriting links.
+const FIXES: &str = "Rewriting links";
+
+/// Appends the options for rewriting links.
+fn push_fix_args<'a>(alloc: Global, args: &mut Vec<Arg<'a>>) -> Result<(), AllocError> {
+    push(args, fix(alloc)?)?;
+    push(args, dry_run(alloc)?)
+}
+
+/// The option to rewrite links.
+fn fix<'a>(alloc: Global) -> Result<Arg<'a>, AllocError> {
+    let help = "Rewrite links to redirects, and to missing pages with one candidate, then check";
+    with_rivals(flag_of(alloc, "fix", help).help_heading(FIXES), "fix")
+}
+
+/// The option to print what would be rewritten.
+fn dry_run<'a>(alloc: Global) -> Result<Arg<'a>, AllocError> {
+    let help = "With --fix, print the changes as a diff and write nothing";
+    flag_of(alloc, "dry-run", help)
+        .help_heading(FIXES)
+        .requires_arg("fix")
 }
 
 /// The names of the formats of a report.
@@ -152,7 +181,7 @@ const REPORT_FLAGS: &[Flag] = &[
     },
     Flag {
         name: "sitemap",
-        help: "Also report each document that no sitemap of the folder lists",
+        help: "Also report each document that no sitemap of the folder lists; requires BASE",
     },
     Flag {
         name: "external",
@@ -190,6 +219,18 @@ const SCOPE_FLAGS: &[Flag] = &[
     },
 ];
 
+/// The option `--map`, which may be repeated. Its value is not empty.
+fn map<'a>(alloc: Global) -> Arg<'a> {
+    option(
+        alloc,
+        "map",
+        "PREFIX=FOLDER",
+        "Look up links that leave the site to PREFIX in FOLDER, such as ../x=/srv/x; repeatable",
+    )
+    .value_parser(ValueParser::NonEmptyString)
+    .action(ArgAction::Append)
+}
+
 /// The option `--seed`, which may be repeated. Its value is not empty.
 fn seed<'a>(alloc: Global) -> Arg<'a> {
     option(
@@ -202,12 +243,34 @@ fn seed<'a>(alloc: Global) -> Arg<'a> {
     .action(ArgAction::Append)
 }
 
-/// The settings of a check by this number of workers, whose report has this form.
+/// The maps of a check. If BASE is not a URL, there are none: the check reports that.
+///
+/// # Errors
+/// Those of `mercator_site::read_maps`, but for `BadBase`.
+pub fn maps_of(alloc: Global, values: &OptionValues<'_, '_>) -> Result<Vec<FolderMap>, MapError> {
+    let texts = values.strings(alloc, "map")?;
+    if texts.is_empty() {
+        return Ok(Vec::new(alloc));
+    }
+    let base = values.text("base");
+    match read_maps(
+        alloc,
+        base.unwrap_or(LOCAL),
+        base.is_none(),
+        texts.as_slice(),
+    ) {
+        Err(MapError::BadBase) => Ok(Vec::new(alloc)),
+        maps => maps,
+    }
+}
+
+/// The settings of a check by this number of workers, with these maps, whose report has this form.
 pub fn check_options(
     alloc: Global,
     values: &OptionValues<'_, '_>,
     workers: u32,
     form: CheckForm,
+    maps: Vec<FolderMap>,
 ) -> Result<CheckOptions, AllocError>
     ensures workers { IfOk result (λ options. options.workers ≡ workers) }
     ensures form { IfOk result (λ options. options.report.form ≡ form) }
@@ -225,9 +288,22 @@ pub fn check_options(
             external: values.flag("external"),
         },
         source_url: String::from_str(alloc, values.text("source-url").unwrap_or(""))?,
+        maps,
         seeds: values.strings(alloc, "seed")?,
         reachable: values.flag("reachable"),
+        fix: fix_of(values.line),
     })
+}
+
+/// Whether links are rewritten.
+fn fix_of(found: &ArgMatches<'_>) -> Fix {
+    if !found.get_flag("fix") {
+        Fix::Off
+    } else if found.get_flag("dry-run") {
+        Fix::Diff
+    } else {
+        Fix::Write
+    }
 }
 
 /// What the report lists.

@@ -18,7 +18,8 @@ use std::io::ErrorKind;
 /// The name of the configuration file in the current directory.
 const DEFAULT_NAME: &str = ".mercator.toml";
 
-/// The options that a configuration file may set. `--follow` is not one of them, nor are the short forms of `--format`.
+/// The options that a configuration file may set. `--follow`, `--fix` and `--dry-run` are not among them, nor are the
+/// short forms of `--format`.
 const KNOWN: Known = Known {
     flags: &[
         "by-target",
@@ -34,7 +35,7 @@ const KNOWN: Known = Known {
         "queries",
     ],
     texts: &["base", "source-url", "ignore", "index"],
-    lists: &["seed", "index-file"],
+    lists: &["map", "seed", "index-file"],
     choices: &[("format", FORMATS), ("host", HOSTS), ("fallback", SUFFIXES)],
 };
 

@@ -52,6 +52,8 @@ pub enum Fault {
     BadSuffix,
     /// A write or a flush failed.
     CannotWrite,
+    /// Not every file of the folder could be rewritten.
+    CannotFix,
     /// The log cannot be used. The reason is never that memory ran out.
     Log(LogFault),
     /// Out of memory. The other variants never hold this reason.

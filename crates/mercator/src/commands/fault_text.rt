@@ -36,6 +36,10 @@ impl fmt::Display for FaultText<'_> {
                 write!(f, "cannot read {file}")
             }
             Fault::CannotWrite => f.write_str("cannot write"),
+            Fault::CannotFix => {
+                let file = self.file;
+                write!(f, "cannot rewrite every file of {file}")
+            }
             Fault::NoMemory => f.write_str("out of memory"),
             Fault::BadSuffix => f.write_str("bad suffix"),
             Fault::Url(why) => {
@@ -267,9 +271,12 @@ impl fmt::Display for SiteText<'_> {
             .fmt(f),
             SiteFault::NoneListed => f.write_str("index: no URL below BASE"),
             SiteFault::BadSeed => f.write_str("--seed: not a URL below BASE"),
+            SiteFault::CannotReadMap(folder) => write!(f, "cannot read {folder}"),
+            SiteFault::NoMapFiles(folder) => write!(f, "{folder}: no files"),
             SiteFault::NoStart(link) => write!(f, "{link}: no such page to start at"),
             SiteFault::NoDocuments => write!(f, "{file}: no HTML documents"),
             SiteFault::TooLarge => write!(f, "{file}: more than 1073741824 bytes of links"),
+            SiteFault::PagesLost => write!(f, "{file}: a page was lost; please report this bug"),
             SiteFault::Crawl(failure) => CrawlText(failure.error).fmt(f),
             SiteFault::NoMemory => f.write_str("out of memory"),
         }

@@ -4,14 +4,15 @@ ghost use Rattle.mercator.specs.FaultText.{note_line};
 ghost use Rattle.mercator.specs.Faults.{status_of_fault};
 ghost use Rattle.mercator.specs.Limits.{most_input_bytes};
 ghost use Rattle.mercator.specs.Plans.{known_ignores};
-ghost use Rattle.mercator.specs.Told.{EndsBy, Gains, GainsAs};
+ghost use Rattle.mercator.specs.Told.{EndsBy, Gains, GainsAs, reports};
 ghost use Rattle.mercator.specs.declared.commands.planned.Plan.TheVariants as asks;
 ghost use Rattle.mercator_site.specs.Faults.{IsSiteIncomplete};
 
 use crate::commands::fault::Fault;
+use crate::commands::fix::{fix_folder, print_fixes};
 use crate::commands::source::read_named;
 use crate::commands::writing::{begin, end, end_by_web};
-use mercator_site::{CheckOptions, Note, SiteOptions, report_of_folder, web_of_folder};
+use mercator_site::{CheckOptions, Fix, Note, SiteOptions, report_of_folder, web_of_folder};
 use shown_text::shown;
 use std::alloc::{AllocError, Global};
 use std::fs::Files;
@@ -41,10 +42,11 @@ pub fn run_site<R: Files<File: Send, Dir: Send> + Threads + Sync, O: Write, E: W
     end_by_web(out, &web?)
 }
 
-/// Checks a folder and prints the report, and the notes on `err`. Returns whether something is broken.
+/// Checks a folder and prints the report, and the notes on `err`. Returns whether something is broken. With `--fix`, the links of the folder
+/// are rewritten first; with `--dry-run`, the changes are printed as a diff in place of the report.
 ///
 /// # Errors
-/// `CannotReadIgnores`, `CannotReadIndex`, `Site`, `Crawl` if the crawl is incomplete, `CannotWrite`, `NoMemory`.
+/// `CannotReadIgnores`, `CannotReadIndex`, `Site`, `Crawl` if the crawl is incomplete, `CannotFix`, `CannotWrite`, `NoMemory`.
 pub fn run_check<R: Files<File: Send, Dir: Send> + Threads + Wait + Sync, O: Write, E: Write>(
     rt: &R,
     alloc: Global,
@@ -53,6 +55,34 @@ pub fn run_check<R: Files<File: Send, Dir: Send> + Threads + Wait + Sync, O: Wri
     out: &mut O,
     err: &mut E,
 ) -> Result<bool, Fault>
+    ensures done { (input : Option (List ℕ)) → IfOk result (λ broken. GainsAs broken (asks.Check options.now ignores.now) input (O.contents out.old) (O.contents out.new)) }
+    ensures fault { (input : Option (List ℕ)) → IfErr result (λ fault. EndsBy (asks.Check options.now ignores.now) input fault (out.new ≡ out.old)) }
+    ensures incomplete { IfErr result (λ fault. status_of_fault fault ≡ 2 → IsSiteIncomplete options.now × (out.new ≡ out.old)) }
+    ensures no_log { IfErr result (λ fault. status_of_fault fault ≡ 5 → ⊥) }
+{
+    match options.fix {
+        Fix::Diff => print_fixes(rt, alloc, options, ignores, out, err),
+        Fix::Write => {
+            fix_folder(rt, alloc, options, ignores, err)?;
+            report_check(rt, alloc, options, ignores, out, err)
+        }
+        Fix::Off => report_check(rt, alloc, options, ignores, out, err),
+    }
+}
+
+/// Checks a folder and prints the report, and the notes on `err`. Returns whether something is broken.
+///
+/// # Errors
+/// `CannotReadIgnores`, `CannotReadIndex`, `Site`, `Crawl` if the crawl is incomplete, `CannotWrite`, `NoMemory`.
+fn report_check<R: Files<File: Send, Dir: Send> + Threads + Wait + Sync, O: Write, E: Write>(
+    rt: &R,
+    alloc: Global,
+    options: &CheckOptions,
+    ignores: &Option<String>,
+    out: &mut O,
+    err: &mut E,
+) -> Result<bool, Fault>
+    requires { reports options.now.fix ≡ true }
     ensures done { (input : Option (List ℕ)) → IfOk result (λ broken. GainsAs broken (asks.Check options.now ignores.now) input (O.contents out.old) (O.contents out.new)) }
     ensures fault { (input : Option (List ℕ)) → IfErr result (λ fault. EndsBy (asks.Check options.now ignores.now) input fault (out.new ≡ out.old)) }
     ensures incomplete { IfErr result (λ fault. status_of_fault fault ≡ 2 → IsSiteIncomplete options.now × (out.new ≡ out.old)) }
@@ -71,7 +101,7 @@ pub fn run_check<R: Files<File: Send, Dir: Send> + Threads + Wait + Sync, O: Wri
 }
 
 /// Reads the ignore list. Without one, returns no bytes.
-fn read_ignore_list<R: Files>(
+pub fn read_ignore_list<R: Files>(
     rt: &R,
     alloc: Global,
     ignores: &Option<String>,
@@ -118,7 +148,7 @@ fn bytes_of(index: &Option<Vec<u8>>) -> Option<&[u8]>
 }
 
 /// Prints a line for each note. What `err` does not accept of it is dropped.
-fn print_notes<E: Write>(alloc: Global, err: &mut E, notes: &[Note]) -> Result<(), AllocError> {
+pub fn print_notes<E: Write>(alloc: Global, err: &mut E, notes: &[Note]) -> Result<(), AllocError> {
     for note in notes {
         let left = note.left;
         let words = format!(in alloc; "{left}")?;
@@ -136,7 +166,7 @@ fn print_sitemap_note<E: Write>(err: &mut E, lacks_sitemap: bool) {
 }
 
 /// A line about something with this name. A name may come from anywhere, so its hidden characters are escaped.
-fn note_line(alloc: Global, name: &str, words: &str) -> Result<String, AllocError>
+pub fn note_line(alloc: Global, name: &str, words: &str) -> Result<String, AllocError>
     ensures { IfOk result (λ line. string_bytes line ≡ note_line name.now words.now) }
 {
     let name = shown(alloc, name)?;

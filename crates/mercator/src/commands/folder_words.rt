@@ -82,7 +82,7 @@ fn fallback<'a>(alloc: Global) -> Result<Arg<'a>, AllocError> {
         alloc,
         "fallback",
         "SUFFIX",
-        "If a path has no page, look it up again with .SUFFIX added; SUFFIX is html",
+        "If a path has no page, try it with .SUFFIX added; SUFFIX is html",
     )
     .help_heading(FILES)
     .value_parser(ValueParser::Names(SUFFIXES))
@@ -93,7 +93,7 @@ fn fallback<'a>(alloc: Global) -> Result<Arg<'a>, AllocError> {
 const FOLDER_FLAGS: &[Flag] = &[
     Flag {
         name: "exact",
-        help: "Accept only the exact URL of a page, not other spellings such as a//b or a?q",
+        help: "Accept only the exact URL of a page, not a//b for a/b or a?q for a",
     },
     Flag {
         name: "queries",
@@ -120,7 +120,7 @@ fn index<'a>(alloc: Global) -> Result<Arg<'a>, AllocError> {
 }
 
 /// The option with this name, which cannot be used together with its rivals.
-fn with_rivals<'a>(option: Arg<'a>, name: &str) -> Result<Arg<'a>, AllocError> {
+pub fn with_rivals<'a>(option: Arg<'a>, name: &str) -> Result<Arg<'a>, AllocError> {
     let mut option = option;
     for pair in RIVALS {
         if pair.0 == name {

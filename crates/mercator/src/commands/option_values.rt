@@ -30,6 +30,8 @@ pub const RIVALS: &[(&str, &str)] = &[
     ("index", "exact"),
     ("index", "queries"),
     ("index", "follow"),
+    ("fix", "index"),
+    ("fix", "follow"),
 ];
 
 impl OptionValues<'_, '_> {

@@ -6,7 +6,7 @@ ghost use Rattle.session_log.specs.Plans.{IsPartOf, IsSessionPlan, all_queues};
 ghost use Rattle.mercator.specs.Plans.{IsShown, IsVisible, IsWithinLimits, lists_input};
 
 use crate::commands::arguments::{is_named, value_of, values_of};
-use crate::commands::check_words::{check_options, form_of, has_links};
+use crate::commands::check_words::{check_options, form_of, has_links, maps_of};
 use crate::commands::command_line::{self, command_line};
 use crate::commands::config::config_of;
 use crate::commands::folder_words::site_options;
@@ -20,7 +20,7 @@ use crawl_core::QUEUE_LIMIT;
 use crawl_limits::{PENDING_LIMIT, WORKER_LIMIT};
 use crawl_replay::number32;
 use crawl_session::ListForm;
-use mercator_site::CheckForm;
+use mercator_site::{CheckForm, MapError};
 use option_file::OptionFile;
 use session_log::{CompactPlan, ListKind, ListPlan, LogPlan, NamedSettings, SessionPlan};
 use std::alloc::{AllocError, Global};
@@ -135,6 +135,36 @@ For more information, try '--help'.
 
 const NO_LINKS: &str = "\
 error: '--source-url <URL>' requires the format html or sarif
+
+For more information, try '--help'.
+";
+
+const NO_SITE: &str = "\
+error: '--sitemap' requires BASE
+
+For more information, try '--help'.
+";
+
+const NO_MAP: &str = "\
+error: '--map <PREFIX=FOLDER>' requires a PREFIX and a FOLDER
+
+For more information, try '--help'.
+";
+
+const FAR_MAP: &str = "\
+error: '--map <PREFIX=FOLDER>' requires a PREFIX on the host of the site, without a query or a fragment
+
+For more information, try '--help'.
+";
+
+const NEAR_MAP: &str = "\
+error: '--map <PREFIX=FOLDER>' requires a PREFIX that leads out of the site
+
+For more information, try '--help'.
+";
+
+const SAME_MAPS: &str = "\
+error: '--map <PREFIX=FOLDER>' cannot have the same PREFIX twice
 
 For more information, try '--help'.
 ";
@@ -348,10 +378,35 @@ fn check_of(
     if let Some(text) = refusal(&values, form) {
         return Err(bad_words(alloc, text)?);
     }
+    let maps = match maps_of(alloc, &values) {
+        Ok(maps) => maps,
+        Err(error) => return Err(bad_map(alloc, error)?),
+    };
     Ok(Plan::Check {
-        options: check_options(alloc, &values, workers, form)?,
+        options: check_options(alloc, &values, workers, form, maps)?,
         ignores: values.string(alloc, "ignore")?,
     })
+}
+
+/// The error for maps with this error.
+fn bad_map(alloc: Global, error: MapError) -> Result<PlanError, AllocError>
+    ensures { IfOk result IsShown }
+{
+    match map_text(error) {
+        Some(text) => bad_words(alloc, text),
+        None => Ok(PlanError::NoMemory),
+    }
+}
+
+/// The text of an error of maps, unless memory ran out.
+fn map_text(error: MapError) -> Option<&'static str> {
+    match error {
+        MapError::NotMap => Some(NO_MAP),
+        MapError::NotOnHost | MapError::BadBase => Some(FAR_MAP),
+        MapError::WithinSite => Some(NEAR_MAP),
+        MapError::Twice => Some(SAME_MAPS),
+        MapError::NoMemory => None,
+    }
 }
 
 /// Why a check whose report has this form cannot have these options. A URL of the sources in the configuration file does not count if the
@@ -359,6 +414,8 @@ fn check_of(
 fn refusal(values: &OptionValues<'_, '_>, form: CheckForm) -> Option<&'static str> {
     if values.line.get_str("source-url").is_some() && !has_links(form) {
         Some(NO_LINKS)
+    } else if values.flag("sitemap") && values.text("base").is_none() {
+        Some(NO_SITE)
     } else if values.text("index").is_some() && values.text("base").is_none() {
         Some(NO_BASE)
     } else {

@@ -11,7 +11,7 @@ const REQUESTS: &str = "offer http://a.test/\nnext 0\n";
 
 const ANSWERS: &str = "accepted 0 0\ntaken http://a.test/\n";
 
-const ROWS: [(Row, Failing); 16] = [
+const ROWS: &[(Row, Failing)] = &[
     (
         Row {
             name: "second_read_fails",
@@ -274,8 +274,9 @@ const ROWS: [(Row, Failing); 16] = [
 fn first_wrong<R: Files<File: Send, Dir: Send> + Threads + Wait + Sync>(
     rt: &R,
     alloc: Global,
+    rows: &'static [(Row, Failing)],
 ) -> Option<&'static str> {
-    for (row, failing) in &ROWS {
+    for (row, failing) in rows {
         if !holds(rt, alloc, row, *failing) {
             return Some(row.name);
         }
@@ -285,5 +286,5 @@ fn first_wrong<R: Files<File: Send, Dir: Send> + Threads + Wait + Sync>(
 
 #[test]
 fn reads_writes_and_flushes_that_fail(rt: HostRuntime) {
-    assert_eq!(rt; first_wrong(&rt, rt.alloc()), None);
+    assert_eq!(rt; first_wrong(&rt, rt.alloc(), ROWS), None);
 }

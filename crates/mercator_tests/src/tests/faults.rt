@@ -7,7 +7,7 @@ use mercator::Fault;
 use mercator::testing::fault_line;
 use std::alloc::Global;
 
-const ROWS: [(CrawlError, u8, &str); 12] = [
+const ROWS: &[(CrawlError, u8, &str)] = &[
     (
         CrawlError::Cert(CertError::SeedMissing),
         2,
@@ -78,6 +78,6 @@ fn holds(alloc: Global, error: CrawlError, status: u8, line: &str) -> bool {
 #[test]
 fn line_of_each_incomplete_crawl(rt: HostRuntime) {
     for (error, status, line) in ROWS {
-        assert!(rt; holds(rt.alloc(), error, status, line), "{line}");
+        assert!(rt; holds(rt.alloc(), *error, *status, line), "{line}");
     }
 }

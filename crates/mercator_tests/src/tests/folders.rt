@@ -1,6 +1,6 @@
 //! Files in memory: their saved web, and a check of them. A file that grows while it is read.
 use mercator_site::{CheckSettings, Files, ReportOptions, report_of_files};
-use saved_site::site_web;
+use saved_site::{WebText, site_web};
 use site_files::{Body, InMemory, Rules, SiteFiles, SiteNames};
 use std::alloc::{AllocError, Global};
 use std::io;
@@ -15,7 +15,7 @@ const WEB: &[u8] = b"savedweb 2\npage http://a.test/\nlink gone.html\n";
 
 /// The beginning of the report of its check.
 const TOTALS: &[u8] =
-    b"pages 1, files 0, links 1, redirects 0, aliases 0\nbroken links 1, missing pages 1,";
+    b"pages 1, other files 0, links 1, redirects 0, aliases 0\nbroken links 1, missing pages 1,";
 
 /// A site of one file with a broken link.
 #[derive(Drop)]
@@ -53,7 +53,7 @@ impl OneFile {
     }
 }
 
-fn has_web<R: Threads + Sync>(rt: &R, alloc: Global, site: &OneFile) -> Option<bool> {
+fn has_web<R: Threads + Sync>(rt: &R, alloc: Global, site: &OneFile) -> bool {
     let input = SiteNames {
         names: site.names.as_slice(),
         links: &[],
@@ -63,11 +63,27 @@ fn has_web<R: Threads + Sync>(rt: &R, alloc: Global, site: &OneFile) -> Option<b
     let bytes = InMemory {
         bodies: site.bodies.as_slice(),
     };
-    let files = SiteFiles::new(alloc, input).ok()?;
-    let web = site_web(rt, alloc, &files, &[], &bytes).ok()?;
+    match SiteFiles::new(alloc, input) {
+        Ok(files) => have_web(rt, alloc, &files, &bytes),
+        Err(_) => false,
+    }
+}
+
+fn have_web<R: Threads + Sync>(
+    rt: &R,
+    alloc: Global,
+    files: &SiteFiles<'_>,
+    bytes: &InMemory<'_>,
+) -> bool {
+    match site_web(rt, alloc, files, &[], bytes) {
+        Ok(web) => is_web(alloc, &web.text),
+        Err(_) => false,
+    }
+}
+
+fn is_web(alloc: Global, web: &WebText) -> bool {
     let mut text = Vec::new(alloc);
-    web.text.write(&mut text).ok()?;
-    Some(text.as_slice().starts_with(WEB))
+    web.write(&mut text).is_ok() && text.as_slice().starts_with(WEB)
 }
 
 fn settings(none: &[String]) -> CheckSettings<'_> {
@@ -79,6 +95,7 @@ fn settings(none: &[String]) -> CheckSettings<'_> {
         seeds: none,
         invalid: true,
         rooted: false,
+        maps: &[],
         reachable: false,
         report: ReportOptions::default(),
         folder: "",
@@ -101,7 +118,7 @@ fn files_in_memory(rt: HostRuntime) {
     let alloc = rt.alloc();
     match OneFile::new(alloc) {
         Ok(site) => {
-            assert!(rt; has_web(&rt, alloc, &site) == Some(true));
+            assert!(rt; has_web(&rt, alloc, &site));
             assert!(rt; is_checked(&rt, alloc, &site) == Some(true));
         }
         Err(_) => assert!(rt; false),

@@ -10,25 +10,28 @@ ghost use Rattle.saved_site.specs.Meaning.{under_page};
 use crate::below::is_next;
 use crate::linked::link_table::LinkTable;
 use crate::linked::linked_page::LinkedPage;
-use crate::linked::page_list::{PageList, Part};
-use crate::page::{PageSink, SitePage};
+use crate::linked::page_list::{PageList, ThreadPages};
+use crate::page::SitePage;
+use crate::page_sink::PageSink;
+use crate::site_name::SiteName;
 use crawl_keys::Base;
 use std::alloc::{AllocError, Global};
-use std::marker::Model;
+use std::marker::{Model, PhantomData};
 
 /// Pages of the site with this top, whose links are looked up as they come.
 #[derive(Drop)]
-pub(crate) struct Linker {
+pub(crate) struct Linker<K: SiteName> {
     alloc: Global,
     top: String,
     table: LinkTable,
     /// The page that came last.
     last: Option<Base>,
     pages: PageList,
+    of: PhantomData<K>,
 }
 
 // Contracts see the top, and what is found at each URL.
-impl Model for Linker {
+impl<K: SiteName> Model for Linker<K> {
     ghost use Rattle.std.specs.Prelude.{ℕ, List, string_bytes};
     ghost use Rattle.crawl_pages.specs.declared.page.Page.{Page};
 
@@ -40,11 +43,13 @@ impl Model for Linker {
 
     ghost view = { λ linker. (string_bytes linker.top, found_all linker.table.urls linker.pages.list.items) };
 
-    ghost invariant = { λ linker. IsTable linker.last linker.table × (IsPageList linker.pages × (AreLed linker.table.urls linker.pages.list.items × AreKept (string_bytes linker.top) (found_all linker.table.urls linker.pages.list.items))) };
+    ghost invariant = { λ linker. IsTable linker.last linker.table × (IsPageList linker.pages × (AreLed linker.table.urls linker.pages.list.items × AreKept K.serves (string_bytes linker.top) (found_all linker.table.urls linker.pages.list.items))) };
 }
 
-impl PageSink for Linker {
-    fn empty(alloc: Global, top: &str) -> Result<Linker, AllocError>
+impl<K: SiteName + Send + Sync> PageSink for Linker<K> {
+    ghost serves = { K.serves };
+
+    fn empty(alloc: Global, top: &str) -> Result<Linker<K>, AllocError>
         ensures { IfOk result (λ linker. linker ≡ (top.now, [])) }
     {
         let top = String::from_str(alloc, top)?;
@@ -54,11 +59,13 @@ impl PageSink for Linker {
             table: LinkTable::new(alloc),
             last: None,
             pages: PageList::new(alloc),
+            of: PhantomData,
         })
     }
 
     /// A page that is not below the top is left out.
-    fn with_page(self, page: SitePage) -> Result<Linker, AllocError>
+    fn with_page(self, page: SitePage) -> Result<Linker<K>, AllocError>
+        requires { ∥ K.serves page ∥₁ }
         ensures { IfOk result (λ linker. linker ≡ (self.0, with_found self.0 self.1 (found_of page))) }
     {
         let is_next = is_next(self.alloc, self.top.as_str(), &[], page.url())?;
@@ -69,10 +76,11 @@ impl PageSink for Linker {
     }
 }
 
-impl Linker {
+impl<K: SiteName> Linker<K> {
     /// The same with a page below the top.
-    fn with_kept(self, page: &SitePage) -> Result<Linker, AllocError>
-        requires { is_next self.0 [] page.now.url ≡ true }
+    fn with_kept(self, page: &SitePage) -> Result<Linker<K>, AllocError>
+        requires kept { is_next self.0 [] page.now.url ≡ true }
+        requires served { ∥ K.serves page.now ∥₁ }
         ensures { IfOk result (λ linker. linker ≡ (self.0, with_found self.0 self.1 (found_of page.now))) }
     {
         // For the proof: the page fits in lines.
@@ -84,6 +92,7 @@ impl Linker {
             table,
             last,
             pages,
+            ..
         } = self;
         let table = table.turned(alloc, &last, &base);
         let both = with_led(alloc, table, pages, &base, page)?;
@@ -94,6 +103,7 @@ impl Linker {
             table,
             last: Some(base),
             pages,
+            of: PhantomData,
         })
     }
 
@@ -105,13 +115,13 @@ impl Linker {
     }
 
     /// Its pages.
-    pub(crate) fn into_part(self) -> Part
+    pub(crate) fn into_pages(self) -> ThreadPages
         ensures pages { result ≡ self.1 }
-        ensures kept { AreKept self.0 result }
+        ensures kept { AreKept K.serves self.0 result }
     {
         let Linker { table, pages, .. } = self;
         let LinkTable { urls, .. } = table;
-        Part::new(urls.into_urls(), pages)
+        ThreadPages::new(urls.into_urls(), pages)
     }
 }
 

@@ -49,6 +49,14 @@ impl PageList {
         Ok(PageList { list, index })
     }
 
+    /// Whether there is a page with the URL.
+    pub(crate) fn has(&self, url: &CanonUrl) -> bool
+        requires { IsPageList self.now }
+        ensures { result ≡ is_some (index_of (urls_of self.now.list.items) url.now) }
+    {
+        self.index.find(&self.list, url).is_some()
+    }
+
     /// The page with the URL, whose links have these URLs.
     #[tactic(auto, using(crate::proofs::LedPages::none_there))]
     pub(crate) fn page(
@@ -73,15 +81,15 @@ impl PageList {
     }
 }
 
-/// Pages, and the URLs that their links lead to.
+/// The pages that one thread made, and the URLs that their links lead to.
 #[derive(Drop)]
-pub(crate) struct Part {
+pub(crate) struct ThreadPages {
     urls: Vec<CanonUrl>,
     pages: PageList,
 }
 
 // Contracts see what is found at each URL.
-impl Model for Part {
+impl Model for ThreadPages {
     ghost use Rattle.std.specs.Prelude.{ℕ, List};
     ghost use Rattle.crawl_pages.specs.declared.page.Page.{Page};
 
@@ -89,18 +97,26 @@ impl Model for Part {
 
     ghost use Rattle.saved_site.specs.LinkedPages.{IsPageList, found_all};
 
-    ghost view = { λ part. found_all part.urls.items part.pages.list.items };
+    ghost view = { λ made. found_all made.urls.items made.pages.list.items };
 
-    ghost invariant = { λ part. IsPageList part.pages };
+    ghost invariant = { λ made. IsPageList made.pages };
 }
 
-impl Part {
+impl ThreadPages {
     /// These pages.
-    pub(crate) fn new(urls: Vec<CanonUrl>, pages: PageList) -> Part
+    pub(crate) fn new(urls: Vec<CanonUrl>, pages: PageList) -> ThreadPages
         requires { IsPageList pages }
         ensures { result ≡ found_all urls.items pages.list.items }
     {
-        Part { urls, pages }
+        ThreadPages { urls, pages }
+    }
+
+    /// Whether there is a page at the URL.
+    #[tactic(auto, using(crate::proofs::LedPages::has_found))]
+    pub(crate) fn has(&self, url: &CanonUrl) -> bool
+        ensures { result ≡ is_some (page_with self.now url.now) }
+    {
+        self.pages.has(url)
     }
 
     /// The page at the URL, if there is one.

@@ -1,5 +1,6 @@
 use Rattle.check_report.proofs.Prelude.{◌++◌, codes, string_bytes, ap, ◌∙◌, escaped, counted}
-use Rattle.check_report.specs.Annotations.{front_of, without_here}
+use Rattle.check_report.specs.Annotations.{front_of}
+use Rattle.check_report.specs.Paths.{without_here}
 use Rattle.check_report.specs.declared.escape.Escape.TheVariants as escape
 use Rattle.check_report.proofs.Adding.{joined, last_joined}
 use Rattle.check_report.proofs.as_annotations.put_at.Goals as goal

@@ -10,14 +10,26 @@ use std::thread::Threads;
 fn web_of_many_hosts(alloc: Global) -> Result<String, Fail> {
     let mut text = String::from_str(alloc, "savedweb 1\n")?;
     for page in 0..PAGES {
-        text.push_str(&format!(in alloc; "page {}\n", url_of(alloc, page)?)?)?;
-        for to in [2 * page + 1, 2 * page + 2, page, page.saturating_sub(1)] {
-            if to < PAGES {
-                text.push_str(&format!(in alloc; "link {}\n", url_of(alloc, to)?)?)?;
-            }
-        }
+        push_line(alloc, &mut text, "page", page)?;
+        push_links(alloc, &mut text, page)?;
     }
     Ok(text)
+}
+
+fn push_links(alloc: Global, text: &mut String, page: u32) -> Result<(), Fail> {
+    for to in [2 * page + 1, 2 * page + 2, page, page.saturating_sub(1)] {
+        if to < PAGES {
+            push_line(alloc, text, "link", to)?;
+        }
+    }
+    Ok(())
+}
+
+fn push_line(alloc: Global, text: &mut String, word: &str, page: u32) -> Result<(), Fail> {
+    let url = url_of(alloc, page)?;
+    let line = format!(in alloc; "{word} {url}\n")?;
+    text.push_str(&line)?;
+    Ok(())
 }
 
 fn url_of(alloc: Global, page: u32) -> Result<String, Fail> {

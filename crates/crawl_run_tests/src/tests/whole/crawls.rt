@@ -77,7 +77,7 @@ enum Expected {
     Fails(CrawlError),
 }
 
-const ROWS: [Row; 11] = [
+const ROWS: &[Row] = &[
     Row {
         name: "small_web",
         web: RING,
@@ -218,9 +218,10 @@ fn holds<R: Threads + Wait + Sync>(rt: &R, alloc: Global, row: &Row, mode: Mode)
 fn first_wrong<R: Threads + Wait + Sync>(
     rt: &R,
     alloc: Global,
+    rows: &'static [Row],
     mode: Mode,
 ) -> Option<&'static str> {
-    for row in &ROWS {
+    for row in rows {
         if !holds(rt, alloc, row, mode) {
             return Some(row.name);
         }
@@ -232,8 +233,8 @@ fn first_wrong<R: Threads + Wait + Sync>(
 // `small_web` and `no_seeds`.
 #[test]
 fn saved_webs_in_turn_and_in_threads(rt: HostRuntime) {
-    assert_eq!(rt; first_wrong(&rt, rt.alloc(), Mode::Turns), None);
-    assert_eq!(rt; first_wrong(&rt, rt.alloc(), Mode::Threads), None);
+    assert_eq!(rt; first_wrong(&rt, rt.alloc(), ROWS, Mode::Turns), None);
+    assert_eq!(rt; first_wrong(&rt, rt.alloc(), ROWS, Mode::Threads), None);
 }
 
 const LISTED: &str = "\nhttp://c.test\r\n\n";

@@ -10,15 +10,15 @@ returns-clause-rows g c =
     let input = c.args.input in
     let site = c.site_of-site.result in
     let sought = c.in_ok-sought.sought in
-    IfOk-weaker c.told.result _ _
-    (λ (checked : Checked) own. are_reported input.front.now (map string_bytes input.ignores.now) input.invalid input.rooted input.places.now c.args.files.now site.files.now c.args.results.now site.pages.results.now input.found.now
+    IfOk-weaker c.results_of.result _ _
+    (λ (checked : Checked) own. are_reported input.front.now (map string_bytes input.ignores.now) input.invalid input.rooted input.maps.now input.places.now c.args.files.now site.files.now c.args.results.now site.pages.results.now input.found.now
     c.as_slice-all.result.now sought.anchors.items sought.invalid.items sought.outside.items checked.broken.items (map string_bytes checked.unused_ignores.items)
     c.site_of-site.ensures.files c.site_of-site.ensures.results (ap (map linked_at) c.as_slice-all.ensures.value ∙ c.in_ok-linked.ensures) c.in_ok-sought.ensures.invalid c.in_ok-sought.ensures.outside own)
-    c.told.ensures.rows
+    c.results_of.ensures.rows
 
 -- the totals are those of the rows
 pub returns-clause-verdict : goal.returns-clause-verdict
 returns-clause-verdict g c =
-    IfOk-weaker c.told.result _ _
+    IfOk-weaker c.results_of.result _ _
     (λ (checked : Checked) own. verdict_of_rows checked.totals c.args.input.aliases.now c.args.input.documents.now c.site_of-site.result.pages.results.now checked.broken.items checked.redirects.items own)
-    c.told.ensures.totals
+    c.results_of.ensures.totals

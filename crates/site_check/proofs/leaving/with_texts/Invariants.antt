@@ -2,4 +2,4 @@ use Rattle.site_check.proofs.Prelude.{◌≡◌, linked_at, map, outside_at, out
 use Rattle.site_check.proofs.leaving.with_texts.Given as goal
 
 abbrev pub invariant-loop-one : goal.invariant-loop-one
-invariant-loop-one l = map outside_at l.all.items ≡ map (outside_row l.rooted l.files) (map linked_at (take l.one-index l.linked))
+invariant-loop-one l = map outside_at l.all.items ≡ map (outside_row l.input.rooted l.input.maps.now l.files) (map linked_at (take l.one-index l.linked))

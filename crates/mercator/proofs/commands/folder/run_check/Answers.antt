@@ -1,45 +1,18 @@
-use Rattle.mercator.proofs.Prelude.{inl, inr, refl, subst, rules, List, ℕ, arith, err_from_is_err_and, Appends, IsChecked}
-use Rattle.mercator_site.specs.Ends.{IsFolderCheck}
-use Rattle.mercator.proofs.Folders.{can_print, gains_as, incomplete_check, not_in_use}
+use Rattle.mercator.proofs.Prelude.{refl, inl, err_from_is_err_and}
+use Rattle.mercator.proofs.Folders.{ends_diff, gains_diff, plain_check}
+use Rattle.std.proofs.lemmas.Result.{IfErr-weaker, IfOk-weaker}
 use Rattle.mercator.proofs.commands.folder.run_check.Goals as goal
 
-pub returns-in_err-report-clause-fault : goal.returns-in_err-report-clause-fault
-returns-in_err-report-clause-fault g c = λ input.
-    let r = c.from_residual-in_err-report in
+pub returns-in-Diff-clause-done : goal.returns-in-Diff-clause-done
+returns-in-Diff-clause-done g c = λ input.
+    IfOk-weaker c.print_fixes.result _ _ (λ broken d. gains_diff c.args.options.now c.args.ignores.now input broken d.0 _ _ c.in-Diff.is d.1 d.2) c.print_fixes.ensures.done
+
+pub returns-in-Diff-clause-fault : goal.returns-in-Diff-clause-fault
+returns-in-Diff-clause-fault g c = λ input.
+    IfErr-weaker c.print_fixes.result _ _ (λ fault e. ends_diff c.args.options.now c.args.ignores.now input fault _ c.in-Diff.is e) c.print_fixes.ensures.fault
+
+pub returns-in_err-fix_folder-in-Write-clause-fault : goal.returns-in_err-fix_folder-in-Write-clause-fault
+returns-in_err-fix_folder-in-Write-clause-fault g c = λ input.
+    let r = c.from_residual in
     let same = err_from_is_err_and r.result r.ensures.1 in
-    rw (same.1, same.2) (inl (incomplete_check c.args.options.now c.in_err-report.field-0.0 c.in_err-report.ensures.incomplete, refl))
-
-pub returns-in_err-report-clause-incomplete : goal.returns-in_err-report-clause-incomplete
-returns-in_err-report-clause-incomplete g c =
-    let r = c.from_residual-in_err-report in
-    let same = err_from_is_err_and r.result r.ensures.1 in
-    rw (same.1, same.2) (λ two. (incomplete_check c.args.options.now c.in_err-report.field-0.0 c.in_err-report.ensures.incomplete two, refl))
-
-pub returns-in_err-report-clause-no_log : goal.returns-in_err-report-clause-no_log
-returns-in_err-report-clause-no_log g c = grind (arith, err_from_is_err_and, not_in_use)
-
-pub returns-in_err-end-clause-fault : goal.returns-in_err-end-clause-fault
-returns-in_err-end-clause-fault g c = λ input.
-    let r = c.from_residual-in_err-end in
-    let same = err_from_is_err_and r.result r.ensures.1 in
-    let report = c.in_ok-report.report in
-    let checked : IsChecked c.args.options.now c.args.ignores.now report.is_broken report.text.items = record {
-      bytes = c.in_ok-list.list.items;
-      read = c.in_ok-list.ensures.whole;
-      few = search rules;
-      holds = subst (λ (list : List ℕ). IsFolderCheck c.args.options.now list report.is_broken report.text.items) c.as_slice.ensures.value c.in_ok-report.ensures.folder;
-    } in
-    rw (same.1, same.2) (inr (inl (c.in_err-end.ensures, can_print c.args.options.now c.args.ignores.now input report.is_broken report.text.items checked)))
-
-pub returns-clause-done : goal.returns-clause-done
-returns-clause-done g c = λ input.
-    let report = c.in_ok-report.report in
-    let old = g.O.Write.contents c.args.out.now in
-    let new = g.O.Write.contents c.end.new.out in
-    let checked : IsChecked c.args.options.now c.args.ignores.now report.is_broken report.text.items = record {
-      bytes = c.in_ok-list.list.items;
-      read = c.in_ok-list.ensures.whole;
-      few = search rules;
-      holds = subst (λ (list : List ℕ). IsFolderCheck c.args.options.now list report.is_broken report.text.items) c.as_slice.ensures.value c.in_ok-report.ensures.folder;
-    } in
-    gains_as c.args.options.now c.args.ignores.now input report.is_broken report.text.items old new checked (subst (λ (text : List ℕ). Appends old new text) c.as_slice-2.ensures.value c.in_ok-end.ensures)
+    rw (same.1, same.2) (inl (plain_check c.args.options.now _ c.in_err-fix_folder-in-Write.ensures.plain, refl))

@@ -1,5 +1,5 @@
 use Rattle.std.proofs.Common.{arith}
-use Rattle.saved_site.proofs.Parts.{at_with}
+use Rattle.saved_site.proofs.Threads.{at_with}
 use Rattle.saved_site.proofs.linked.LinkedPagesFetch.fetch.Goals as goal
 
 pub returns-in-Some-clause-meaning : goal.returns-in-Some-clause-meaning

@@ -1,0 +1,5 @@
+pub mod Documents
+pub mod Edits
+pub mod Links
+pub mod Moves
+pub mod NewLinks

@@ -1,0 +1,245 @@
+//! Rewrites the links of a document.
+ghost use Rattle.std.specs.Prelude.{◌≡◌, ℕ, List, None, true, IfOk, IfSome};
+ghost use Rattle.document_links.specs.Encoding.{HasLinkTexts};
+ghost use Rattle.link_fixes.specs.Documents.{IsFixed};
+ghost use Rattle.link_fixes.specs.Links.{all_lead_on};
+
+use crate::edits::{Edit, fixed};
+use crate::links::all_lead_on;
+use crate::location::position_of;
+use crate::moves::{Move, move_from};
+use crate::new_link::{LinkPage, new_link};
+use crawl_keys::{Base, CanonUrl};
+use document_links::{
+    Document, RawLinks, ReadOptions, TextKind, TextPlace, read_document, text_places,
+};
+use std::alloc::{AllocError, Global};
+
+/// The URL of a document, how it is read, and the moves of its links.
+#[derive(Clone, Copy)]
+pub struct FixInput<'a> {
+    pub url: &'a CanonUrl,
+    /// How the document is read, with the indices of its links (`places`).
+    pub options: ReadOptions<'a>,
+    pub moves: &'a [Move],
+}
+
+/// A document whose links were rewritten.
+#[derive(Drop)]
+pub struct DocumentFix {
+    /// The new document, if a link was rewritten.
+    pub new: Option<Vec<u8>>,
+    /// The number of links that were rewritten.
+    pub moved: usize,
+    /// The number of links for which there is a move, and that still lead to the same URL as before.
+    pub left: usize,
+}
+
+/// A link for which there is a move.
+#[derive(Clone, Copy)]
+struct Lead<'a> {
+    /// Its index among all links of the document.
+    index: usize,
+    step: &'a Move,
+}
+
+/// Rewrites the links of a document for which there is a move. A link stays as it is if the document does not have it literally, or if its
+/// new text would need escapes. The document stays as it is if one of its links would lead to another URL than before or than that of its
+/// move, or if an edit moved no link.
+///
+/// # Errors
+/// Out of memory.
+pub fn fix_document(
+    alloc: Global,
+    body: &[u8],
+    input: FixInput<'_>,
+) -> Result<DocumentFix, AllocError>
+    // The new document is the old one after edits. Each of its links has the text or the URL of the one with the same index in the old
+    // document, or the URL of a move of that.
+    ensures { IfOk result (λ fix. IfSome fix.new (λ new. IsFixed input.entry body.now new.items)) }
+{
+    let base = Base::new(alloc, input.url)?;
+    let mut room = RawLinks::new(alloc);
+    let old = read_document(alloc, body, input.url, input.options, &mut room)?;
+    fix_links(alloc, body, input, &base, &old, &mut room)
+}
+
+/// Rewrites the links of a document that has these links.
+fn fix_links(
+    alloc: Global,
+    body: &[u8],
+    input: FixInput<'_>,
+    base: &Base,
+    old: &Document,
+    room: &mut RawLinks,
+) -> Result<DocumentFix, AllocError>
+    requires base { base.now ≡ input.url.now }
+    requires old { HasLinkTexts input.options body.now old.now.links }
+    ensures { IfOk result (λ fix. IfSome fix.new (λ new. IsFixed input.entry body.now new.items)) }
+{
+    let leads = leads_in(alloc, base, old, input.moves)?;
+    let edits = edits_of(alloc, body, input, base, leads.as_slice())?;
+    if edits.is_empty() {
+        return Ok(unchanged(leads.len()));
+    }
+    let new = fixed(alloc, body, edits.as_slice())?;
+    match left_in(alloc, new.as_slice(), input, base, old, room)? {
+        // An edit that moved no link changed something else.
+        Some(left) if left.saturating_add(edits.len()) == leads.len() => Ok(DocumentFix {
+            new: Some(new),
+            moved: edits.len(),
+            left,
+        }),
+        _ => Ok(unchanged(leads.len())),
+    }
+}
+
+/// A document that stays as it is, with this number of links that are moved.
+fn unchanged(left: usize) -> DocumentFix
+    ensures { result.new ≡ None }
+{
+    DocumentFix {
+        new: None,
+        moved: 0,
+        left,
+    }
+}
+
+/// The number of links of a new document for which there is a move. `None` if one of its links leads to another URL than in the old document and
+/// than that of its move.
+fn left_in(
+    alloc: Global,
+    new: &[u8],
+    input: FixInput<'_>,
+    base: &Base,
+    old: &Document,
+    room: &mut RawLinks,
+) -> Result<Option<usize>, AllocError>
+    requires base { base.now ≡ input.url.now }
+    ensures { IfOk result (λ left. IfSome left (λ _. (news : List (List ℕ)) × HasLinkTexts input.entry.options new.now news × (all_lead_on input.entry.url.now input.entry.moves.now old.now.links news ≡ true))) }
+{
+    let after = read_document(alloc, new, input.url, input.options, room)?;
+    if !all_lead_on(alloc, base, input.moves, &old.links, &after.links)? {
+        return Ok(None);
+    }
+    let left = leads_in(alloc, base, &after, input.moves)?;
+    Ok(Some(left.len()))
+}
+
+/// The links of a document for which there is a move.
+fn leads_in<'a>(
+    alloc: Global,
+    base: &Base,
+    document: &Document,
+    moves: &'a [Move],
+) -> Result<Vec<Lead<'a>>, AllocError> {
+    let mut leads = Vec::new(alloc);
+    let mut rest = document.positions.as_slice();
+    for index in 0..document.links.len() {
+        let Some(url) = base.link(alloc, document.links.text(index))? else {
+            continue;
+        };
+        let Some((position, more)) = rest.split_first() else {
+            break;
+        };
+        rest = more;
+        push_lead(*position as usize, move_from(moves, &url), &mut leads)?;
+    }
+    Ok(leads)
+}
+
+/// Appends the link with this index, if there is a move for it.
+fn push_lead<'a>(
+    index: usize,
+    step: Option<&'a Move>,
+    leads: &mut Vec<Lead<'a>>,
+) -> Result<(), AllocError> {
+    if let Some(step) = step {
+        leads.push(Lead { index, step })?;
+    }
+    Ok(())
+}
+
+/// The edits that rewrite these links of a document. There are none if its text is not its bytes.
+fn edits_of(
+    alloc: Global,
+    body: &[u8],
+    input: FixInput<'_>,
+    base: &Base,
+    leads: &[Lead<'_>],
+) -> Result<Vec<Edit>, AllocError> {
+    let mut edits = Vec::new(alloc);
+    if leads.is_empty() || !is_text(body) {
+        return Ok(edits);
+    }
+    let indices = indices_of(alloc, leads)?;
+    let places = text_places(alloc, body, kind_of(input.options), indices.as_slice())?;
+    let page = LinkPage {
+        base,
+        root: input.options.root,
+    };
+    for (lead, place) in leads.iter().zip(places) {
+        push_edit_at(alloc, body, page, &place, lead.step, &mut edits)?;
+    }
+    in_order(&mut edits)?;
+    Ok(edits)
+}
+
+/// Sorts edits by position, and leaves out each that begins before the end of another.
+fn in_order(edits: &mut Vec<Edit>) -> Result<(), AllocError> {
+    edits.sort_by(|a: &Edit, b: &Edit| a.start.cmp(&b.start))?;
+    edits.dedup_by(|a: &mut Edit, b: &mut Edit| a.start < b.end);
+    Ok(())
+}
+
+/// Whether a document is UTF-8 without a byte order mark.
+fn is_text(body: &[u8]) -> bool {
+    !body.starts_with(&[0xef, 0xbb, 0xbf]) && simdutf8::is_utf8(body)
+}
+
+/// The kind of a document that is read with these options.
+fn kind_of(options: ReadOptions<'_>) -> TextKind {
+    TextKind::Document {
+        syntax: options.syntax,
+        styles: options.styles,
+    }
+}
+
+/// The indices of these links among all links of their document.
+fn indices_of(alloc: Global, leads: &[Lead<'_>]) -> Result<Vec<usize>, AllocError> {
+    leads.iter().map(|lead| lead.index).collect(alloc)
+}
+
+/// Appends the edit that rewrites the link at a place, if the text has the link there as it is written, and if the link has a new text.
+fn push_edit_at(
+    alloc: Global,
+    text: &[u8],
+    page: LinkPage<'_>,
+    place: &TextPlace,
+    step: &Move,
+    edits: &mut Vec<Edit>,
+) -> Result<(), AllocError> {
+    let written = place.written.as_str();
+    let Some(start) = position_of(text, place.line, place.column) else {
+        return Ok(());
+    };
+    if !has_at(text, start, written.as_bytes()) {
+        return Ok(());
+    }
+    if let Some(new) = new_link(alloc, page, written, step)? {
+        edits.push(Edit {
+            start,
+            end: start.saturating_add(written.len()),
+            text: new,
+        })?;
+    }
+    Ok(())
+}
+
+/// Whether a text has these bytes at a position.
+fn has_at(text: &[u8], start: usize, bytes: &[u8]) -> bool {
+    match text.get(start..) {
+        Some(rest) => rest.starts_with(bytes),
+        None => false,
+    }
+}

@@ -1,0 +1,360 @@
+//! `check --fix`: rewrites the links of a folder, or prints the changes as a diff.
+ghost use Rattle.std.specs.Prelude.{◌≡◌, ◌⊎◌, Bool, ℕ, List, IfErr, IfOk};
+ghost use Rattle.std.specs.Io.KnownBytes.{Appends};
+ghost use Rattle.mercator.specs.Faults.{status_of_fault};
+ghost use Rattle.mercator.specs.Told.{IsDiff};
+ghost use Rattle.mercator.specs.declared.commands.fault.Fault.TheVariants as wrong;
+
+use crate::commands::fault::Fault;
+use crate::commands::folder::{note_line, print_notes, read_ignore_list};
+use crate::commands::source::read_named;
+use crate::commands::writing::{begin, end};
+use link_fixes::push_diff;
+use mercator_site::{CheckOptions, DocumentFix, FileFix, Note, SiteFault, fixes_of_folder};
+use shown_text::shown;
+use std::alloc::{AllocError, Global};
+use std::fs::{self, Files, OpenFile, OpenOptions};
+use std::io;
+use std::io::Write;
+use std::os::unix::fs::OpenOptionsExt;
+use std::sync::Wait;
+use std::thread::Threads;
+
+/// What became of a file.
+#[derive(Clone, Copy, Debug, PartialEq, Eq)]
+enum Outcome {
+    /// It has the new contents.
+    Rewritten,
+    /// It was changed since it was read, and stays as it is.
+    Changed,
+    /// It cannot be rewritten, and stays as it is.
+    Failed,
+}
+
+/// Prints the changes that `--fix` would make as a diff, and notes on `err`. Returns whether there is a change.
+///
+/// # Errors
+/// `CannotReadIgnores`, `Site`, `CannotFix` if the crawl is incomplete, `CannotWrite`, `NoMemory`.
+pub fn print_fixes<R: Files<File: Send, Dir: Send> + Threads + Wait + Sync, O: Write, E: Write>(
+    rt: &R,
+    alloc: Global,
+    options: &CheckOptions,
+    ignores: &Option<String>,
+    out: &mut O,
+    err: &mut E,
+) -> Result<bool, Fault>
+    ensures done { IfOk result (λ broken. (diff : List ℕ) × IsDiff broken diff × Appends (O.contents out.old) (O.contents out.new) diff) }
+    ensures fault { IfErr result (λ fault. ((status_of_fault fault ≡ 1) × (out.new ≡ out.old)) ⊎ ((fault ≡ wrong.CannotWrite) × ((broken : Bool) × (diff : List ℕ) × IsDiff broken diff))) }
+    ensures plain { IfErr result (λ fault. status_of_fault fault ≡ 1) }
+{
+    let diff = diff_of_folder(rt, alloc, options, ignores, err)?;
+    end(out, diff.as_slice())?;
+    Ok(!diff.is_empty())
+}
+
+/// The changes that `--fix` would make. Prints notes on `err`.
+fn diff_of_folder<R: Files<File: Send, Dir: Send> + Threads + Wait + Sync, E: Write>(
+    rt: &R,
+    alloc: Global,
+    options: &CheckOptions,
+    ignores: &Option<String>,
+    err: &mut E,
+) -> Result<Vec<u8>, Fault>
+    ensures plain { IfErr result (λ fault. status_of_fault fault ≡ 1) }
+{
+    let mut notes = Vec::new(alloc);
+    let fixes = found_fixes(rt, alloc, options, ignores, &mut notes)?;
+    print_notes(alloc, err, notes.as_slice())?;
+    let diff = diff_of(
+        rt,
+        alloc,
+        options.site.folder.as_str(),
+        fixes.as_slice(),
+        err,
+    )?;
+    Ok(diff)
+}
+
+/// Rewrites the links of a folder, and prints notes on `err`. The notes about what is skipped are those of the check that comes next.
+///
+/// # Errors
+/// `CannotReadIgnores`, `Site`, `CannotFix` if the crawl is incomplete or a file cannot be rewritten, `NoMemory`.
+pub fn fix_folder<R: Files<File: Send, Dir: Send> + Threads + Wait + Sync, E: Write>(
+    rt: &R,
+    alloc: Global,
+    options: &CheckOptions,
+    ignores: &Option<String>,
+    err: &mut E,
+) -> Result<(), Fault>
+    ensures plain { IfErr result (λ fault. status_of_fault fault ≡ 1) }
+{
+    let mut notes = Vec::new(alloc);
+    let fixes = found_fixes(rt, alloc, options, ignores, &mut notes)?;
+    if rewrite_all(
+        rt,
+        alloc,
+        options.site.folder.as_str(),
+        fixes.as_slice(),
+        err,
+    )? {
+        Ok(())
+    } else {
+        Err(Fault::CannotFix)
+    }
+}
+
+/// The files of a folder with links that can be rewritten.
+fn found_fixes<R: Files<File: Send, Dir: Send> + Threads + Wait + Sync>(
+    rt: &R,
+    alloc: Global,
+    options: &CheckOptions,
+    ignores: &Option<String>,
+    notes: &mut Vec<Note>,
+) -> Result<Vec<FileFix>, Fault>
+    ensures plain { IfErr result (λ fault. status_of_fault fault ≡ 1) }
+{
+    let list = read_ignore_list(rt, alloc, ignores)?;
+    match fixes_of_folder(rt, alloc, options, list.as_slice(), notes) {
+        Ok(fixes) => Ok(fixes),
+        Err(fault) => Err(fault_of(fault)),
+    }
+}
+
+/// The error for files that were not found. If the crawl is incomplete, so are the fixes.
+fn fault_of(fault: SiteFault) -> Fault
+    ensures { status_of_fault result ≡ 1 }
+{
+    match fault {
+        SiteFault::Crawl(_) => Fault::CannotFix,
+        SiteFault::NoMemory => Fault::NoMemory,
+        _ => Fault::Site(fault),
+    }
+}
+
+/// The diff of these files in a folder. Prints notes on `err`.
+fn diff_of<R: Files, E: Write>(
+    rt: &R,
+    alloc: Global,
+    folder: &str,
+    fixes: &[FileFix],
+    err: &mut E,
+) -> Result<Vec<u8>, AllocError> {
+    let mut diff = Vec::new(alloc);
+    for one in fixes {
+        if can_rewrite(rt, alloc, folder, one, err)? {
+            push_file(alloc, one, &mut diff)?;
+        }
+    }
+    Ok(diff)
+}
+
+/// Appends the changes of a file to a diff.
+fn push_file(alloc: Global, one: &FileFix, diff: &mut Vec<u8>) -> Result<(), AllocError> {
+    let Some(new) = &one.fix.new else {
+        return Ok(());
+    };
+    let name = shown(alloc, one.file.as_str())?;
+    push_diff(
+        alloc,
+        name.as_str(),
+        one.old.as_slice(),
+        new.as_slice(),
+        diff,
+    )
+}
+
+/// Rewrites these files in a folder, and prints notes on `err`. Returns whether none failed.
+fn rewrite_all<R: Files, E: Write>(
+    rt: &R,
+    alloc: Global,
+    folder: &str,
+    fixes: &[FileFix],
+    err: &mut E,
+) -> Result<bool, AllocError> {
+    let mut is_whole = true;
+    for one in fixes {
+        if can_rewrite(rt, alloc, folder, one, err)? {
+            let outcome = rewrite_file(rt, alloc, folder, one, err)?;
+            is_whole = is_whole && outcome;
+        }
+    }
+    Ok(is_whole)
+}
+
+/// Whether no symbolic link is in the path of a file. Prints a note on `err` if one is, or if links stay as they are.
+fn can_rewrite<R: Files, E: Write>(
+    rt: &R,
+    alloc: Global,
+    folder: &str,
+    one: &FileFix,
+    err: &mut E,
+) -> Result<bool, AllocError> {
+    let name = one.file.as_str();
+    if has_symlink(rt, alloc, folder, name)? {
+        let words = "not rewritten, because its path has a symbolic link";
+        print_note(alloc, name, words, err)?;
+        return Ok(false);
+    }
+    print_left(alloc, name, &one.fix, err)?;
+    Ok(true)
+}
+
+/// Prints a note about the number of links that stay as they are, if there are any.
+fn print_left<E: Write>(
+    alloc: Global,
+    name: &str,
+    fix: &DocumentFix,
+    err: &mut E,
+) -> Result<(), AllocError> {
+    let left = fix.left;
+    if left == 0 {
+        return Ok(());
+    }
+    let words = format!(in alloc; "links left as they are: {left}")?;
+    print_note(alloc, name, words.as_str(), err)
+}
+
+/// Prints a note about a file.
+fn print_note<E: Write>(
+    alloc: Global,
+    name: &str,
+    words: &str,
+    err: &mut E,
+) -> Result<(), AllocError> {
+    let line = note_line(alloc, name, words)?;
+    begin(err, line.as_bytes());
+    Ok(())
+}
+
+/// Whether a part of the path of a file below the folder, or the file itself, is a symbolic link.
+fn has_symlink<R: Files>(
+    rt: &R,
+    alloc: Global,
+    folder: &str,
+    name: &str,
+) -> Result<bool, AllocError> {
+    for (index, byte) in name.as_bytes().iter().enumerate() {
+        if *byte == b'/' {
+            let front = name.get(..index).unwrap_or(name);
+            if is_symlink(rt, alloc, folder, front)? {
+                return Ok(true);
+            }
+        }
+    }
+    is_symlink(rt, alloc, folder, name)
+}
+
+/// Whether this path below the folder is that of a symbolic link.
+fn is_symlink<R: Files>(
+    rt: &R,
+    alloc: Global,
+    folder: &str,
+    name: &str,
+) -> Result<bool, AllocError> {
+    let path = format!(in alloc; "{folder}/{name}")?;
+    match fs::symlink_metadata(rt, path.as_str()) {
+        Ok(found) => Ok(found.is_symlink()),
+        Err(_) => Ok(false),
+    }
+}
+
+/// Rewrites a file, if links in it are rewritten, and prints a note on `err`. Returns whether it did not fail.
+fn rewrite_file<R: Files, E: Write>(
+    rt: &R,
+    alloc: Global,
+    folder: &str,
+    one: &FileFix,
+    err: &mut E,
+) -> Result<bool, AllocError> {
+    let Some(new) = &one.fix.new else {
+        return Ok(true);
+    };
+    let name = one.file.as_str();
+    let path = format!(in alloc; "{folder}/{name}")?;
+    let outcome = replace(rt, alloc, path.as_str(), one.old.as_slice(), new.as_slice())?;
+    print_outcome(alloc, name, outcome, one.fix.moved, err)?;
+    Ok(outcome != Outcome::Failed)
+}
+
+/// Prints a note about what became of a file with this number of new links.
+fn print_outcome<E: Write>(
+    alloc: Global,
+    name: &str,
+    outcome: Outcome,
+    moved: usize,
+    err: &mut E,
+) -> Result<(), AllocError> {
+    match outcome {
+        Outcome::Rewritten => {
+            let words = format!(in alloc; "links rewritten: {moved}")?;
+            print_note(alloc, name, words.as_str(), err)
+        }
+        Outcome::Changed => {
+            let words = "not rewritten, because it has changed since it was read";
+            print_note(alloc, name, words, err)
+        }
+        Outcome::Failed => print_note(alloc, name, "cannot be rewritten", err),
+    }
+}
+
+/// Replaces a file with these contents by a new file with others, which gets its name when it is whole.
+fn replace<R: Files>(
+    rt: &R,
+    alloc: Global,
+    path: &str,
+    old: &[u8],
+    new: &[u8],
+) -> Result<Outcome, AllocError> {
+    let partial = partial_name(alloc, path)?;
+    let Ok(file) = create(rt, partial.as_str()) else {
+        return Ok(Outcome::Failed);
+    };
+    let outcome = match fill(rt, file, path, partial.as_str(), new) {
+        Ok(()) => publish(rt, alloc, path, partial.as_str(), old),
+        Err(_) => Outcome::Failed,
+    };
+    if outcome != Outcome::Rewritten {
+        let _ = fs::remove_file(rt, partial.as_str());
+    }
+    Ok(outcome)
+}
+
+/// The name of the new file until it is whole, in the same folder.
+fn partial_name(alloc: Global, path: &str) -> Result<String, AllocError> {
+    match path.rsplit_once('/') {
+        Some((folder, name)) => format!(in alloc; "{folder}/.{name}.mercator-new"),
+        None => format!(in alloc; ".{path}.mercator-new"),
+    }
+}
+
+/// Creates the new file, which only its owner can read.
+fn create<R: Files>(rt: &R, partial: &str) -> io::Result<R::File> {
+    OpenOptions::new()
+        .write(true)
+        .create_new(true)
+        .mode(0o600)
+        .open(rt, partial)
+}
+
+/// Writes the new file, and gives it the mode of the old one.
+fn fill<R: Files>(rt: &R, file: R::File, path: &str, partial: &str, new: &[u8]) -> io::Result<()> {
+    let mut file = file;
+    file.write_all(new)?;
+    let mode = fs::metadata(rt, path)?.permissions();
+    fs::set_permissions(rt, partial, mode)?;
+    file.sync_all()
+}
+
+/// Gives the new file the name of the old one, if that still has the same contents.
+fn publish<R: Files>(rt: &R, alloc: Global, path: &str, partial: &str, old: &[u8]) -> Outcome {
+    match read_named(rt, alloc, path) {
+        Ok(bytes) => if bytes.as_slice() != old {
+            return Outcome::Changed;
+        },
+        Err(_) => return Outcome::Changed,
+    }
+    match fs::rename(rt, partial, path) {
+        Ok(()) => Outcome::Rewritten,
+        Err(_) => Outcome::Failed,
+    }
+}

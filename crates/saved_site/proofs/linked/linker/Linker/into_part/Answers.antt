@@ -1,9 +1,0 @@
-use Rattle.saved_site.proofs.Prelude.{◌≡◌, ℕ, List, string_bytes, sym, ap, subst, ◌∙◌, PageFound, AreKept, found_all}
-use Rattle.saved_site.proofs.linked.linker.Linker.into_part.Goals as goal
-
-pub returns-clause-kept : goal.returns-clause-kept
-returns-clause-kept c =
-    let list = c.self.inside.pages.list.items in
-    let same : c.new.result ≡ found_all c.self.inside.table.urls list = c.new.ensures ∙ ap (λ (us : List (List ℕ)). found_all us list) c.into_urls.ensures in
-    let top : string_bytes c.self.inside.top ≡ c.args.self.0 = ap (λ (v : List ℕ × List PageFound). v.0) c.self.view_is in
-    subst (λ (t : List ℕ). AreKept t c.new.result) top (subst (AreKept (string_bytes c.self.inside.top)) (sym same) c.self.invariant.1.1.1)

@@ -1,5 +1,0 @@
-use Rattle.saved_site.proofs.Prelude.{flat_map, AreKept}
-use Rattle.saved_site.proofs.linked.parts_of.Given as goal
-
-abbrev pub invariant-linkers : goal.invariant-linkers
-invariant-linkers l = AreKept l.top (flat_map (λ part. part) l.parts.items)

@@ -1,0 +1,61 @@
+-- What a row of a link that leads out of the site is not.
+use Rattle.site_check.proofs.Prelude.{◌≡◌, ℕ, true, List, [], Option, None, refl, sym, is_leaving}
+use Rattle.std.proofs.Common.{true≢false}
+use Rattle.check_report.specs.declared.value.Kind.{Kind}
+use Rattle.check_report.specs.declared.value.Kind.TheVariants.{NoPage, NoAnchor, NotUrl, UnknownScheme, LocalFile, Leaves, OutsideBase, NotInMap}
+use Rattle.site_check.specs.Broken.{Row}
+use Rattle.site_check.specs.Hints.{hints_with}
+use Rattle.site_check.specs.Ignored.{if_anchor}
+use Rattle.site_check.specs.Invalid.{if_invalid}
+use Rattle.site_check.specs.Names.{name_for}
+use Rattle.site_check.specs.Told.{if_page}
+
+pub no_page : (kind : Kind) (row : Row) → is_leaving kind ≡ true → if_page kind row ≡ []
+no_page NoPage row is = absurd (true≢false (sym is))
+no_page NoAnchor row is = refl
+no_page NotUrl row is = refl
+no_page UnknownScheme row is = refl
+no_page LocalFile row is = refl
+no_page Leaves row is = refl
+no_page OutsideBase row is = refl
+no_page NotInMap row is = refl
+
+pub no_anchor : (kind : Kind) (text : List ℕ) → is_leaving kind ≡ true → if_anchor kind text ≡ []
+no_anchor NoPage text is = refl
+no_anchor NoAnchor text is = absurd (true≢false (sym is))
+no_anchor NotUrl text is = refl
+no_anchor UnknownScheme text is = refl
+no_anchor LocalFile text is = refl
+no_anchor Leaves text is = refl
+no_anchor OutsideBase text is = refl
+no_anchor NotInMap text is = refl
+
+pub no_text : (kind : Kind) (text : List ℕ) → is_leaving kind ≡ true → if_invalid kind text ≡ []
+no_text NoPage text is = refl
+no_text NoAnchor text is = refl
+no_text NotUrl text is = absurd (true≢false (sym is))
+no_text UnknownScheme text is = absurd (true≢false (sym is))
+no_text LocalFile text is = absurd (true≢false (sym is))
+no_text Leaves text is = refl
+no_text OutsideBase text is = refl
+no_text NotInMap text is = refl
+
+pub no_hint : (kind : Kind) (hint : Option (List ℕ)) → is_leaving kind ≡ true → hints_with kind hint ≡ []
+no_hint NoPage hint is = absurd (true≢false (sym is))
+no_hint NoAnchor hint is = absurd (true≢false (sym is))
+no_hint NotUrl hint is = absurd (true≢false (sym is))
+no_hint UnknownScheme hint is = absurd (true≢false (sym is))
+no_hint LocalFile hint is = absurd (true≢false (sym is))
+no_hint Leaves hint is = refl
+no_hint OutsideBase hint is = refl
+no_hint NotInMap hint is = refl
+
+pub no_name : (kind : Kind) (name : Option (List ℕ)) → is_leaving kind ≡ true → name_for kind name ≡ None
+no_name NoPage name is = absurd (true≢false (sym is))
+no_name NoAnchor name is = refl
+no_name NotUrl name is = refl
+no_name UnknownScheme name is = refl
+no_name LocalFile name is = refl
+no_name Leaves name is = refl
+no_name OutsideBase name is = refl
+no_name NotInMap name is = refl

@@ -1,0 +1,12 @@
+use Rattle.site_check.proofs.Prelude.{◌≡◌, ◌++◌, ℕ, List, map, not_ignored, row_of, text_of, take, string_bytes, SiteFiles, AreNamed, anchors_in, hints_in, invalid_rows_in, leaving_in, rows_in}
+use Rattle.site_check.proofs.invalid.push_texts.Given as goal
+
+abbrev pub invariant-loop-index : goal.invariant-loop-index
+invariant-loop-index l = record {
+  rows : rows_in l.all.items ≡ rows_in l.initial.all.items;
+  names : (front : List ℕ) (files : SiteFiles) → AreNamed front files l.initial.all.items → AreNamed front files l.all.items;
+  anchors : anchors_in l.all.items ≡ anchors_in l.initial.all.items;
+  invalid : invalid_rows_in l.all.items ≡ invalid_rows_in l.initial.all.items ++ map row_of (not_ignored (map string_bytes l.ignores) (map text_of (take l.index l.texts)));
+  leaving : leaving_in l.all.items ≡ leaving_in l.initial.all.items;
+  hints : hints_in l.all.items ≡ hints_in l.initial.all.items;
+}

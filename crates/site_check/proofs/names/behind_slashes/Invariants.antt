@@ -1,9 +1,0 @@
-use Rattle.site_check.proofs.Prelude.{◌≡◌, length, behind_slashes}
-use Rattle.site_check.proofs.Namesakes.{name_on}
-use Rattle.site_check.proofs.names.behind_slashes.Given as goal
-
-abbrev pub invariant-bytes : goal.invariant-bytes
-invariant-bytes l = name_on l.name l.rest ≡ behind_slashes l.fn.path
-
-abbrev pub decreases-bytes : goal.decreases-bytes
-decreases-bytes l = length l.rest
