@@ -17,7 +17,8 @@ fn web_of_many_hosts(alloc: Global) -> Result<String, Fail> {
 }
 
 fn push_links(alloc: Global, text: &mut String, page: u32) -> Result<(), Fail> {
-    for to in [2 * page + 1, 2 * page + 2, page, page.saturating_sub(1)] {
+    let first = page.saturating_mul(2).saturating_add(1);
+    for to in [first, first.saturating_add(1), page, page.saturating_sub(1)] {
         if to < PAGES {
             push_line(alloc, text, "link", to)?;
         }
