@@ -49,9 +49,9 @@ class Fixer:
         self.candidates = self.moves_by_file()
 
     def folders_without_slash(self) -> Iterator[Tuple[str, str]]:
-        """The URLs that redirect to a page whose URL has one more slash at its end."""
+        """The URLs that redirect to a page whose URL has one more slash at its end, other than a path through a symbolic link to a folder."""
         for url, response in self.model.responses.items():
-            if isinstance(response, Moved) and response.url == url + "/" and self.model.responses.get(response.url) is not None:
+            if isinstance(response, Moved) and response.url == url + "/" and response.url in self.site.by_url:
                 yield url, response.url
 
     def moves_by_file(self) -> Dict[str, Moves]:
