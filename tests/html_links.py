@@ -32,6 +32,7 @@ import html5lib
 from html5lib import _tokenizer
 from html5lib.constants import namespaces, tokenTypes
 
+from checking import sheets
 from checking.documents import read_tags
 from checking.tags import Attribute, Context, Tag
 
@@ -45,7 +46,7 @@ svg math option br a img link meta a img source template template input button i
 TEXT_TAGS = "script style title textarea xmp iframe noembed noframes plaintext".split()
 OWN = {
     "a": "href xlink:href", "img": "src srcset longdesc", "source": "src srcset", "link": "href imagesrcset rel",
-    "input": "type src formaction", "button": "type formaction", "iframe": "src longdesc", "param": "name value",
+    "input": "type src formaction", "button": "type formaction", "iframe": "src longdesc srcdoc srcdoc", "param": "name value",
     "meta": "http-equiv content property name", "video": "src poster", "object": "data", "area": "href", "use": "href",
     **dict.fromkeys("td tr thead tbody tfoot".split(), "background"),
     "template": "shadowrootmode", "font": "color size id", "annotation-xml": "encoding href",
@@ -66,6 +67,8 @@ VALUES = [
     "0; url=n.html", "5;URL='q.html'", " 3 r.html", '1,"s.html', "0;url = t.html", " 5x", ".;v", "refresh", "REFRESH",
     "preconnect", "DNS-Prefetch icon", " DNS-Prefetch \n preconnect", "open", "Closed",
     "image", "IMAGE", "submit", "reset", "&#98;utton", "text", "movie", "Data", "og:image", "og:image:url", "OG:image",
+    "<a href=in>", "<a href=in&amp;amp;>&lt;img src=#in srcset=#in,x style=a:url(no)>", "<base><a href=in><base href=b/><a href=no>",
+    "<title><a href=no></title><svg><a href=in><template><a href=no>", "<iframe src=in srcdoc=no></iframe><style>a{b:url(no)}</style><meta content=1;in http-equiv=refresh>",
     "twitter:player", "og:&#117;rl", "text/html", "Application/XHTML+xml", "\u00fc?\u00fc", "\u20ac", "\0",
 ]
 PIECES = [
@@ -124,7 +127,63 @@ fn main(rt: HostRuntime) -> io::Result<()> {
 """
 
 
+# The pieces of a style sheet: an escape, a text in quotes, a URL without them, a name, a comment
+ESCAPE = r"\\(?:[0-9A-Fa-f]{1,6}(?:\r\n|[\t\n\f\r ])?|\r\n|[^0-9A-Fa-f]|\Z)"
+STRING = re.compile(rf"'((?:{ESCAPE}|[^'\\\n\f\r])*)('|\Z)?|\"((?:{ESCAPE}|[^\"\\\n\f\r])*)(\"|\Z)?", re.S)
+PLAIN = re.compile(rf"(?:{ESCAPE}|[^\t-\r \"'()\\])+", re.S)
+WORD = re.compile(rf"(?:{ESCAPE}|[A-Za-z0-9_@#\x80-\U0010ffff-])+", re.S)
+COMMENT = re.compile(r"/\*.*?(?:\*/|\Z)", re.S)
+URL = re.compile(r"url\([\t-\r ]*", re.I)
+IMPORT = re.compile(r"@import", re.I)
+
 REFRESH = re.compile(r"[\t\n\f\r ]*[0-9.]+(?=[;,\t\n\f\r ])[\t\n\f\r ]*[;,]?[\t\n\f\r ]*(.*)", re.DOTALL)
+
+
+def text_at(style: str, at: int) -> tuple[Optional[str], int]:
+    """Return the text in quotes at a position, or None if there is none or its line ends in it; and where it ends."""
+    found = STRING.match(style, at)
+    if found is None:
+        return None, at
+    value, end = found.group(1, 2) if found[1] is not None else found.group(3, 4)
+    return None if end is None else value, found.end()
+
+
+def url_at(style: str, at: int) -> tuple[Optional[str], int]:
+    """Return the URL after a `url(` and white space, with or without quotes, and where it ends."""
+    text, end = text_at(style, at)
+    plain = PLAIN.match(style, at)
+    if text is None and plain is not None:
+        return plain[0], plain.end()
+    return text, end
+
+
+def decoded(text: str) -> str:
+    """Return the text of a URL with its escapes decoded."""
+    is_odd = (len(text) - len(text.rstrip("\\"))) % 2 == 1
+    return sheets.unescaped(text[:-1] if is_odd else text)
+
+
+def links_of_style(style: str) -> list[str]:
+    """Return the texts of `url()` and `@import` in a style sheet, by patterns of its pieces."""
+    links, at, imports = [], 0, False
+    while at < len(style):
+        url = URL.match(style, at)
+        found, end = url_at(style, url.end()) if url else text_at(style, at) if imports else (None, at)
+        if found is not None:
+            links.append(decoded(found))
+            at, imports = end, False
+            continue
+        comment, text, word = COMMENT.match(style, at), STRING.match(style, at), WORD.match(style, at)
+        if comment is not None:
+            at = comment.end()
+        elif text is not None:
+            at, imports = text.end(), False
+        elif IMPORT.match(style, at):
+            at, imports = at + len("@import"), True
+        else:
+            imports = imports and style[at] in "\t\n\v\f\r "
+            at = word.end() if word is not None else at + 1
+    return links
 
 
 def load_tool() -> Any:
@@ -211,7 +270,7 @@ class Reader(TOOL.LinkReader):  # type: ignore[misc, name-defined]
             self.read_tag(token["name"], found)
             return
         if "style" in found:
-            self.links += TOOL.links_of_style(found["style"])
+            self.links += links_of_style(found["style"])
         if token["name"] != "font":
             self.read_links(("href", "xlink:href"), found)
         self.in_style = "" if token["name"] == "style" and not token["selfClosing"] else None
@@ -225,7 +284,7 @@ class Reader(TOOL.LinkReader):  # type: ignore[misc, name-defined]
     def flush(self, style: Optional[str]) -> None:
         """Add the links of a style element."""
         if style:
-            self.links += TOOL.links_of_style(style)
+            self.links += links_of_style(style)
 
     def read_refresh(self, found: dict[str, str]) -> None:
         """Add the target of a refresh, by the steps of the HTML Standard."""
@@ -239,12 +298,33 @@ class Reader(TOOL.LinkReader):  # type: ignore[misc, name-defined]
     def read_tag(self, tag: str, found: dict[str, str], is_foreign: bool = False) -> None:
         """Add the links of a start tag."""
         if "style" in found:
-            self.links += TOOL.links_of_style(found["style"])
+            self.links += links_of_style(found["style"])
         if tag == "meta" and found.get("http-equiv", "").lower() == "refresh":
             self.read_refresh(found)
         elif tag in TOOL.LINKS:
-            self.read_links(tuple(name for name in TOOL.LINKS[tag] if TOOL.is_link(tag, name, found)), found)
+            self.read_links(tuple(name for name in TOOL.LINKS[tag] if name != "srcdoc" and TOOL.is_link(tag, name, found)), found)
+        if tag == "iframe" and "srcdoc" in found:
+            self.links += SrcdocReader(False).read(found["srcdoc"])
         self.in_style = "" if tag == "style" else None
+
+
+class SrcdocReader(Reader):
+    """The link reader of a document in a `srcdoc`: up to a `base`, without styles, further documents, and links to its own anchors."""
+
+    has_base = False
+
+    def read_in(self, context: Context, token: dict[str, Any], found: dict[str, str]) -> None:
+        """Add the links of a start tag in a context."""
+        self.has_base = self.has_base or context.kind == "html" and token["name"] == "base" and "href" in found
+        if not self.has_base:
+            super().read_in(context, token, {name: value for name, value in found.items() if name not in ("style", "srcdoc")})
+
+    def read_links(self, names: tuple[str, ...], found: dict[str, str]) -> None:
+        """Add the links of the attributes with these names."""
+        super().read_links(tuple(name for name in names if name.endswith("srcset") or not found.get(name, "").startswith("#")), found)
+
+    def flush(self, style: Optional[str]) -> None:
+        """Add nothing for a style element."""
 
 
 def is_shadow(found: dict[str, str]) -> bool:
@@ -331,7 +411,7 @@ def tree_links(text: str) -> list[str]:
 
 def drawn_style(draw: random.Random) -> str:
     """Return a random style sheet in an element or an attribute."""
-    words = ["@import", "@IMPORT ", "@imports ", "url(", "URL( ", "'", '"', "a", "b.css", ")", "/*", "*/", "/", "*", " ", "\n", "\v", ";", "\\"]
+    words = ["@import", "@IMPORT ", "@imports ", "url(", "URL( ", "'", '"', "a", "b.css", ")", "/*", "*/", "/", "*", " ", "\n", "\v", ";", "\\", "\\", "\\31", "\r\n", "-"]
     text = "".join(draw.choice(words) for _ in range(draw.randint(1, 20)))
     return f"<style>{text}</style>" if draw.random() < 0.5 else "<p style=\"{}\">".format(text.replace('"', "&quot;"))
 

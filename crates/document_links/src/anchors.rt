@@ -178,19 +178,28 @@ pub(crate) fn anchors_of(
     writer: LinkWriter,
     url: &CanonUrl,
 ) -> Result<AnchorTargets, AllocError> {
-    let mut targets = Targets::new(alloc, writer, url)?;
-    let links = by_target(alloc, raw, &mut targets)?;
-    let targets = targets.into_urls();
     let mut found = AnchorTargets {
         anchors: Anchors::with(ids.ascending(alloc)?, alloc),
         urls: Vec::new(alloc),
     };
-    found.push_all(raw, url, targets, links.as_slice())?;
+    found.find_links(raw, writer, url)?;
     found.anchors.shrink_to_fit();
     Ok(found)
 }
 
 impl AnchorTargets {
+    /// Appends the links to anchors of the document at a URL; `writer` resolves them.
+    fn find_links(
+        &mut self,
+        raw: &RawLinks,
+        writer: LinkWriter,
+        url: &CanonUrl,
+    ) -> Result<(), AllocError> {
+        let mut targets = Targets::new(raw.allocator(), writer, url)?;
+        let links = by_target(raw.allocator(), raw, &mut targets)?;
+        self.push_all(raw, url, targets.into_urls(), links.as_slice())
+    }
+
     /// Appends the links of the document at a URL, in the order of their targets' numbers.
     fn push_all(
         &mut self,

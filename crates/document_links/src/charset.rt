@@ -352,12 +352,17 @@ pub(crate) fn from_utf16(
 ) -> Result<Vec<u8>, AllocError> {
     let mut units = Vec::new(alloc);
     for pair in body.get(2..).unwrap_or(&[]).chunks(2) {
-        units.push(match pair {
-            [first, second] if is_little => u16::from_le_bytes([*first, *second]),
-            [first, second] => u16::from_be_bytes([*first, *second]),
-            _ => 0xfffd,
-        })?;
+        units.push(unit_of(pair, is_little))?;
     }
     let text = String::from_utf16_lossy(alloc, units.as_slice())?;
     Ok(text.into_bytes())
+}
+
+/// The unit of UTF-16 with these two bytes, or U+FFFD for a single byte.
+fn unit_of(pair: &[u8], is_little: bool) -> u16 {
+    match pair {
+        [first, second] if is_little => u16::from_le_bytes([*first, *second]),
+        [first, second] => u16::from_be_bytes([*first, *second]),
+        _ => 0xfffd,
+    }
 }

@@ -113,8 +113,9 @@ pub fn read_document(
     ensures { IfOk result (λ document. HasLinkTexts options.entry body.now document.links) }
 {
     let charset = charset_of(body, options.kind());
+    let encoding = unknown_encoding(alloc, body, charset)?;
     let mut document = document_in(alloc, body, charset, url, options, room)?;
-    document.encoding = unknown_encoding(alloc, body, charset)?;
+    document.encoding = encoding;
     Ok(document)
 }
 
@@ -166,10 +167,25 @@ fn text_document(
     let base = read_known(alloc, text, charset, options, raw, &mut ids)?;
     let base = add_root(options.root, url, base, raw)?;
     // The base also applies to links before it, so all links are found first.
-    let mut writer = written_links(alloc, charset, base, url, options, raw)?;
+    let writer = written_links(alloc, charset, base, url, options, raw)?;
+    // The clause is about the document, so it is taken out of the result for the prover.
+    let document = document_of(options, &ids, raw, writer, url)?;
+    Ok(document)
+}
+
+/// The document with the links of the writer, and with its anchors if the options ask for them.
+fn document_of(
+    options: ReadOptions<'_>,
+    ids: &RawIds,
+    raw: &RawLinks,
+    mut writer: LinkWriter,
+    url: &CanonUrl,
+) -> Result<Document, AllocError>
+    ensures { IfOk result (λ document. document.links ≡ writer.links) }
+{
     let mut document = Document::written(&mut writer);
     if options.anchors {
-        document.anchors = known_anchors(&ids, raw, writer, url)?;
+        document.anchors = known_anchors(ids, raw, writer, url)?;
     }
     Ok(document)
 }

@@ -31,6 +31,7 @@ pub fn read_style_sheet(
     ensures { IfOk result (λ sheet. HasSheet options.entry body.now sheet.links) }
 {
     let charset = charset_of(body, TextKind::StyleSheet);
+    let encoding = unknown_encoding(alloc, body, charset)?;
     let mut sheet = links_in_charset(
         alloc,
         body,
@@ -42,7 +43,7 @@ pub fn read_style_sheet(
         options,
         room,
     )?;
-    sheet.encoding = unknown_encoding(alloc, body, charset)?;
+    sheet.encoding = encoding;
     Ok(sheet)
 }
 
@@ -194,7 +195,7 @@ fn push_links(
     match kind {
         TextKind::Document { syntax, styles } => read_places(alloc, syntax, text, styles, raw),
         TextKind::StyleSheet => {
-            read_style(text, 0, raw)?;
+            read_style(alloc, text, 0, raw)?;
             Ok(None)
         }
         TextKind::Feed => {

@@ -76,17 +76,28 @@ pub(crate) fn meaning_of(
     ensures { has_no_base base.now ≡ true → IfOk result (λ meaning. meaning ≡ LinkMeaning.Same) }
 {
     match base {
-        PageBase::Url(url) => Ok(match resolved(alloc, url, text)? {
-            Some(url) => LinkMeaning::Url(url),
-            None => LinkMeaning::Same,
-        }),
-        PageBase::Scheme(front) if scheme_of(text).is_none() => {
-            let mut link = front.as_slice().to_vec(alloc)?;
-            link.extend_from_slice(text)?;
-            Ok(LinkMeaning::Text(link))
-        }
-        _ => Ok(LinkMeaning::Same),
+        PageBase::Url(url) => meaning_at(alloc, url, text),
+        PageBase::Scheme(front) => meaning_behind(alloc, front.as_slice(), text),
+        PageBase::None => Ok(LinkMeaning::Same),
     }
+}
+
+/// The meaning of a link with this URL as its base.
+fn meaning_at(alloc: Global, base: &Base, text: &[u8]) -> Result<LinkMeaning, AllocError> {
+    match resolved(alloc, base, text)? {
+        Some(url) => Ok(LinkMeaning::Url(url)),
+        None => Ok(LinkMeaning::Same),
+    }
+}
+
+/// The meaning of a link whose base has another scheme, which is put before a link without one.
+fn meaning_behind(alloc: Global, front: &[u8], text: &[u8]) -> Result<LinkMeaning, AllocError> {
+    if scheme_of(text).is_some() {
+        return Ok(LinkMeaning::Same);
+    }
+    let mut link = front.to_vec(alloc)?;
+    link.extend_from_slice(text)?;
+    Ok(LinkMeaning::Text(link))
 }
 
 /// The base of the page at a URL.

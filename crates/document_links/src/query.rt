@@ -40,13 +40,16 @@ fn push_in_query(character: char, out: &mut Vec<u8>) -> Result<(), AllocError> {
     }
     match windows_byte(character) {
         Some(byte) => push_escape(byte, out),
-        None => {
-            out.extend_from_slice(b"%26%23")?;
-            let number = u32::from(character).to_string(*out.allocator())?;
-            out.extend_from_slice(number.as_bytes())?;
-            out.extend_from_slice(b"%3B")
-        }
+        None => push_reference(character, out),
     }
+}
+
+/// Appends the character reference `&#N;` of a character, percent-encoded.
+fn push_reference(character: char, out: &mut Vec<u8>) -> Result<(), AllocError> {
+    out.extend_from_slice(b"%26%23")?;
+    let number = u32::from(character).to_string(*out.allocator())?;
+    out.extend_from_slice(number.as_bytes())?;
+    out.extend_from_slice(b"%3B")
 }
 
 static DIGITS: [u8; 16] = *b"0123456789ABCDEF";

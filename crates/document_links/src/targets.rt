@@ -53,9 +53,9 @@ impl<'t> Targets<'t> {
             return Ok(*number);
         }
         let number = self.urls.len();
+        self.numbers.insert(text, number)?;
         let url = self.url_of(text)?;
         self.urls.push(url)?;
-        self.numbers.insert(text, number)?;
         Ok(number)
     }
 

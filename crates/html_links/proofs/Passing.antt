@@ -1,12 +1,12 @@
 -- What a reader of links sees, tag by tag, and the tags that it skips because they have no links.
-use Rattle.html_links.proofs.Prelude.{◌≡◌, ◌∙◌, ◌<◌, ◌≤◌, sym, ap, subst, refl, arith, ℕ, Bool, true, false, cond, List, Option, None, [], ◌∷◌, ◌++◌, length, map, Some, not-true, or_from, codes, bytes_eq, bytes_eq-Decides, lower, tag_of, Tag, BeforeName, may_be, element_of, element_at, wanted_of, is_usual, Wanted, Data, InTag, Token, TemplateEnd, ends_template, end_tag, content_of, content_at, read, behind_start, tag_context, inner_context, Context, Html, Values, tag_with, values_in, Seen, seen_with, seen_within, seen_from, opened, links_in, ids_in, base_in, or_later, append_assoc, Element}
+use Rattle.html_links.proofs.Prelude.{◌≡◌, ◌∙◌, ◌<◌, ◌≤◌, sym, ap, subst, refl, arith, ℕ, Bool, true, false, cond, List, Option, None, [], ◌∷◌, ◌++◌, length, map, Some, not-true, or_from, append-nil, cond-false, cond-true, codes, bytes_eq, bytes_eq-Decides, lower, tag_of, Tag, BeforeName, may_be, element_of, element_at, wanted_of, is_usual, Wanted, Data, InTag, Token, TemplateEnd, ends_template, end_tag, content_of, content_at, read, behind_start, tag_context, inner_context, Context, Html, Values, tag_with, values_in, Seen, seen_with, seen_within, seen_from, opened, links_in, ids_in, base_in, or_later, append_assoc, Element}
 use Rattle.html_links.specs.declared.element.Element.TheVariants as element
 use Rattle.html_links.specs.declared.element.TheConstants.{LENGTHS}
 use Rattle.html_links.specs.declared.document.Content.TheVariants as content
 use Rattle.html_links.specs.declared.document.TheConstants.{TEXTS}
 use Rattle.html_links.specs.Contexts.{html_content}
 use Rattle.html_links.specs.Values.{TagValues}
-use Rattle.html_links.specs.Links.{links_at, ids_with, base_with}
+use Rattle.html_links.specs.Links.{links_at, inner_links_with, inner_links_in, is_base, ids_with, base_with}
 use Rattle.html_links.specs.Passed.{name_nothing, Has}
 use Rattle.html_links.specs.Seen.{raw_sheet, sheet_of}
 use Rattle.html_links.proofs.Documents.{to_markup, in_tag, tag_less, tag_then}
@@ -90,7 +90,7 @@ anchor_seen name more last v is found =
 -- tags that have the same links as others
 
 pub has_same : (all some : List Seen) → all ≡ some → Has all some
-has_same all some same = record { links = ap (links_in false) same; styled = ap (links_in true) same; ids = ap ids_in same; base = ap base_in same }
+has_same all some same = record { links = ap (links_in false) same; styled = ap (links_in true) same; inner = ap inner_links_in same; ids = ap ids_in same; base = ap base_in same }
 
 pub has_links : (styles : Bool) (all some : List Seen) → Has all some → links_in styles all ≡ links_in styles some
 has_links true all some has = has.styled
@@ -134,6 +134,18 @@ pub more_links : (styles : Bool) (old new whole : List (List ℕ)) (all rest : L
     new ++ links_in styles rest ≡ whole
 more_links styles old new whole all rest seen inv has pushed =
     ap (λ t. t ++ links_in styles rest) pushed ∙ append_assoc old (links_at styles seen) (links_in styles rest) ∙ ap (λ t. old ++ t) (sym (has_links styles all (seen ∷ rest) has)) ∙ inv
+
+-- the links of a document in a `srcdoc` with one more tag, which may be the `base` that ends them
+
+pub more_inner : (old new whole : List (List ℕ)) (all rest : List Seen) (seen : Seen) → old ++ inner_links_in all ≡ whole → Has all (seen ∷ rest) → is_base seen.element seen.values ≡ false →
+    new ≡ old ++ inner_links_with seen.element seen.values → new ++ inner_links_in rest ≡ whole
+more_inner old new whole all rest seen inv has other pushed =
+    ap (λ t. t ++ inner_links_in rest) pushed ∙ append_assoc old (inner_links_with seen.element seen.values) (inner_links_in rest)
+    ∙ ap (λ t. old ++ t) (sym (has.inner ∙ cond-false (is_base seen.element seen.values) [] (inner_links_with seen.element seen.values ++ inner_links_in rest) other)) ∙ inv
+
+pub last_inner : (old whole : List (List ℕ)) (all rest : List Seen) (seen : Seen) → old ++ inner_links_in all ≡ whole → Has all (seen ∷ rest) → is_base seen.element seen.values ≡ true → old ≡ whole
+last_inner old whole all rest seen inv has is =
+    sym (append-nil old) ∙ ap (λ t. old ++ t) (sym (has.inner ∙ cond-true (is_base seen.element seen.values) [] (inner_links_with seen.element seen.values ++ inner_links_in rest) is)) ∙ inv
 
 pub more_ids : (old new whole : List (List ℕ)) (all rest : List Seen) (seen : Seen) → old ++ ids_in all ≡ whole → Has all (seen ∷ rest) → new ≡ old ++ ids_with seen.name seen.values → new ++ ids_in rest ≡ whole
 more_ids old new whole all rest seen inv has pushed =

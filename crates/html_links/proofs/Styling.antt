@@ -1,7 +1,12 @@
 -- Style sheets: comments over runs of bytes, and URLs one after another.
 use Rattle.html_links.proofs.Prelude.{◌≡◌, ℕ, zero, suc, ◌<◌, ◌≤◌, ◌==◌, Bool, true, false, not, cond, List, [], ◌∷◌, Option, None, Some, length, refl, ap, ◌∙◌, arith, front, behind, Stopped}
+use Rattle.html_links.specs.declared.style.Run.{Run}
+use Rattle.html_links.specs.declared.style.Run.TheVariants as run
+use Rattle.html_links.specs.declared.escapes.State.{State}
+use Rattle.html_links.specs.declared.escapes.State.TheVariants as state
+use Rattle.html_links.specs.Escapes.{state_after, unescaped}
 use Rattle.html_links.specs.Refresh.{behind_letter, and_then, is_quote}
-use Rattle.html_links.specs.Styles.{is_wide_space, in_plain, Found, or_found, closed, quoted, some_url, plain, in_brackets, behind_url, behind_import, opened, behind_comment, found_behind, found_at, passed, pass, urls_after, urls_within, urls_of}
+use Rattle.html_links.specs.Styles.{is_wide_space, in_word, Found, or_found, continues, behind_run, before, run_in, closed, quoted, behind_closed, behind_quoted, some_url, plain, in_brackets, behind_url, behind_import, opened, behind_comment, found_behind, found_at, behind_name, passed, pass, urls_after, urls_within, urls_of}
 use Rattle.html_links.proofs.Jumps.{shorter}
 use Rattle.html_links.proofs.Sources.{front_all}
 
@@ -35,13 +40,44 @@ url_less = more_less 117 _ (more_less 114 _ (two_less 108 40))
 import_less : (bytes n : List ℕ) → behind_import bytes ≡ Some n → length n < length bytes
 import_less = more_less 64 _ (more_less 105 _ (more_less 109 _ (more_less 112 _ (more_less 111 _ (two_less 114 116)))))
 
-quote_at : (b : Bool) (url bytes : List ℕ) (f : Found) → cond b (closed url bytes) None ≡ Some f → length f.rest < length bytes
-quote_at b url bytes f e = grind arith
+run_at : (is : Bool) (more rest : List ℕ) (c : ℕ) → length more ≤ length rest → length (cond is more (c ∷ rest)) ≤ length (c ∷ rest)
+run_at is more rest c less = grind arith
+
+pub run_less : (kind : Run) (here : State) (bytes : List ℕ) → length (behind_run kind here bytes) ≤ length bytes
+run_less kind here [] = omega arith
+run_less kind here (c ∷ rest) = run_at (continues kind here c) (behind_run kind (state_after here c) rest) rest c (run_less kind (state_after here c) rest)
+
+closed_less : (quote : ℕ) (bytes left : List ℕ) (f : Found) → closed quote bytes left ≡ Some f → length f.rest ≤ length left
+closed_less quote bytes [] f e = grind arith
+closed_less quote bytes (c ∷ left) f e = grind arith
+
+quote_at : (b : Bool) (o : Option Found) (n : ℕ) (f : Found) → ((f : Found) → o ≡ Some f → length f.rest ≤ n) → cond b o None ≡ Some f → length f.rest ≤ n
+quote_at true o n f less e = less f e
+quote_at false o n f less e = absurd (cc)
 
 quoted_less : (bytes : List ℕ) (f : Found) → quoted bytes ≡ Some f → length f.rest < length bytes
 quoted_less [] f e = absurd (cc)
 quoted_less (c ∷ rest) f e =
-    omega (arith, quote_at (is_quote c) (front (λ x. not (x == c)) rest) (behind (λ x. not (x == c)) rest) f e, shorter (λ x. not (x == c)) rest)
+    let left = behind_run (run_in c) state.Plain rest in
+    let le : length f.rest ≤ length left = quote_at (is_quote c) (closed c rest left) (length left) f (closed_less c rest left) e in
+    omega (arith, le, run_less (run_in c) state.Plain rest)
+
+text_at : (b : Bool) (x n : List ℕ) → cond b (Some x) None ≡ Some n → length n ≤ length x
+text_at b x n e = grind arith
+
+closing_less : (quote : ℕ) (left : List ℕ) → length (behind_closed quote left) ≤ length left
+closing_less quote [] = omega arith
+closing_less quote (c ∷ left) = grind arith
+
+text_less : (bytes n : List ℕ) → behind_quoted bytes ≡ Some n → length n < length bytes
+text_less [] n e = absurd (cc)
+text_less (c ∷ rest) n e =
+    let left = behind_run (run_in c) state.Plain rest in
+    let le : length n ≤ length (behind_closed c left) = text_at (is_quote c) (behind_closed c left) n e in
+    omega (arith, le, closing_less c left, run_less (run_in c) state.Plain rest)
+
+name_less : (c : ℕ) (rest : List ℕ) → length (behind_name c rest) ≤ length rest
+name_less c rest = grind (arith, run_less run.Word (state_after state.Plain c) rest)
 
 some_less : (url bytes : List ℕ) (f : Found) → some_url url bytes ≡ Some f → length f.rest ≤ length bytes
 some_less url bytes f e = grind arith
@@ -53,7 +89,7 @@ brackets_less : (bytes : List ℕ) (f : Found) → in_brackets bytes ≡ Some f 
 brackets_less bytes f e =
     let inner = behind is_wide_space bytes in
     let le : length f.rest ≤ length inner = or_less (quoted inner) (plain inner) (length inner) (λ f e. omega (arith, quoted_less inner f e))
-    (λ f e. omega (arith, some_less (front in_plain inner) (behind in_plain inner) f e, shorter in_plain inner)) f e in
+    (λ f e. omega (arith, some_less (before inner (behind_run run.Plain state.Plain inner)) (behind_run run.Plain state.Plain inner) f e, run_less run.Plain state.Plain inner)) f e in
     omega (arith, le, shorter is_wide_space bytes)
 
 behind_less : (url : Option (List ℕ)) (imports : Bool) (bytes : List ℕ) → ((n : List ℕ) → url ≡ Some n → length n < length bytes) → (f : Found) → found_behind url imports bytes ≡ Some f → length f.rest < length bytes
@@ -70,14 +106,17 @@ comment_less : (starred : Bool) (bytes : List ℕ) → length (behind_comment st
 comment_less starred [] = omega arith
 comment_less starred (c ∷ rest) = grind (arith, comment_less (c == 42) rest)
 
-passed_less : (imports : Bool) (c : ℕ) (rest : List ℕ) (comment : Option (List ℕ)) (text : Option Found) (word : Option (List ℕ)) → ((n : List ℕ) → comment ≡ Some n → length n < length (c ∷ rest)) →
-    ((f : Found) → text ≡ Some f → length f.rest < length (c ∷ rest)) → ((n : List ℕ) → word ≡ Some n → length n < length (c ∷ rest)) →
+passed_less : (imports : Bool) (c : ℕ) (rest : List ℕ) (comment text word : Option (List ℕ)) → ((n : List ℕ) → comment ≡ Some n → length n < length (c ∷ rest)) →
+    ((n : List ℕ) → text ≡ Some n → length n < length (c ∷ rest)) → ((n : List ℕ) → word ≡ Some n → length n < length (c ∷ rest)) →
     length (passed imports (c ∷ rest) comment text word).0 < length (c ∷ rest)
-passed_less imports c rest comment text word p q r = grind (arith, comment_less)
+passed_less imports c rest (Some n) text word p q r = omega (arith, comment_less false n, p n refl)
+passed_less imports c rest None (Some n) word p q r = q n refl
+passed_less imports c rest None None (Some n) p q r = r n refl
+passed_less imports c rest None None None p q r = omega (arith, name_less c rest)
 
 byte_less : (imports : Bool) (c : ℕ) (rest : List ℕ) → length (pass imports (c ∷ rest)).0 < length (c ∷ rest)
 byte_less imports c rest =
-    passed_less imports c rest (opened (c ∷ rest)) (quoted (c ∷ rest)) (behind_import (c ∷ rest)) (two_less 47 42 (c ∷ rest)) (quoted_less (c ∷ rest)) (import_less (c ∷ rest))
+    passed_less imports c rest (opened (c ∷ rest)) (behind_quoted (c ∷ rest)) (behind_import (c ∷ rest)) (two_less 47 42 (c ∷ rest)) (text_less (c ∷ rest)) (import_less (c ∷ rest))
 
 pub pass_less : (imports more : Bool) (bytes rest left : List ℕ) (c : ℕ) → bytes ≡ c ∷ rest → (left, more) ≡ pass imports bytes → length left < length bytes
 pass_less imports more bytes rest left c is passes =
@@ -102,7 +141,7 @@ within (suc n) (suc m) imports (c ∷ rest) a b =
     after_same (found_at imports (c ∷ rest)) (pass imports (c ∷ rest)) (length (c ∷ rest)) (urls_within n) (urls_within m) (found_less imports (c ∷ rest)) (byte_less imports c rest)
     (λ imports bytes less. within n m imports bytes (omega (arith, less, a)) (omega (arith, less, b)))
 
-pub next_found : (imports : Bool) (bytes rest : List ℕ) (c : ℕ) (f : Found) → bytes ≡ c ∷ rest → Some f ≡ found_at imports bytes → urls_of imports bytes ≡ f.url ∷ urls_of false f.rest
+pub next_found : (imports : Bool) (bytes rest : List ℕ) (c : ℕ) (f : Found) → bytes ≡ c ∷ rest → Some f ≡ found_at imports bytes → urls_of imports bytes ≡ unescaped f.url ∷ urls_of false f.rest
 next_found imports bytes rest c f is found = grind (arith, after_same, found_less, byte_less, within)
 
 pub none_found : (imports more : Bool) (bytes rest left : List ℕ) (c : ℕ) → bytes ≡ c ∷ rest → None ≡ found_at imports bytes → (left, more) ≡ pass imports bytes → urls_of imports bytes ≡ urls_of more left

@@ -22,9 +22,6 @@ abbrev pub is_embedded : List ℕ → Bool
 is_embedded name =
     bytes_eq name (codes "audio") || bytes_eq name (codes "embed") || bytes_eq name (codes "script") || bytes_eq name (codes "track")
 
-abbrev pub is_frame : List ℕ → Bool
-is_frame name = bytes_eq name (codes "frame") || bytes_eq name (codes "iframe")
-
 -- the element with this name, in lower case
 abbrev pub element_of : List ℕ → Element
 element_of name =
@@ -40,7 +37,8 @@ element_of name =
     else if bytes_eq name (codes "object") then element.Object
     else if bytes_eq name (codes "video") then element.Video
     else if is_template name then element.Template
-    else if is_frame name then element.Frame
+    else if bytes_eq name (codes "frame") then element.Frame
+    else if bytes_eq name (codes "iframe") then element.InlineFrame
     else if bytes_eq name (codes "input") then element.Input
     else if bytes_eq name (codes "button") then element.Button
     else if bytes_eq name (codes "param") then element.Param
@@ -57,9 +55,10 @@ pub record Wanted : Type 0 where
   pub first : List ℕ
   pub second : List ℕ
   pub third : List ℕ
+  pub name : List ℕ
 
 abbrev pub wants : List ℕ → List ℕ → List ℕ → Wanted
-wants first second third = record { first = first; second = second; third = third }
+wants first second third = record { first = first; second = second; third = third; name = codes "name" }
 
 abbrev pub wanted_of : Element → Wanted
 wanted_of element.Anchor = wants (codes "href") (codes "xlink:href") []
@@ -72,9 +71,10 @@ wanted_of element.Button = wants (codes "formaction") [] (codes "type")
 wanted_of element.Font = wants (codes "color") (codes "face") (codes "size")
 wanted_of element.Frame = wants (codes "src") (codes "longdesc") []
 wanted_of element.Image = wants (codes "src") (codes "srcset") (codes "longdesc")
+wanted_of element.InlineFrame = wants (codes "src") (codes "longdesc") (codes "srcdoc")
 wanted_of element.Source = wants (codes "src") (codes "srcset") []
 wanted_of element.Input = wants (codes "src") (codes "formaction") (codes "type")
-wanted_of element.Link = wants (codes "href") (codes "imagesrcset") (codes "rel")
+wanted_of element.Link = record { first = codes "href"; second = codes "imagesrcset"; third = codes "rel"; name = codes "itemprop" }
 wanted_of element.Math = wants [] [] []
 wanted_of element.Meta = wants (codes "content") (codes "http-equiv") (codes "property")
 wanted_of element.Object = wants (codes "data") [] []
@@ -91,7 +91,7 @@ has_rare_names element.Font = true
 has_rare_names _ = false
 
 abbrev pub wanted_at : code.Wanted → Wanted
-wanted_at w = record { first = w.first.now; second = w.second.now; third = w.third.now }
+wanted_at w = record { first = w.first.now; second = w.second.now; third = w.third.now; name = w.name.now }
 
 -- whether the value of its attribute, as written, makes a template a shadow root
 abbrev pub is_shadow : Option (List ℕ) → Bool

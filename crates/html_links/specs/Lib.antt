@@ -23,5 +23,6 @@ pub mod Refresh
 pub mod Links
 pub mod Passed
 pub mod Reads
+pub mod Escapes
 pub mod Styles
 pub mod Styled

@@ -1,13 +1,14 @@
 -- The links of a document, with or without those of its styles, its base, and its ids.
-use Rattle.std.specs.Prelude.{ℕ, ◌||◌, not, Bool, true, false, if◌then◌else◌, List, [], ◌∷◌, ◌++◌, codes, Option, None, Some, bytes_eq}
+use Rattle.std.specs.Prelude.{ℕ, ◌==◌, ◌||◌, not, Bool, true, false, if◌then◌else◌, List, [], ◌∷◌, ◌++◌, codes, Option, None, Some, bytes_eq}
 use Rattle.html_links.specs.declared.context.Syntax.{Syntax}
+use Rattle.html_links.specs.declared.context.Syntax.TheVariants as syntax
 use Rattle.html_links.specs.declared.element.Element.{Element}
 use Rattle.html_links.specs.declared.element.Element.TheVariants as element
 use Rattle.html_links.specs.declared.reader.Form.{Form}
 use Rattle.html_links.specs.declared.reader.Form.TheVariants as form
 use Rattle.html_links.specs.RawText.{same_name}
 use Rattle.html_links.specs.Shown.{is_space}
-use Rattle.html_links.specs.Values.{Values}
+use Rattle.html_links.specs.Values.{Values, is_absent}
 use Rattle.html_links.specs.Seen.{Seen, seen_in}
 use Rattle.html_links.specs.References.{text_of}
 use Rattle.html_links.specs.Candidates.{candidates_of}
@@ -18,9 +19,15 @@ abbrev pub target_links : Option (List ℕ) → List (List ℕ)
 target_links None = []
 target_links (Some target) = target ∷ []
 
--- the links of a text: the text itself, the URLs of a `srcset`, the target of a refresh, the URLs of a style, or none
+abbrev pub begins_fragment : List ℕ → Bool
+begins_fragment [] = false
+begins_fragment (c ∷ rest) = c == 35
+
+-- the links of a text: the text itself, also only if it does not begin with `#`; the URLs of a `srcset`, the target of a refresh,
+-- the URLs of a style, or none
 abbrev pub text_links : Form → List ℕ → List (List ℕ)
 text_links form.Link text = text ∷ []
+text_links form.Outward text = if begins_fragment text then [] else text ∷ []
 text_links form.List text = candidates_of text
 text_links form.Refresh text = target_links (target_of text)
 text_links form.Style text = style_links_of text
@@ -41,10 +48,10 @@ types_behind word [] = is_link_type word
 types_behind word (c ∷ rest) =
     if is_space c then (if is_link_type word then true else types_behind [] rest) else types_behind (word ++ c ∷ []) rest
 
--- the `rel` of a `link` makes it a link to a document. A `link` without `rel` is one, since it may have an `itemprop`.
-abbrev pub is_related : Option (List ℕ) → Bool
-is_related None = true
-is_related (Some rel) = types_behind [] (text_of rel)
+-- the `rel` of a `link`, or its `itemprop` if it has no `rel`, makes it a link to a document
+abbrev pub is_related : Option (List ℕ) → Option (List ℕ) → Bool
+is_related None item = not (is_absent item)
+is_related (Some rel) item = types_behind [] (text_of rel)
 
 -- the value of an enumerated attribute is this keyword, in any case
 abbrev pub is_keyword : List ℕ → Option (List ℕ) → Bool
@@ -94,7 +101,7 @@ abbrev pub first_form : Element → Values → Form
 first_form element.Base v = form.Nothing
 first_form element.Font v = form.Nothing
 first_form element.Meta v = meta_form v
-first_form element.Link v = form_if (is_related v.third) form.Link
+first_form element.Link v = form_if (is_related v.third v.name) form.Link
 first_form element.Input v = form_if (is_keyword (codes "image") v.third) form.Link
 first_form element.Button v = form_if (not (submits_nothing v.third)) form.Link
 first_form element.Param v = form_if (names_data v.name) form.Link
@@ -105,7 +112,7 @@ abbrev pub second_form : Element → Values → Form
 second_form element.Base v = form.Nothing
 second_form element.Font v = form.Nothing
 second_form element.Meta v = form.Nothing
-second_form element.Link v = form_if (is_related v.third) form.List
+second_form element.Link v = form_if (is_related v.third v.name) form.List
 second_form element.Image v = form.List
 second_form element.Source v = form.List
 second_form element.Input v = form_if (submits v.third) form.Link
@@ -117,8 +124,44 @@ first_links element v = value_links (first_form element v) v.first
 abbrev pub second_links : Element → Values → List (List ℕ)
 second_links element v = value_links (second_form element v) v.second
 
+-- ---- the document in a `srcdoc`
+
+-- A link that begins with `#` leads to an anchor of that document, which is not a page.
+abbrev pub inner_form : Form → Form
+inner_form form.Link = form.Outward
+inner_form other = other
+
+abbrev pub inner_third : Element → Values → List (List ℕ)
+inner_third element.Image v = value_links form.Outward v.third
+inner_third _ v = []
+
+-- the links of an element's values, except for those of a `srcdoc`
+abbrev pub inner_links_with : Element → Values → List (List ℕ)
+inner_links_with element v =
+    value_links (inner_form (first_form element v)) v.first ++ value_links (inner_form (second_form element v)) v.second ++ inner_third element v
+
+abbrev pub is_base : Element → Values → Bool
+is_base element.Base v = not (is_absent v.first)
+is_base _ v = false
+
+-- The links up to a `base` with an `href`. Links with that base are not read.
+abbrev pub inner_links_in : List Seen → List (List ℕ)
+inner_links_in [] = []
+inner_links_in (seen ∷ rest) = if is_base seen.element seen.values then [] else inner_links_with seen.element seen.values ++ inner_links_in rest
+
+abbrev pub inner_links_of : List ℕ → List (List ℕ)
+inner_links_of document = inner_links_in (seen_in syntax.Html document)
+
+abbrev pub srcdoc_links : Option (List ℕ) → List (List ℕ)
+srcdoc_links None = []
+srcdoc_links (Some value) = inner_links_of (text_of value)
+
+-- ---- the links of a page
+
+-- those of the third value: the `longdesc` of an image, or the document in the `srcdoc` of an `iframe`
 abbrev pub third_links : Element → Values → List (List ℕ)
 third_links element.Image v = value_links form.Link v.third
+third_links element.InlineFrame v = srcdoc_links v.third
 third_links _ v = []
 
 -- the links of an element's values

@@ -1,7 +1,14 @@
--- The texts of `url()` and `@import` in a style sheet, found by patterns: `url(` or `@import`, in any case, and then a text in
--- quotes; or `url(` and a text without quotes, parentheses and white space. Comments and other texts in quotes name nothing.
-use Rattle.std.specs.Prelude.{ℕ, zero, suc, ◌==◌, ◌||◌, ◌&&◌, nat_le, not, Bool, true, false, if◌then◌else◌, List, [], ◌∷◌, length, Option, None, Some}
-use Rattle.html_links.specs.Shown.{front, behind}
+-- The texts of `url()` and `@import` in a style sheet, found by patterns: `url(` or `@import`, in any case and not within a longer
+-- name, and then a text in quotes; or `url(` and a text without quotes, parentheses and white space. Comments and other texts in
+-- quotes name nothing. An escape ends neither a text nor a name.
+use Rattle.std.specs.Prelude.{ℕ, zero, suc, ◌-◌, ◌==◌, ◌||◌, ◌&&◌, nat_le, not, Bool, true, false, if◌then◌else◌, List, [], ◌∷◌, length, take, Option, None, Some}
+use Rattle.std.specs.Char.{is_ascii_alphanumeric}
+use Rattle.html_links.specs.declared.style.Run.{Run}
+use Rattle.html_links.specs.declared.style.Run.TheVariants as run
+use Rattle.html_links.specs.declared.escapes.State.{State}
+use Rattle.html_links.specs.declared.escapes.State.TheVariants as state
+use Rattle.html_links.specs.Escapes.{is_break, is_escaped, state_after, unescaped}
+use Rattle.html_links.specs.Shown.{behind}
 use Rattle.html_links.specs.Refresh.{behind_letter, and_then, is_quote}
 
 -- white space, including the vertical tab
@@ -23,21 +30,58 @@ abbrev pub or_found : Option Found → Option Found → Option Found
 or_found None other = other
 or_found (Some f) other = Some f
 
-abbrev pub closed : List ℕ → List ℕ → Option Found
-closed url [] = None
-closed url (c ∷ rest) = Some (found_with url rest)
+-- the byte may be in a name, or before it as in `@import` and `#fff`
+abbrev pub in_word : ℕ → Bool
+in_word c = is_ascii_alphanumeric c || c == 45 || c == 95 || c == 92 || c == 35 || c == 64 || nat_le 128 c
 
--- a text in quotes, if the second quote is there
+-- the byte continues a run of this kind: a name, a URL without quotes, or a text in quotes of either kind
+abbrev pub in_run : Run → ℕ → Bool
+in_run run.Word c = in_word c
+in_run run.Plain c = in_plain c
+in_run run.Double c = not (c == 34 || is_break c)
+in_run run.Single c = not (c == 39 || is_break c)
+
+-- after the bytes of a state, this one continues the run, also as a part of an escape
+abbrev pub continues : Run → State → ℕ → Bool
+continues kind here c = is_escaped here c || in_run kind c
+
+-- the bytes after such a run, from those after the bytes of a state
+abbrev pub behind_run : Run → State → List ℕ → List ℕ
+behind_run kind here [] = []
+behind_run kind here (c ∷ rest) = if continues kind here c then behind_run kind (state_after here c) rest else c ∷ rest
+
+-- the bytes before some at the end
+abbrev pub before : List ℕ → List ℕ → List ℕ
+before bytes left = take (length bytes - length left) bytes
+
+-- The text up to its second quote, or to the end of the sheet. At a line break it is broken off, and no text.
+abbrev pub closed : ℕ → List ℕ → List ℕ → Option Found
+closed quote bytes [] = Some (found_with (before bytes []) [])
+closed quote bytes (c ∷ left) = if c == quote then Some (found_with (before bytes (c ∷ left)) left) else None
+
+abbrev pub run_in : ℕ → Run
+run_in quote = if quote == 34 then run.Double else run.Single
+
+-- a text in quotes
 abbrev pub quoted : List ℕ → Option Found
 quoted [] = None
-quoted (c ∷ rest) = if is_quote c then closed (front (λ x. not (x == c)) rest) (behind (λ x. not (x == c)) rest) else None
+quoted (c ∷ rest) = if is_quote c then closed c rest (behind_run (run_in c) state.Plain rest) else None
+
+abbrev pub behind_closed : ℕ → List ℕ → List ℕ
+behind_closed quote [] = []
+behind_closed quote (c ∷ left) = if c == quote then left else c ∷ left
+
+-- the bytes after it, or from the line break at which it is broken off
+abbrev pub behind_quoted : List ℕ → Option (List ℕ)
+behind_quoted [] = None
+behind_quoted (c ∷ rest) = if is_quote c then Some (behind_closed c (behind_run (run_in c) state.Plain rest)) else None
 
 abbrev pub some_url : List ℕ → List ℕ → Option Found
 some_url [] rest = None
 some_url (c ∷ url) rest = Some (found_with (c ∷ url) rest)
 
 abbrev pub plain : List ℕ → Option Found
-plain bytes = some_url (front in_plain bytes) (behind in_plain bytes)
+plain bytes = some_url (before bytes (behind_run run.Plain state.Plain bytes)) (behind_run run.Plain state.Plain bytes)
 
 abbrev pub in_brackets : List ℕ → Option Found
 in_brackets bytes = or_found (quoted (behind is_wide_space bytes)) (plain (behind is_wide_space bytes))
@@ -70,26 +114,30 @@ found_behind None imports bytes = if imports then quoted bytes else None
 abbrev pub found_at : Bool → List ℕ → Option Found
 found_at imports bytes = found_behind (behind_url bytes) imports bytes
 
--- the bytes after one byte, and the flag: between an `@import` and its text only white space may be
+-- the bytes after the name that begins with a byte, or after a byte that begins no name
+abbrev pub behind_name : ℕ → List ℕ → List ℕ
+behind_name c rest = if in_word c then behind_run run.Word (state_after state.Plain c) rest else rest
+
+-- likewise with the flag: between an `@import` and its text only white space may be
 abbrev pub pass_byte : Bool → List ℕ → List ℕ × Bool
 pass_byte imports [] = ([], false)
-pass_byte imports (c ∷ rest) = (rest, imports && is_wide_space c)
+pass_byte imports (c ∷ rest) = (behind_name c rest, imports && is_wide_space c)
 
-abbrev pub passed : Bool → List ℕ → Option (List ℕ) → Option Found → Option (List ℕ) → List ℕ × Bool
+abbrev pub passed : Bool → List ℕ → Option (List ℕ) → Option (List ℕ) → Option (List ℕ) → List ℕ × Bool
 passed imports bytes (Some comment) text word = (behind_comment false comment, imports)
-passed imports bytes None (Some text) word = (text.rest, false)
+passed imports bytes None (Some rest) word = (rest, false)
 passed imports bytes None None (Some rest) = (rest, true)
 passed imports bytes None None None = pass_byte imports bytes
 
 -- the bytes after those at the start that name no URL, and the flag
 abbrev pub pass : Bool → List ℕ → List ℕ × Bool
-pass imports bytes = passed imports bytes (opened bytes) (quoted bytes) (behind_import bytes)
+pass imports bytes = passed imports bytes (opened bytes) (behind_quoted bytes) (behind_import bytes)
 
 abbrev pub urls_after : Option Found → List ℕ × Bool → (Bool → List ℕ → List (List ℕ)) → List (List ℕ)
 urls_after None left on = on left.1 left.0
-urls_after (Some f) left on = f.url ∷ on false f.rest
+urls_after (Some f) left on = unescaped f.url ∷ on false f.rest
 
--- the URLs in at most this number of bytes, one after another
+-- the URLs in at most this number of bytes, one after another, with their escapes decoded
 abbrev pub urls_within : ℕ → Bool → List ℕ → List (List ℕ)
 urls_within zero imports bytes = []
 urls_within (suc n) imports [] = []

@@ -34,7 +34,7 @@ values_of w all self_closing = record {
   third = first_named w.third all;
   style = first_named (codes "style") all;
   id = first_named (codes "id") all;
-  name = first_named (codes "name") all;
+  name = first_named w.name all;
   self_closing = self_closing;
 }
 
@@ -78,6 +78,6 @@ with_attribute v w a = record {
   third = or_named v.third w.third a;
   style = or_named v.style (codes "style") a;
   id = or_named v.id (codes "id") a;
-  name = or_named v.name (codes "name") a;
+  name = or_named v.name w.name a;
   self_closing = v.self_closing;
 }

@@ -2,7 +2,7 @@
 ghost use Rattle.std.specs.Prelude.{◌≡◌, map};
 ghost use Rattle.html_links.specs.Tags.{lower};
 ghost use Rattle.html_links.specs.Comments.{bytes_at};
-ghost use Rattle.html_links.specs.Elements.{is_anchor, is_background, is_embedded, is_frame, is_inert, is_shadow, is_usual, element_of, has_rare_names, wanted_at, wanted_of, wants};
+ghost use Rattle.html_links.specs.Elements.{is_anchor, is_background, is_embedded, is_inert, is_shadow, is_usual, element_of, has_rare_names, wanted_at, wanted_of, wants};
 
 use crate::lengths::may_be;
 use crate::raw_text::same_name;
@@ -20,6 +20,7 @@ pub(crate) enum Element {
     Font,
     Frame,
     Image,
+    InlineFrame,
     Input,
     Link,
     Math,
@@ -39,6 +40,7 @@ pub(crate) struct Wanted {
     pub(crate) first: &'static [u8],
     pub(crate) second: &'static [u8],
     pub(crate) third: &'static [u8],
+    pub(crate) name: &'static [u8],
 }
 
 /// The lengths of the names of elements that name documents, whose content is text, or that begin SVG or MathML.
@@ -79,13 +81,6 @@ fn is_embedded(name: &[u8]) -> bool
         || same_name(name, b"track")
 }
 
-/// Whether the element with this name, in any case, is a `frame` or `iframe`, which have links in `src` and `longdesc`.
-fn is_frame(name: &[u8]) -> bool
-    ensures { result ≡ is_frame (map lower name.now) }
-{
-    same_name(name, b"frame") || same_name(name, b"iframe")
-}
-
 /// Whether the first letter and the length of a name show that the element names no documents and has no text.
 #[inline(always)]
 pub(crate) fn is_usual(name: &[u8]) -> bool
@@ -122,8 +117,10 @@ pub(crate) fn element_of(name: &[u8]) -> Element
         Element::Video
     } else if same_name(name, b"template") {
         Element::Template
-    } else if is_frame(name) {
+    } else if same_name(name, b"frame") {
         Element::Frame
+    } else if same_name(name, b"iframe") {
+        Element::InlineFrame
     } else if same_name(name, b"input") {
         Element::Input
     } else if same_name(name, b"button") {
@@ -153,9 +150,15 @@ pub(crate) fn wanted_of(element: Element) -> Wanted
         Element::Font => names(b"color", b"face", b"size"),
         Element::Frame => names(b"src", b"longdesc", b""),
         Element::Image => names(b"src", b"srcset", b"longdesc"),
+        Element::InlineFrame => names(b"src", b"longdesc", b"srcdoc"),
         Element::Source => names(b"src", b"srcset", b""),
         Element::Input => names(b"src", b"formaction", b"type"),
-        Element::Link => names(b"href", b"imagesrcset", b"rel"),
+        Element::Link => Wanted {
+            first: b"href",
+            second: b"imagesrcset",
+            third: b"rel",
+            name: b"itemprop",
+        },
         Element::Meta => names(b"content", b"http-equiv", b"property"),
         Element::Object => names(b"data", b"", b""),
         Element::Param => names(b"value", b"", b""),
@@ -173,7 +176,7 @@ pub(crate) fn has_rare_names(element: Element) -> bool
     matches!(element, Element::Annotation | Element::Font)
 }
 
-/// The names of the first, second and third attribute that are read. An empty name is that of no attribute.
+/// The names of the first, second and third attribute that are read, and `name`. An empty name is that of no attribute.
 fn names(first: &'static [u8], second: &'static [u8], third: &'static [u8]) -> Wanted
     ensures { wanted_at result ≡ wants first.now second.now third.now }
 {
@@ -181,6 +184,7 @@ fn names(first: &'static [u8], second: &'static [u8], third: &'static [u8]) -> W
         first,
         second,
         third,
+        name: b"name",
     }
 }
 

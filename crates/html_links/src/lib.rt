@@ -7,6 +7,7 @@ mod comments;
 mod context;
 mod document;
 mod element;
+mod escapes;
 mod found;
 mod lengths;
 mod links;

@@ -97,7 +97,12 @@ fn push_styles<L: PlacedLinks>(
 {
     push_style(length, tag.inside, values, decoded, links)?;
     let sheet = sheet_of(tag.own, tag.name, values.self_closing, tag.text);
-    read_style(sheet, length.saturating_sub(tag.text.len()), links)
+    read_style(
+        *decoded.allocator(),
+        sheet,
+        length.saturating_sub(tag.text.len()),
+        links,
+    )
 }
 
 /// Passes on the links of a tag's `style`.
@@ -118,7 +123,7 @@ fn push_style<L: PlacedLinks>(
         links.begin_at(begin);
         push_value(Form::Style, values.style, decoded, links)
     } else {
-        read_style(style, begin, links)
+        read_style(*decoded.allocator(), style, begin, links)
     }
 }
 

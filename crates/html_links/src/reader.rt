@@ -4,13 +4,13 @@ ghost use Rattle.html_links.specs.Comments.{bytes_at};
 ghost use Rattle.html_links.specs.Tags.{lower};
 ghost use Rattle.html_links.specs.References.{text_of};
 ghost use Rattle.html_links.specs.Values.{values_at};
-ghost use Rattle.html_links.specs.Links.{value_links, text_links, is_link_type, types_behind, is_related, is_keyword, submits, submits_nothing, is_open_graph, is_card, names_url, is_data, names_data, form_if, meta_form, first_form, second_form, first_links, second_links, third_links, links_with, links_of, ids_with, anchors_with, ids_of, base_of, base_with, or_later};
+ghost use Rattle.html_links.specs.Links.{value_links, text_links, begins_fragment, is_link_type, types_behind, is_related, is_keyword, submits, submits_nothing, is_open_graph, is_card, names_url, is_data, names_data, form_if, meta_form, first_form, second_form, first_links, second_links, third_links, links_with, links_of, ids_with, anchors_with, ids_of, base_of, base_with, or_later, inner_form, inner_third, inner_links_with, inner_links_of, is_base, srcdoc_links};
 ghost use Rattle.html_links.specs.Reads.{base_at};
 
 use crate::bytes::parts;
 use crate::context::context_of;
 use crate::element::Element;
-use crate::found::Values;
+use crate::found::{Values, is_absent};
 use crate::links::PlacedLinks;
 use crate::next_tag::next_tag;
 use crate::placed::push_tag;
@@ -29,6 +29,8 @@ pub type Base = Option<Vec<u8>>;
 #[derive(Clone, Copy)]
 pub(crate) enum Form {
     Link,
+    /// A link that may not begin with `#`, since that leads to an anchor of the document in a `srcdoc`.
+    Outward,
     List,
     Refresh,
     Style,
@@ -199,7 +201,7 @@ pub(crate) fn push_second<L: Links>(
     push_some(form, value, decoded, links)
 }
 
-/// Passes on the link of the third value.
+/// Passes on the links of the third value.
 #[inline(always)]
 pub(crate) fn push_third<L: Links>(
     element: Element,
@@ -211,7 +213,99 @@ pub(crate) fn push_third<L: Links>(
 {
     match element {
         Element::Image => push_value(Form::Link, values.third, decoded, links),
+        Element::InlineFrame => push_srcdoc(values.third, decoded, links),
         _ => Ok(()),
+    }
+}
+
+/// Passes on the links of the document in a `srcdoc`.
+#[inline(never)]
+fn push_srcdoc<L: Links>(
+    value: Option<&[u8]>,
+    decoded: &mut Vec<u8>,
+    links: &mut L,
+) -> Result<(), AllocError>
+    ensures { OnOk result (L.texts links.new ≡ L.texts links.old ++ srcdoc_links (bytes_at value.entry)) }
+{
+    let Some(value) = value else {
+        return Ok(());
+    };
+    let mut document = Vec::new(*decoded.allocator());
+    decode(value, &mut document)?;
+    push_document(document.as_slice(), decoded, links)
+}
+
+/// Passes on the links of a document in a `srcdoc` up to its `base`, without those of its styles and of a `srcdoc` in it.
+#[tactic(auto, using(crate::proofs::Passing::more_inner, crate::proofs::Passing::last_inner))]
+fn push_document<L: Links>(
+    document: &[u8],
+    decoded: &mut Vec<u8>,
+    links: &mut L,
+) -> Result<(), AllocError>
+    ensures { OnOk result (L.texts links.new ≡ L.texts links.old ++ inner_links_of document.now) }
+{
+    let mut values = Values::none();
+    let mut context = context_of(Syntax::Html);
+    let mut rest = document;
+    'tags: while let Some(tag) = next_tag(context, rest, &mut values) {
+        if is_base(tag.element, &values) {
+            return Ok(());
+        }
+        push_inner(tag.element, &values, decoded, links)?;
+        context = tag.context;
+        rest = tag.rest;
+    }
+    Ok(())
+}
+
+/// Whether the tag is a `base` with an `href`.
+fn is_base(element: Element, values: &Values<'_>) -> bool
+    ensures { result ≡ is_base element (values_at values.now) }
+{
+    match element {
+        Element::Base => !is_absent(values.first),
+        _ => false,
+    }
+}
+
+/// Passes on the links of a tag's values in a document in a `srcdoc`.
+fn push_inner<L: Links>(
+    element: Element,
+    values: &Values<'_>,
+    decoded: &mut Vec<u8>,
+    links: &mut L,
+) -> Result<(), AllocError>
+    ensures { OnOk result (L.texts links.new ≡ L.texts links.old ++ inner_links_with element (values_at values.now)) }
+{
+    let first = inner_form(first_form(element, values, decoded)?);
+    push_value(first, values.first, decoded, links)?;
+    let second = inner_form(second_form(element, values, decoded)?);
+    push_value(second, values.second, decoded, links)?;
+    push_inner_third(element, values, decoded, links)
+}
+
+/// Passes on the link of the third value in a document in a `srcdoc`.
+fn push_inner_third<L: Links>(
+    element: Element,
+    values: &Values<'_>,
+    decoded: &mut Vec<u8>,
+    links: &mut L,
+) -> Result<(), AllocError>
+    ensures { OnOk result (L.texts links.new ≡ L.texts links.old ++ inner_third element (values_at values.now)) }
+{
+    match element {
+        Element::Image => push_value(Form::Outward, values.third, decoded, links),
+        _ => Ok(()),
+    }
+}
+
+/// How a value names documents in a document in a `srcdoc`, if it does so like this on a page.
+fn inner_form(form: Form) -> Form
+    ensures { result ≡ inner_form form }
+{
+    match form {
+        Form::Link => Form::Outward,
+        _ => form,
     }
 }
 
@@ -227,7 +321,7 @@ fn first_form(
     match element {
         Element::Base | Element::Font => Ok(Form::Nothing),
         Element::Meta => meta_form(values, decoded),
-        Element::Link => Ok(form_if(is_related(values.third, decoded)?, Form::Link)),
+        Element::Link => Ok(form_if(is_related(values.third, values.name, decoded)?, Form::Link)),
         Element::Input => Ok(form_if(is_keyword(b"image", values.third, decoded)?, Form::Link)),
         Element::Button => Ok(form_if(!submits_nothing(values.third, decoded)?, Form::Link)),
         Element::Param => Ok(form_if(names_data(values.name, decoded)?, Form::Link)),
@@ -246,7 +340,7 @@ fn second_form(
 {
     match element {
         Element::Base | Element::Font | Element::Meta => Ok(Form::Nothing),
-        Element::Link => Ok(form_if(is_related(values.third, decoded)?, Form::List)),
+        Element::Link => Ok(form_if(is_related(values.third, values.name, decoded)?, Form::List)),
         Element::Image | Element::Source => Ok(Form::List),
         Element::Input => Ok(form_if(submits(values.third, decoded)?, Form::Link)),
         _ => Ok(Form::Link),
@@ -373,12 +467,16 @@ fn is_data(name: &[u8]) -> bool
         || same_name(name, b"url")
 }
 
-/// Whether the `rel` of a `link` makes it a link to a document.
-fn is_related(rel: Option<&[u8]>, decoded: &mut Vec<u8>) -> Result<bool, AllocError>
-    ensures { IfOk result (λ is. is ≡ is_related (bytes_at rel.entry)) }
+/// Whether the `rel` of a `link`, or its `itemprop` if it has no `rel`, makes it a link to a document.
+fn is_related(
+    rel: Option<&[u8]>,
+    item: Option<&[u8]>,
+    decoded: &mut Vec<u8>,
+) -> Result<bool, AllocError>
+    ensures { IfOk result (λ is. is ≡ is_related (bytes_at rel.entry) (bytes_at item.entry)) }
 {
     let Some(value) = rel else {
-        return Ok(true);
+        return Ok(!is_absent(item));
     };
     decoded.clear();
     decode(value, decoded)?;
@@ -411,27 +509,48 @@ fn push_some<L: Links>(
 ) -> Result<(), AllocError>
     ensures { OnOk result (L.texts links.new ≡ L.texts links.old ++ text_links form (text_of value.now)) }
 {
+    let alloc = *decoded.allocator();
     if !is_coded(value) {
-        return push_text(form, value, links);
+        return push_text(alloc, form, value, links);
     }
     decoded.clear();
     decode(value, decoded)?;
-    push_text(form, decoded.as_slice(), links)
+    push_text(alloc, form, decoded.as_slice(), links)
 }
 
 /// Passes on the links of a text in which character references are already decoded.
-fn push_text<L: Links>(form: Form, text: &[u8], links: &mut L) -> Result<(), AllocError>
+fn push_text<L: Links>(
+    alloc: Global,
+    form: Form,
+    text: &[u8],
+    links: &mut L,
+) -> Result<(), AllocError>
     ensures { OnOk result (L.texts links.new ≡ L.texts links.old ++ text_links form text.now) }
 {
     match form {
         Form::Link => links.push(text),
+        Form::Outward => if begins_fragment(text) {
+            Ok(())
+        } else {
+            links.push(text)
+        },
         Form::List => push_candidates(text, links),
         Form::Refresh => match target_of(text) {
             Some(target) => links.push(target),
             None => Ok(()),
         },
-        Form::Style => push_urls(text, links),
+        Form::Style => push_urls(alloc, text, links),
         Form::Nothing => Ok(()),
+    }
+}
+
+/// Whether the text begins with `#`.
+fn begins_fragment(text: &[u8]) -> bool
+    ensures { result ≡ begins_fragment text.now }
+{
+    match parts(text) {
+        Some((first, _)) => first == b'#',
+        None => false,
     }
 }
 

@@ -109,7 +109,7 @@ fn push_decoded(found: Decoded<'_>, out: &mut Vec<u8>) -> Result<(), AllocError>
 }
 
 /// Appends the character in UTF-8.
-fn push_character(character: char, out: &mut Vec<u8>) -> Result<(), AllocError>
+pub(crate) fn push_character(character: char, out: &mut Vec<u8>) -> Result<(), AllocError>
     ensures { OnOk result (out.new.items ≡ out.old.items ++ encode_utf8 character) }
 {
     let mut buffer = [0; 4];
@@ -168,7 +168,7 @@ fn numbered(bytes: &[u8]) -> (Decoded<'_>, &[u8])
 }
 
 /// The value of a byte as a digit to a base from 2 to 36. Letters may be in either case. `None` if it is no such digit.
-fn digit_in(radix: u32, byte: u8) -> Option<u32>
+pub(crate) fn digit_in(radix: u32, byte: u8) -> Option<u32>
     requires low { 2 ≤ radix }
     requires high { radix ≤ 36 }
     ensures { result ≡ digit_in radix byte }
@@ -177,7 +177,7 @@ fn digit_in(radix: u32, byte: u8) -> Option<u32>
 }
 
 /// The number with one more digit. A number above all characters stays as it is, so that it never overflows.
-fn number_after(radix: u32, number: u64, digit: u32) -> u64
+pub(crate) fn number_after(radix: u32, number: u64, digit: u32) -> u64
     requires { radix ≤ 36 }
     ensures { result ≡ number_after radix number digit }
 {

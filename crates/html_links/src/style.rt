@@ -1,32 +1,61 @@
 //! The documents that a style sheet names, and the style sheets in documents.
-ghost use Rattle.std.specs.Prelude.{◌≡◌, ◌<◌, ◌∷◌, ◌++◌, [], length, map, false, OnOk, MatchOption, take_while};
+ghost use Rattle.std.specs.Prelude.{◌≡◌, ◌≤◌, ◌<◌, ◌∷◌, ◌++◌, [], length, map, false, OnOk, MatchOption, take_while};
 ghost use Rattle.html_links.specs.Comments.{bytes_at};
-ghost use Rattle.html_links.specs.Shown.{front, behind};
-ghost use Rattle.html_links.specs.Styles.{is_wide_space, in_plain, quoted, plain, in_brackets, behind_url, behind_import, opened, behind_comment, found_at, pass_byte, pass, urls_of, style_links_of};
+ghost use Rattle.html_links.specs.Shown.{behind};
+ghost use Rattle.html_links.specs.Styles.{is_wide_space, in_plain, in_word, in_run, continues, behind_run, before, run_in, closed, quoted, behind_closed, behind_quoted, plain, in_brackets, behind_url, behind_import, opened, behind_comment, found_at, behind_name, pass_byte, pass, urls_of, style_links_of};
+ghost use Rattle.html_links.specs.Escapes.{unescaped};
 ghost use Rattle.html_links.specs.Tags.{lower};
 ghost use Rattle.html_links.specs.Seen.{foreign_sheet, raw_sheet, sheet_of};
 ghost use Rattle.html_links.specs.Styled.{found_bytes, FoundLeaves};
 
 use crate::bytes::{behind_byte, parts, split_quoted};
 use crate::context::{Context, is_foreign};
+use crate::escapes::{State, is_break, is_escaped, push_unescaped, state_after};
 use crate::links::{Links, PlacedLinks};
 use crate::raw_text::{after_raw_text, same_name};
 use crate::refresh::{behind_letter, is_quote};
-use std::alloc::AllocError;
+use std::alloc::{AllocError, Global};
+
+/// A run of bytes in a style sheet.
+#[derive(Clone, Copy)]
+enum Run {
+    /// A name, also one after `@` or `#`.
+    Word,
+    /// A URL without quotes.
+    Plain,
+    /// A text in double quotes.
+    Double,
+    /// A text in single quotes.
+    Single,
+}
 
 /// Passes on the texts of `url()` and `@import` in a style sheet or a style, in order.
 ///
 /// # Errors
 /// If an allocation fails.
-pub(crate) fn push_urls<L: Links>(text: &[u8], links: &mut L) -> Result<(), AllocError>
+pub(crate) fn push_urls<L: Links>(
+    alloc: Global,
+    text: &[u8],
+    links: &mut L,
+) -> Result<(), AllocError>
     ensures { OnOk result (L.texts links.new ≡ L.texts links.old ++ style_links_of text.now) }
 {
+    let mut decoded = Vec::new(alloc);
     let mut rest = text;
     'urls: while let Some((url, more)) = next_url(rest) {
-        links.push(url)?;
+        push_url(url, &mut decoded, links)?;
         rest = more;
     }
     Ok(())
+}
+
+/// Passes on a URL with its escapes decoded. It overwrites `decoded`.
+fn push_url<L: Links>(url: &[u8], decoded: &mut Vec<u8>, links: &mut L) -> Result<(), AllocError>
+    ensures { OnOk result (L.texts links.new ≡ L.texts links.old ++ unescaped url.now ∷ []) }
+{
+    decoded.clear();
+    push_unescaped(url, decoded)?;
+    links.push(decoded.as_slice())
 }
 
 /// Passes on the texts of `url()` and `@import` in a style sheet, in order, and before each the index at which it begins. `begin` is
@@ -35,16 +64,18 @@ pub(crate) fn push_urls<L: Links>(text: &[u8], links: &mut L) -> Result<(), Allo
 /// # Errors
 /// If an allocation fails.
 pub fn read_style<L: PlacedLinks>(
+    alloc: Global,
     sheet: &[u8],
     begin: usize,
     links: &mut L,
 ) -> Result<(), AllocError>
     ensures { OnOk result (L.texts links.new ≡ L.texts links.old ++ style_links_of sheet.now) }
 {
+    let mut decoded = Vec::new(alloc);
     let mut rest = sheet;
     'urls: while let Some((url, more)) = next_url(rest) {
         links.begin_at(begin.saturating_add(url_index(sheet, url, more.len())));
-        links.push(url)?;
+        push_url(url, &mut decoded, links)?;
         rest = more;
     }
     Ok(())
@@ -107,7 +138,7 @@ fn raw_sheet(bytes: &[u8]) -> &[u8]
 
 /// The next URL, and the bytes after it.
 fn next_url(bytes: &[u8]) -> Option<(&[u8], &[u8])>
-    ensures gives { MatchOption result (style_links_of bytes.now ≡ []) (λ x. style_links_of bytes.now ≡ x.0.now ∷ style_links_of x.1.now) }
+    ensures gives { MatchOption result (style_links_of bytes.now ≡ []) (λ x. style_links_of bytes.now ≡ unescaped x.0.now ∷ style_links_of x.1.now) }
     ensures leaves { FoundLeaves result bytes.now }
 {
     let mut rest = bytes;
@@ -144,7 +175,7 @@ fn pass(imports: bool, bytes: &[u8]) -> (&[u8], bool)
     if let Some(comment) = opened(bytes) {
         return (behind_comment(comment), imports);
     }
-    if let Some((_, rest)) = quoted(bytes) {
+    if let Some(rest) = behind_quoted(bytes) {
         return (rest, false);
     }
     match behind_import(bytes) {
@@ -153,13 +184,25 @@ fn pass(imports: bool, bytes: &[u8]) -> (&[u8], bool)
     }
 }
 
-/// The bytes after the first, and whether an `@import` is before them. Only white space may be between it and its text.
+/// The bytes after a name or one other byte, and whether an `@import` is before them. Only white space may be between it and its
+/// text.
 fn pass_byte(imports: bool, bytes: &[u8]) -> (&[u8], bool)
     ensures { (result.0.now, result.1) ≡ pass_byte imports bytes.now }
 {
     match parts(bytes) {
-        Some((first, rest)) => (rest, imports && is_wide_space(first)),
+        Some((first, rest)) => (behind_name(first, rest), imports && is_wide_space(first)),
         None => (bytes, false),
+    }
+}
+
+/// The bytes after the name that begins with this byte, from those after the byte, which may begin no name.
+fn behind_name(first: u8, bytes: &[u8]) -> &[u8]
+    ensures { result.now ≡ behind_name first bytes.now }
+{
+    if in_word(first) {
+        behind_run(Run::Word, state_after(State::Plain, first), bytes)
+    } else {
+        bytes
     }
 }
 
@@ -242,7 +285,7 @@ fn in_brackets(bytes: &[u8]) -> Option<(&[u8], &[u8])>
     }
 }
 
-/// The bytes between quotes at the front, and those after them.
+/// The text in quotes at the front, and the bytes after it.
 fn quoted(bytes: &[u8]) -> Option<(&[u8], &[u8])>
     ensures { found_bytes result ≡ quoted bytes.now }
 {
@@ -250,19 +293,130 @@ fn quoted(bytes: &[u8]) -> Option<(&[u8], &[u8])>
         return None;
     };
     if is_quote(first) {
-        split_quoted(first, more)
+        closed(first, more)
     } else {
         None
     }
 }
 
-/// A URL without quotes, which has at least one byte.
+/// The text before this quote, and the bytes after it. The text may also end with the sheet, but not with its line.
+fn closed(quote: u8, bytes: &[u8]) -> Option<(&[u8], &[u8])>
+    ensures { found_bytes result ≡ closed quote bytes.now (behind_run (run_in quote) State.Plain bytes.now) }
+{
+    let left = behind_run(run_in(quote), State::Plain, bytes);
+    let text = before(bytes, left);
+    match parts(left) {
+        Some((last, rest)) => if last == quote {
+            Some((text, rest))
+        } else {
+            None
+        },
+        None => Some((text, left)),
+    }
+}
+
+/// The bytes after a text in quotes at the front, or from the line break at which it is broken off. `None` if no quote is there.
+fn behind_quoted(bytes: &[u8]) -> Option<&[u8]>
+    ensures { bytes_at result ≡ behind_quoted bytes.now }
+{
+    let Some((first, more)) = parts(bytes) else {
+        return None;
+    };
+    if is_quote(first) {
+        Some(behind_closed(first, behind_run(run_in(first), State::Plain, more)))
+    } else {
+        None
+    }
+}
+
+/// The bytes after this quote, if it is the first byte.
+fn behind_closed(quote: u8, bytes: &[u8]) -> &[u8]
+    ensures { result.now ≡ behind_closed quote bytes.now }
+{
+    match parts(bytes) {
+        Some((first, rest)) => if first == quote { rest } else { bytes },
+        None => bytes,
+    }
+}
+
+/// The run of a text in these quotes.
+fn run_in(quote: u8) -> Run
+    ensures { result ≡ run_in quote }
+{
+    if quote == b'"' {
+        Run::Double
+    } else {
+        Run::Single
+    }
+}
+
+/// The bytes after a run, from those after the bytes of a state.
+fn behind_run(run: Run, state: State, bytes: &[u8]) -> &[u8]
+    ensures rest { result.now ≡ behind_run run state bytes.now }
+    ensures leaves { length result.now ≤ length bytes.now }
+{
+    let mut at = state;
+    let mut rest = bytes;
+    'bytes: loop {
+        let Some((first, more)) = parts(rest) else {
+            return rest;
+        };
+        if !continues(run, at, first) {
+            return rest;
+        }
+        at = state_after(at, first);
+        rest = more;
+    }
+}
+
+/// Whether the byte continues a run after the bytes of a state, also as a part of an escape.
+fn continues(run: Run, state: State, byte: u8) -> bool
+    ensures { result ≡ continues run state byte }
+{
+    is_escaped(state, byte) || in_run(run, byte)
+}
+
+/// The bytes before some that are at the end.
+fn before<'a>(bytes: &'a [u8], left: &[u8]) -> &'a [u8]
+    requires { length left.now ≤ length bytes.now }
+    ensures { result.now ≡ before bytes.now left.now }
+{
+    &bytes[..bytes.len() - left.len()]
+}
+
+/// Whether the byte continues a run.
+fn in_run(run: Run, byte: u8) -> bool
+    ensures { result ≡ in_run run byte }
+{
+    match run {
+        Run::Word => in_word(byte),
+        Run::Plain => in_plain(byte),
+        Run::Double => !(byte == b'"' || is_break(byte)),
+        Run::Single => !(byte == b'\'' || is_break(byte)),
+    }
+}
+
+/// Whether the byte may be in a name, or before it as in `@import` and `#fff`.
+fn in_word(byte: u8) -> bool
+    ensures { result ≡ in_word byte }
+{
+    byte.is_ascii_alphanumeric()
+        || byte == b'-'
+        || byte == b'_'
+        || byte == b'\\'
+        || byte == b'#'
+        || byte == b'@'
+        || byte >= 128
+}
+
+/// A URL without quotes, which has at least one byte, and the bytes after it.
 fn plain(bytes: &[u8]) -> Option<(&[u8], &[u8])>
     ensures { found_bytes result ≡ plain bytes.now }
 {
-    let (url, rest) = split_plain(bytes);
+    let left = behind_run(Run::Plain, State::Plain, bytes);
+    let url = before(bytes, left);
     match parts(url) {
-        Some(_) => Some((url, rest)),
+        Some(_) => Some((url, left)),
         None => None,
     }
 }
@@ -297,20 +451,4 @@ fn in_plain(byte: u8) -> bool
     ensures { result ≡ in_plain byte }
 {
     !(is_wide_space(byte) || is_quote(byte) || byte == b'(' || byte == b')')
-}
-
-/// The number of bytes at the front that continue a URL without quotes.
-fn plain_len(bytes: &[u8]) -> usize
-    ensures { result ≡ length (take_while in_plain bytes.now) }
-{
-    bytes.iter().take_while(|byte| in_plain(**byte)).count()
-}
-
-/// The URL without quotes at the front, which may be empty, and the bytes after it.
-#[tactic(auto, using(crate::proofs::Cuts::front_cut, crate::proofs::Cuts::behind_cut))]
-fn split_plain(bytes: &[u8]) -> (&[u8], &[u8])
-    ensures url { result.0.now ≡ front in_plain bytes.now }
-    ensures rest { result.1.now ≡ behind in_plain bytes.now }
-{
-    bytes.split_at(plain_len(bytes))
 }

@@ -204,7 +204,7 @@ fn documents_and_their_styles(rt: HostRuntime) {
 
 fn has_sheet(alloc: Global, sheet: &str, begin: usize, links: &[(usize, &str)]) -> bool {
     let mut found = Texts::new(alloc);
-    match read_style(sheet.as_bytes(), begin, &mut found) {
+    match read_style(alloc, sheet.as_bytes(), begin, &mut found) {
         Ok(()) => are_links(&found, begin, links),
         Err(_) => false,
     }
