@@ -18,8 +18,8 @@ pub found_with : (top : List ℕ) (old new : List (List ℕ)) (list longer : Lis
 found_with top old new list longer one page is keep led own kept = grind (arith, has_found, same_found, cond-true, map_push)
 
 pub kept_with : (serves : SitePage → Type 0) (top : List ℕ) (pages longer : List PageFound) (page : SitePage) → longer ≡ with_found top pages (found_of page) → AreKept serves top pages → IsPage page → is_next top [] page.url ≡ true → ∥ serves page ∥₁ → AreKept serves top longer
-kept_with serves top pages longer page is all owes kept served =
-    let own : IsKept serves top (found_of page) = record { page = page; is = refl; owes = owes; kept = kept; served = served } in
+kept_with serves top pages longer page is all fit kept served =
+    let own : IsKept serves top (found_of page) = record { page = page; is = refl; fit = fit; kept = kept; served = served } in
     subst (AreKept serves top) (sym (is ∙ cond-true (is_next top [] page.url) _ _ kept)) (by_has (is_some (page_with pages page.url)) own)
   where
     by_has : (b : Bool) → IsKept serves top (found_of page) → AreKept serves top (if b then pages else pages ++ found_of page ∷ [])
@@ -34,7 +34,7 @@ pub record LinkedOne (serves : SitePage → Type 0) (top : List ℕ) (old new : 
 
 pub linked_one : (serves : SitePage → Type 0) (top : List ℕ) (old turned new : List (List ℕ)) (list longer : List LinkedPage) (one : LinkedPage) (page : SitePage) (base : List ℕ) → longer ≡ with_one list one → turned ≡ old → KeepIndices turned new → AreLed old list → AreKept serves top (found_all old list)
     → one.url ≡ page.url → base ≡ page.url → page_led new one.leads ≡ under_page base page.under → IsLed new one.leads → IsPage page → is_next top [] page.url ≡ true → ∥ serves page ∥₁ → LinkedOne serves top old new list longer page
-linked_one serves top old turned new list longer one page base is same keep_turned led all url base_is page_is own owes kept served =
+linked_one serves top old turned new list longer one page base is same keep_turned led all url base_is page_is own fit kept served =
     let keep : KeepIndices old new = subst (λ (u : List (List ℕ)). KeepIndices u new) same keep_turned in
     let found : found_in new one ≡ found_of page =
     ap (λ (p : Page). (one.url, p)) (page_is ∙ ap (λ (b : List ℕ). under_page b page.under) base_is)
@@ -42,6 +42,6 @@ linked_one serves top old turned new list longer one page base is same keep_turn
     let view = found_with top old new list longer one page is keep led found kept in
     record {
       led = led_one old new list longer one is keep led own;
-      kept = kept_with serves top (found_all old list) (found_all new longer) page view all owes kept served;
+      kept = kept_with serves top (found_all old list) (found_all new longer) page view all fit kept served;
       view = view;
     }

@@ -1,5 +1,5 @@
 -- What follows if the pages of a saved web are those of some files.
-use Rattle.saved_site.proofs.Prelude.{◌≡◌, ℕ, ◌<◌, true, false, Bool, List, Option, Some, None, is_some, refl, sym, ap, subst, ◌∙◌, length, length-map, map, slice_get, option_map, unwrap_or, Page, PageFound, page_at, page_with, under_page, SitePage, Under, Links, Moved}
+use Rattle.saved_site.proofs.Prelude.{◌≡◌, ℕ, ◌<◌, ◌||◌, true, false, Bool, not, List, Option, Some, None, is_some, refl, sym, ap, subst, ◌∙◌, length, length-map, slice_get, option_map, unwrap_or, Page, PageFound, page_with, under_page, SitePage, Under, Links, Moved}
 use Rattle.std.proofs.Math.Logic.{∥∥₁_elim}
 use Rattle.std.proofs.lemmas.Option.{slice_get_within}
 use Rattle.std.specs.Option.{IfSome}
@@ -9,10 +9,10 @@ use Rattle.crawl_pages.specs.declared.page.Page.TheVariants as page
 use Rattle.document_links.specs.Texts.{fits}
 use Rattle.saved_pages.specs.SavedWeb.{page_of}
 use Rattle.saved_site.proofs.Threads.{at_with}
-use Rattle.saved_site.specs.AllPages.{IsWebOf}
+use Rattle.saved_site.specs.AllPages.{IsWebOf, has_at}
 use Rattle.saved_site.specs.Served.{IsServedAt, IsServedPage}
 use Rattle.saved_site.specs.TaskPages.{Answer, Own, Alias, Redirect, IsAnswered, IsReadPage, answer_at}
-use Rattle.site_files.specs.Files.{Document, page_of as file_page, pages_of, url_of}
+use Rattle.site_files.specs.Files.{page_of as file_page, pages_of, url_of}
 use Rattle.site_files.specs.Entries.{response_of}
 use Rattle.site_files.specs.Pages.{Missing}
 use Rattle.site_files.specs.Serving.{served_at}
@@ -68,8 +68,15 @@ something_found : (serves : SitePage → Type 0) (url : List ℕ) (found : Optio
 something_found serves url None at is = absurd (cc)
 something_found serves url (Some found) at is = ap is_missing at.is ∙ under_found url at.page.under
 
+-- a page that is found at a URL that fits in a line
+found_at : (pages : List PageFound) (url : List ℕ) (at : Option (List ℕ)) → at ≡ Some url → fits 5 url ≡ true → has_at pages at ≡ true → is_some (page_with pages url) ≡ true
+found_at pages url at is fit has =
+    sym (ap (λ (b : Bool). not b || is_some (page_with pages url)) fit) ∙ sym (ap (has_at pages) is) ∙ has
+
 pub not_left_out : (files : SiteFiles) (reads : ℕ → Option (List ℕ) → Type 0) (web url : List ℕ) (number : ℕ) → IsWebOf files reads web → url_of files number ≡ Some url → fits 5 url ≡ true → is_missing (page_of (lines web) url) ≡ false
 not_left_out files reads web url number of_files is fit =
-    let there = of_files.all number (listed_number files number url (slice_get files.pages number) refl is) url is fit in
+    let there =
+    found_at of_files.pages url (url_of files number) is fit
+    (of_files.all number (listed_number files number url (slice_get files.pages number) refl is)) in
     ap is_missing (of_files.same url ∙ at_with of_files.pages url)
     ∙ something_found (IsServedPage files reads) url (page_with of_files.pages url) (of_files.served url) there

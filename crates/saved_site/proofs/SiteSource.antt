@@ -74,7 +74,7 @@ ordered serves top (found ∷ more) kept =
     let keeps = and_parts (is_after [] page.url) (is_below top page.url) own.kept in
     record {
       list = put page rest.list;
-      all = all_put page rest.list own.owes rest.all;
+      all = all_put page rest.list own.fit rest.all;
       up = up_put [] page rest.list keeps.0 rest.up;
       below = below_put top page rest.list keeps.1 rest.below;
       same = λ url.

@@ -1,5 +1,5 @@
 -- The texts of links and redirects to URLs of a site.
-use Rattle.saved_site.proofs.Prelude.{◌≡◌, ℕ, true, false, List, ◌++◌, drop, length, Option, Some, None, sym, ap, ◌∙◌, arith, option_map, take, take_all, cases_Bool, cond-false, cond-true, bytes_eq-Decides}
+use Rattle.saved_site.proofs.Prelude.{◌≡◌, ℕ, true, List, ◌++◌, drop, length, Option, Some, None, sym, ap, ◌∙◌, arith, option_map, take, take_all, cases_Bool, cond-false, cond-true, bytes_eq-Decides}
 use Rattle.std.proofs.lemmas.List.{take-append-drop, take-append-le}
 use Rattle.std.proofs.lemmas.List.Prefix.{front_rest}
 use Rattle.std.proofs.Common.{inl, inr}

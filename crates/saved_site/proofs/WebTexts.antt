@@ -26,7 +26,7 @@ site_below top pages all below = record { none = λ url out. web_at pages url al
 -- ---- their texts
 
 pub text_of : (page : SitePage) (url text : List ℕ) → url ≡ page.url → text ≡ page_text page → IsPage page → IsPageText url text
-text_of page url text there is owes = record { page = page; there = sym there; told = sym is; owes = owes }
+text_of page url text there is fit = record { page = page; there = sym there; printed = sym is; fit = fit }
 
 pub last_is : (last : List ℕ) (texts : List TextAt) (text : TextAt) → last_url last (texts ++ text ∷ []) ≡ text.0
 last_is last [] text = refl
@@ -54,9 +54,9 @@ text_pages top last (first ∷ more) all =
     record {
       pages = is.page ∷ rest.pages;
       text =
-          ap (λ (b : List ℕ). b ++ flat_map (λ (t : TextAt). t.1) more) (sym is.told)
+          ap (λ (b : List ℕ). b ++ flat_map (λ (t : TextAt). t.1) more) (sym is.printed)
           ∙ ap (λ (b : List ℕ). page_text is.page ++ b) rest.text;
-      all = (is.owes, rest.all);
+      all = (is.fit, rest.all);
       up = subst (λ (u : List ℕ). (is_after last u ≡ true) × AscendsAfter u rest.pages) (sym is.there) (next.0, rest.up);
       below = (subst (λ (u : List ℕ). is_below top u ≡ true) (sym is.there) next.1, rest.below);
     }

@@ -1,5 +1,5 @@
 -- No page of a site is left out.
-use Rattle.std.specs.Prelude.{◌≡◌, ◌<◌, ℕ, List, Option, Some, true, is_some, length}
+use Rattle.std.specs.Prelude.{◌≡◌, ◌<◌, ◌||◌, ℕ, Bool, false, not, true, List, Option, Some, None, is_some, length}
 use Rattle.std.specs.Str.Lines.{lines}
 use Rattle.saved_pages.specs.SavedWeb.{page_of}
 use Rattle.document_links.specs.Texts.{fits}
@@ -8,13 +8,22 @@ use Rattle.site_files.specs.declared.files.SiteFiles.{SiteFiles}
 use Rattle.saved_site.specs.Linked.{PageFound, page_at, page_with}
 use Rattle.saved_site.specs.Served.{AreServed, IsServedPage}
 
--- the page with this number is found at its URL, if that fits in a line
-abbrev pub HasPage : SiteFiles → List PageFound → ℕ → Type 0
-HasPage files pages number = (url : List ℕ) → url_of files number ≡ Some url → fits 5 url ≡ true → is_some (page_with pages url) ≡ true
+-- a page is found at the URL, if there is one that fits in a line
+abbrev pub has_at : List PageFound → Option (List ℕ) → Bool
+has_at pages None = true
+has_at pages (Some url) = not (fits 5 url) || is_some (page_with pages url)
+
+-- the page with this number is found at its URL
+abbrev pub has_page : SiteFiles → List PageFound → ℕ → Bool
+has_page files pages number = has_at pages (url_of files number)
 
 -- so is each page of the site
 abbrev pub HasAllPages : SiteFiles → List PageFound → Type 0
-HasAllPages files pages = (number : ℕ) → number < length (pages_of files) → HasPage files pages number
+HasAllPages files pages = (number : ℕ) → number < length (pages_of files) → has_page files pages number ≡ true
+
+-- some page of the site is not
+abbrev pub LacksPage : SiteFiles → List PageFound → Type 0
+LacksPage files pages = (number : ℕ) × (number < length (pages_of files)) × (has_page files pages number ≡ false)
 
 -- the pages of a saved web are those that a server of these files returns, and each page of the files is among them. `reads` is what a
 -- file can contain, by its index

@@ -40,7 +40,7 @@ found_of page = (page.url, under_page page.url page.under)
 pub record IsKept (serves : SitePage → Type 0) (top : List ℕ) (found : PageFound) : Type 0 where
   pub page : SitePage
   pub is : found ≡ found_of page
-  pub owes : IsPage page
+  pub fit : IsPage page
   pub kept : is_next top [] page.url ≡ true
   pub served : ∥ serves page ∥₁
 

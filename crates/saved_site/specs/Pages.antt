@@ -54,7 +54,7 @@ abbrev pub AscendsAfter : List ℕ → List SitePage → Type 0
 AscendsAfter last [] = Unit {0}
 AscendsAfter last (page ∷ more) = (is_after last page.url ≡ true) × AscendsAfter page.url more
 
--- ---- what a page owes
+-- ---- what holds of each page
 
 abbrev pub fits_under : Under → Bool
 fits_under (Links texts) = all_fit texts

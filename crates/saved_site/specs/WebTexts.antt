@@ -8,8 +8,8 @@ use Rattle.saved_site.specs.declared.page.SitePage.{SitePage}
 pub record IsPageText (url text : List ℕ) : Type 0 where
   pub page : SitePage
   pub there : page.url ≡ url
-  pub told : page_text page ≡ text
-  pub owes : IsPage page
+  pub printed : page_text page ≡ text
+  pub fit : IsPage page
 
 -- the URL of a page, and its text
 abbrev pub TextAt : Type 0

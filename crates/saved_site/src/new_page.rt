@@ -110,16 +110,15 @@ fn document_page(
 ) -> Result<NewPage, AllocError>
     ensures { IfOk result (λ new. IfSome new.page (IsPageOf task.now.url (Links document.links))) }
 {
+    let notes = document_notes(alloc, task, &document)?;
+    let spellings = link_spellings(alloc, files, &task.url, &document.links)?;
     let Document {
         links,
-        has_skipped,
         anchors,
         positions,
         invalid,
-        encoding,
+        ..
     } = document;
-    let notes = document_notes(alloc, task, has_skipped, encoding)?;
-    let spellings = link_spellings(alloc, files, &task.url, &links)?;
     let anchors = site_anchors(files, anchors)?;
     let mut new = NewPage::new(task, Under::Links(links), notes)?;
     new.spellings = spellings;
@@ -129,21 +128,20 @@ fn document_page(
     Ok(new)
 }
 
-/// The notes about a document. `has_skipped` says whether a link was skipped, and `encoding` is the name of an unknown encoding.
+/// The notes about a document: about its unknown encoding, and about links that were skipped.
 fn document_notes(
     alloc: Global,
     task: &Task,
-    has_skipped: bool,
-    encoding: Option<String>,
+    document: &Document,
 ) -> Result<Vec<Note>, AllocError> {
     let mut notes = Vec::new(alloc);
-    if let Some(name) = encoding {
+    if let Some(name) = &document.encoding {
         notes.push(Note {
             left: Left::Encoding,
-            place: format!(in alloc; "{} ({name})", task.url.as_str())?,
+            place: format!(in alloc; "{} ({})", task.url.as_str(), name.as_str())?,
         })?;
     }
-    if has_skipped {
+    if document.has_skipped {
         notes.push(Note::at(alloc, Left::LongLinks, &task.url)?)?;
     }
     Ok(notes)
@@ -214,13 +212,26 @@ pub(crate) fn moved_page(
 {
     let target = target_of(alloc, files, task, target)?;
     let text = without_origin(target.as_str(), files.origin());
+    let spellings = target_spellings(alloc, files, &task.url, text)?;
     let mut new = moved_to(alloc, task, text)?;
-    if files.can_spell(text)
-        && let Some(spelling) = text_spelling(alloc, files, &task.url, text)?
-    {
-        new.spellings.push(spelling)?;
-    }
+    new.spellings = spellings;
     Ok(new)
+}
+
+/// The other spelling of a page that is the target with this text of a redirect at a URL, if it is one.
+fn target_spellings(
+    alloc: Global,
+    files: &SiteFiles<'_>,
+    url: &CanonUrl,
+    text: &str,
+) -> Result<Vec<Task>, AllocError> {
+    let mut all = Vec::new(alloc);
+    if files.can_spell(text)
+        && let Some(spelling) = text_spelling(alloc, files, url, text)?
+    {
+        all.push(spelling)?;
+    }
+    Ok(all)
 }
 
 /// The target of a redirect, with the query of the URL if that is not the redirect's own.

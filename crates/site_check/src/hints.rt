@@ -1,4 +1,4 @@
-//! What a server with other rules finds for a missing page.
+//! Why a page is missing: a symbolic link that is not followed, or a rule that another server has.
 ghost use Rattle.std.specs.Prelude.{◌≡◌, ◌++◌, [], IfOk, codes, unwrap_or, option_map, string_bytes};
 ghost use Rattle.site_files.specs.Files.{name_at};
 ghost use Rattle.site_check.specs.Hints.{fallback_text, hint_of, hint_text, index_text, name_in};
@@ -24,13 +24,15 @@ pub(crate) fn hint_of(
     }
 }
 
-/// The file that is found, and the option with which it is.
+/// The file that is found and the option with which it is, or where a symbolic link leads.
 fn hint_text(alloc: Global, files: &SiteFiles<'_>, hint: Hint) -> Result<String, NoMemory>
     ensures { IfOk result (λ text. string_bytes text ≡ hint_text files.now hint) }
 {
     match hint {
         Hint::HtmlFallback(index) => fallback_text(alloc, name_in(files, index)),
         Hint::IndexFile(index) => index_text(alloc, name_in(files, index)),
+        Hint::LeadsOut => String::from_str(alloc, "a symbolic link out of the folder: --follow"),
+        Hint::LeadsNowhere => String::from_str(alloc, "a symbolic link to nothing"),
     }
 }
 

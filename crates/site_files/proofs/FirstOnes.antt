@@ -1,6 +1,6 @@
 -- Lists by their keys: sorted, each key once, searched.
-use Rattle.std.proofs.Common.{◌≡◌, ℕ, ◌+◌, ◌<◌, zero, suc, not, ◌&&◌, ◌⊎◌, true, false, Ordering, List, [], ◌∷◌, Some, filter, get_or, length, refl, sym, ap, ◌∙◌, subst, inl, inr, suc-le-suc, zero-le, arith}
-use Rattle.std.specs.Prelude.{slice_get}
+use Rattle.std.proofs.Common.{◌≡◌, ℕ, ◌+◌, ◌<◌, zero, suc, not, ◌&&◌, ◌⊎◌, true, false, Ordering, List, [], ◌∷◌, Some, filter, get_or, length, map, refl, sym, ap, ◌∙◌, subst, inl, inr, suc-le-suc, zero-le, arith}
+use Rattle.std.specs.Prelude.{if◌then◌else◌, slice_get}
 use Rattle.std.specs.declared.cmp.Ordering.TheVariants.{Less, Equal, Greater}
 use Rattle.std.specs.Cmp.{IsStrictWeakOrder, IsTotalOrder}
 use Rattle.std.specs.Cmp.Lexicographic.{slice_cmp}
@@ -145,3 +145,9 @@ first-missing key value none text xs i ascends point =
 -- an element at which the search ends has the key
 pub key_found : {X : Type 0} (key : X → List ℕ) (text : List ℕ) (x : X) → slice_cmp nat_cmp (key x) text ≡ Equal → key x ≡ text
 key_found key text x equal = (bytes_eq-Decides (key x) text).0 (sym (is_eq-slice_cmp (key x) text) ∙ ap is_eq equal)
+
+-- ---- other elements with the same keys and values
+
+pub first-map : {X Y V : Type 0} (f : X → Y) (key : Y → List ℕ) (value : Y → V) (none : V) (text : List ℕ) (xs : List X) → first_with key value none (map f xs) text ≡ first_with (λ x. key (f x)) (λ x. value (f x)) none xs text
+first-map f key value none text [] = refl
+first-map f key value none text (x ∷ xs) = ap (λ rest. if bytes_eq (key (f x)) text then value (f x) else rest) (first-map f key value none text xs)

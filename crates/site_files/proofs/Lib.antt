@@ -6,6 +6,7 @@ pub mod OtherNames
 pub mod OtherRules
 pub mod OwnPages
 pub mod Serving
+pub mod SkippedLinks
 pub mod Slashes
 pub mod Table
 pub mod Ways

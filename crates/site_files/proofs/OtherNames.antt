@@ -1,6 +1,6 @@
 -- The other names of folders in a URL.
 use Rattle.std.proofs.Common.{not, ◌≡◌, ℕ, ◌+◌, ◌<◌, suc, inl, inr, List, [], ◌∷◌, ◌++◌, Result, Ok, Err, None, add-one, append_assoc, drop, drop-cons, get_or, length, map, string_bytes, refl, sym, ap, ◌∙◌, subst, arith}
-use Rattle.std.specs.Prelude.{IfOk, if◌then◌else◌}
+use Rattle.std.specs.Prelude.{IfOk}
 use Rattle.std.specs.declared.cmp.Ordering.TheVariants.{Less, Equal, Greater}
 use Rattle.std.specs.Cmp.{IsStrictWeakOrder}
 use Rattle.std.specs.Cmp.Lexicographic.{slice_cmp}
@@ -18,7 +18,7 @@ use Rattle.site_files.specs.Links.{FindsLink, IsLinkAt, IsLinkTable, IsLinked, c
 use Rattle.site_files.specs.Pages.{LinkUrls, link_urls, own_folder, own_spelling}
 use Rattle.site_files.specs.Server.{key_with, names_of, url_of}
 use Rattle.site_files.specs.declared.alias.FolderLink.{FolderLink}
-use Rattle.site_files.proofs.FirstOnes.{ascends-dedup, first-dedup, first-found, first-missing, first-sort, key_found, keys_rank}
+use Rattle.site_files.proofs.FirstOnes.{ascends-dedup, first-dedup, first-found, first-map, first-missing, first-sort, key_found, keys_rank}
 
 pub names_rank : IsStrictWeakOrder (λ a b. is_lt (cmp_names a b))
 names_rank = keys_rank name_in
@@ -59,7 +59,7 @@ spelled_cut own front rest below =
     ap (own_spelling own front) (slice_split_first is_slash rest 0 below)
     ∙ spelled_more own front (before_first is_slash rest) (names_of (after_first is_slash rest)) some
 
-none_cut : (text : List ℕ) → position_or_len is_slash text ≡ length text → names_of text ≡ text ∷ []
+pub none_cut : (text : List ℕ) → position_or_len is_slash text ≡ length text → names_of text ≡ text ∷ []
 none_cut [] none = refl
 none_cut (b ∷ text) none = elim (cases_Bool (is_slash b)) [
   | inl slash ↦
@@ -81,10 +81,6 @@ finds_link url links (Ok index) ascends range search = own_found url links index
 finds_link url links (Err index) ascends range search = own_missing url links index ascends search
 
 -- ---- the folders of a table
-
-first-map : {X Y V : Type 0} (f : X → Y) (key : Y → List ℕ) (value : Y → V) (none : V) (text : List ℕ) (xs : List X) → first_with key value none (map f xs) text ≡ first_with (λ x. key (f x)) (λ x. value (f x)) none xs text
-first-map f key value none text [] = refl
-first-map f key value none text (x ∷ xs) = ap (λ rest. if bytes_eq (key (f x)) text then value (f x) else rest) (first-map f key value none text xs)
 
 pub linked : (top : List ℕ) (links given kept : List FolderLink) → urls_in given ≡ map (link_urls top) (names_in links) → IsLinkTable given kept → IsLinked top links kept
 linked top links given kept urls table = record {

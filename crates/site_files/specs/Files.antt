@@ -76,7 +76,7 @@ file_kind rules (Some urls) index name = line_kind urls.now index
 
 -- the kind, if links of such a file are read
 abbrev pub kind_at : SiteFiles → ℕ → List ℕ → Option FileKind
-kind_at files index name = option_and_then (if_read files.rules.now.styles) (file_kind files.rules.now files.listed index name)
+kind_at files index name = option_and_then (if_read files.rules.now) (file_kind files.rules.now files.listed index name)
 
 -- the file with this index and name
 abbrev pub document_in : SiteFiles → ℕ → List ℕ → Option Document

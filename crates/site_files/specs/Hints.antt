@@ -1,4 +1,4 @@
--- What a server with other rules returns for a URL without a page.
+-- Why a URL has no page: a symbolic link that is not followed, or a rule that another server has.
 use Rattle.std.specs.Prelude.{◌≡◌, ℕ, ◌&&◌, ◌||◌, Bool, is_some, false, not, true, List, [], bytes_eq, filter_map, find, if◌then◌else◌, Option, None, option_and_then, option_map, String, string_bytes}
 use Rattle.std.specs.List.{enumerate_from, list_any}
 use Rattle.std.specs.Option.{option_or}
@@ -9,10 +9,12 @@ use Rattle.site_files.specs.Kinds.{is_home, last_name}
 use Rattle.site_files.specs.Links.{own_in}
 use Rattle.site_files.specs.Pages.{Page, Response, Missing, Moved, Found, fallback_at, folder_of, folder_page, found_file, is_text_of, own_spelling, path_in, query_in, response_in}
 use Rattle.site_files.specs.Server.{Host, Server, names_of, plain_url}
+use Rattle.site_files.specs.Skipped.{outside_in, outside_on}
 use Rattle.site_files.specs.declared.files.SiteFiles.{SiteFiles}
 use Rattle.site_files.specs.declared.hint.Hint.{Hint}
-use Rattle.site_files.specs.declared.hint.Hint.TheVariants.{HtmlFallback, IndexFile}
+use Rattle.site_files.specs.declared.hint.Hint.TheVariants.{HtmlFallback, IndexFile, LeadsNowhere, LeadsOut}
 use Rattle.site_files.specs.declared.page_table.Entry.{Entry}
+use Rattle.site_files.specs.declared.skipped.SkippedLink.{SkippedLink}
 
 -- ---- the pages of folders under other rules
 
@@ -60,14 +62,27 @@ is_missing Missing = true
 is_missing (Moved url) = false
 is_missing (Found file) = false
 
--- the same, if this URL has no page
-abbrev pub missing_hint : (at homes : List ℕ → Response) → Host → List ℕ → Option Hint
-missing_hint at homes host url = if is_missing (at url) then other_hint at homes host url else None
+-- a symbolic link that leads out of the folder, or else to nothing
+abbrev pub hint_of_link : Bool → Hint
+hint_of_link true = LeadsOut
+hint_of_link false = LeadsNowhere
 
--- the hint for the URL of a path and a query, which are looked up
+-- the first symbolic link on the path of this URL that is not followed
+abbrev pub link_hint : List SkippedLink → List ℕ → Option Hint
+link_hint skipped url = option_map hint_of_link (outside_on (outside_in skipped) [] (names_of url))
+
+-- the hint for this URL, which has no page: such a link, or else what is found by other rules
+abbrev pub missing_hint : (at homes : List ℕ → Response) → List SkippedLink → Host → List ℕ → Option Hint
+missing_hint at homes skipped host url = option_or (link_hint skipped url) (other_hint at homes host url)
+
+-- the hint for the URL of a path and a query, which are looked up, if there is no page
+abbrev pub hint_with : SiteFiles → List ℕ → Option Hint
+hint_with files url =
+    if is_missing (entry_at files.pages url) then missing_hint (entry_at files.pages) (entry_at files.homes) files.skipped (server_of files).host url
+    else None
+
 abbrev pub hint_for : SiteFiles → List ℕ → Option Hint
-hint_for files plain =
-    missing_hint (entry_at files.pages) (entry_at files.homes) (server_of files).host (own_spelling (own_in files.linked) [] (names_of plain))
+hint_for files plain = hint_with files (own_spelling (own_in files.linked) [] (names_of plain))
 
 -- the hint for a URL. A site list has none
 abbrev pub hint_at : SiteFiles → List ℕ → Option Hint

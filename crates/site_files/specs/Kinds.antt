@@ -7,6 +7,7 @@ use Rattle.url.specs.Input.{rsplit_once}
 use Rattle.site_files.specs.Server.{before_query}
 use Rattle.site_files.specs.declared.kinds.FileKind.{FileKind}
 use Rattle.site_files.specs.declared.kinds.FileKind.TheVariants.{Html, Xml, Svg, Style, Feed, UrlList, Unknown}
+use Rattle.site_files.specs.declared.rules.Rules.{Rules}
 use Rattle.site_files.specs.declared.kinds.TheConstants.{OTHERS}
 
 abbrev pub is_dot : ℕ → Bool
@@ -117,15 +118,6 @@ is_page Feed = false
 is_page UrlList = false
 is_page Unknown = false
 
-abbrev pub is_style : FileKind → Bool
-is_style Html = false
-is_style Xml = false
-is_style Svg = false
-is_style Style = true
-is_style Feed = false
-is_style UrlList = false
-is_style Unknown = false
-
 -- can be a sitemap or a feed
 abbrev pub is_feed_kind : FileKind → Bool
 is_feed_kind Html = false
@@ -145,9 +137,18 @@ is_unknown Feed = false
 is_unknown UrlList = false
 is_unknown Unknown = true
 
--- the kind, if files of it are read; style sheets only if the rules say so
-abbrev pub if_read : Bool → FileKind → Option FileKind
-if_read styles kind = if is_style kind && not styles then None else Some kind
+-- files of this kind are read: style sheets and files of unknown kind only if the rules say so
+abbrev pub is_read : Rules → FileKind → Bool
+is_read rules Html = true
+is_read rules Xml = true
+is_read rules Svg = true
+is_read rules Style = rules.styles
+is_read rules Feed = true
+is_read rules UrlList = true
+is_read rules Unknown = rules.sniff
+
+abbrev pub if_read : Rules → FileKind → Option FileKind
+if_read rules kind = if is_read rules kind then Some kind else None
 
 -- ---- the starts of a check
 

@@ -13,5 +13,6 @@ pub mod Pages
 pub mod Server
 pub mod Serving
 pub mod SiteList
+pub mod Skipped
 pub mod Urls
 pub mod Vectors

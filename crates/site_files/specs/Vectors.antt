@@ -1,11 +1,12 @@
 -- Requests, and what a server returns by the definitions. Most of those in `Requests` and `Responses` were made to nginx and to Python's
 -- `http.server`, which looked up and returned the same.
-use Rattle.std.specs.Prelude.{◌≡◌, ℕ, false, true, List, [], ◌∷◌, codes, Option, Some, None}
+use Rattle.std.specs.Prelude.{◌≡◌, ℕ, Bool, false, true, List, [], ◌∷◌, codes, Option, Some, None}
 use Rattle.percent_encoding.specs.Percent.{percent_decode}
 use Rattle.site_files.specs.Hints.{home_page}
 use Rattle.site_files.specs.Kinds.{kind_of, starts_at}
 use Rattle.site_files.specs.Pages.{Folder, Response, Missing, Moved, Found, own_text, page, response_at}
-use Rattle.site_files.specs.Server.{Host, Server, looked_up}
+use Rattle.site_files.specs.Server.{Host, Server, looked_up, names_of}
+use Rattle.site_files.specs.Skipped.{LinkAt, outside_at, outside_on}
 use Rattle.site_files.specs.declared.kinds.FileKind.TheVariants.{Html, Xml, Svg, Style, Feed, UrlList, Unknown}
 
 -- the path that is looked up for the path of a request, which comes without its first slash
@@ -181,3 +182,22 @@ pub record Homes : Type 0 where
   pub folder : home_page (server host) 0 (codes "index.d/") ≡ None
   pub other : home_page (server host) 0 (codes "a/page.html") ≡ None
   pub query : home_page queries 2 (codes "index.php?a=1") ≡ Some (page (codes "http://h/?a=1") (Found 2))
+
+-- ---- symbolic links that are not followed
+
+-- a folder that leads out, and a link to nothing
+abbrev pub skipped : List LinkAt
+skipped = record { url = codes "http://h/d/ext"; is_outside = true } ∷ record { url = codes "http://h/gone.js"; is_outside = false } ∷ []
+
+abbrev pub outside : List ℕ → Option Bool
+outside url = outside_on (outside_at skipped) [] (names_of url)
+
+-- the first link on the path of a URL
+pub record Links : Type 0 where
+  pub link : outside (codes "http://h/gone.js") ≡ Some false
+  pub folder : outside (codes "http://h/d/ext/") ≡ Some true
+  pub folder_alone : outside (codes "http://h/d/ext") ≡ Some true
+  pub inside : outside (codes "http://h/d/ext/sub/a.html") ≡ Some true
+  pub longer_name : outside (codes "http://h/d/extra/a.html") ≡ None
+  pub folder_above : outside (codes "http://h/d/") ≡ None
+  pub other_folder : outside (codes "http://h/e/ext/a.html") ≡ None

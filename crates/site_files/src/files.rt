@@ -4,12 +4,13 @@ ghost use Rattle.site_files.specs.Below.{IsTop};
 ghost use Rattle.site_files.specs.Files.{IsOfFiles};
 ghost use Rattle.site_files.specs.Entries.{Finds, IsTable, entry_at, texts};
 ghost use Rattle.site_files.specs.Hints.{HasHomes};
-ghost use Rattle.site_files.specs.Kinds.{is_page, is_style};
+ghost use Rattle.site_files.specs.Kinds.{is_page, is_read};
 ghost use Rattle.site_files.specs.Links.{IsLinked};
 ghost use Rattle.site_files.specs.Files.{IsOfNames, document_at, document_of, file_kind, has_file, kind_at, line_kind, moved_to, name_at, named_kind, page_file, page_of, pages_of, server_of, site_file, target_in, url_of};
 ghost use Rattle.site_files.specs.Own.{HaveOwn, number_in, own_of, own_url_at};
 ghost use Rattle.site_files.specs.Pages.{found_file};
 ghost use Rattle.site_files.specs.Serving.{Serves, folder_with};
+ghost use Rattle.site_files.specs.Skipped.{AreSkipped};
 
 use crate::alias::{FolderLink, LinkedFolders};
 use crate::error::SiteError;
@@ -21,6 +22,7 @@ use crate::pages::ends_in_slash;
 use crate::rules::{Rules, split_name};
 use crate::site::Site;
 use crate::site_list::ListedUrl;
+use crate::skipped::{SkippedLink, SkippedLinks};
 use crawl_keys::CanonUrl;
 use std::alloc::{AllocError, Global};
 
@@ -30,6 +32,8 @@ pub struct SiteNames<'a> {
     pub names: &'a [String],
     /// The folders among them that are listed by another name.
     pub links: &'a [FolderLink],
+    /// The symbolic links that are not among them, because they lead out of the folder or to nothing.
+    pub skipped: &'a [SkippedLink],
     pub base: &'a str,
     pub rules: &'a Rules,
 }
@@ -63,6 +67,8 @@ pub struct SiteFiles<'a> {
     pub(crate) own: Vec<Option<usize>>,
     /// The folders to which symbolic links lead.
     pub(crate) linked: LinkedFolders,
+    /// The symbolic links that are not followed.
+    pub(crate) skipped: SkippedLinks,
     pub(crate) names: &'a [String],
     pub(crate) rules: &'a Rules,
     /// What the list of the site has, by the indices of names, if there is a list.
@@ -86,12 +92,14 @@ impl<'a> SiteFiles<'a> {
         ensures table { IfOk result (λ files. IsTable (server_of files) (texts input.entry.names.now) files.pages) }
         ensures own { IfOk result (λ files. HaveOwn (server_of files) (texts input.entry.names.now) files.pages files.own.items) }
         ensures links { IfOk result (λ files. IsLinked (string_bytes files.site.top) input.entry.links.now files.linked) }
+        ensures skipped { IfOk result (λ files. AreSkipped (string_bytes files.site.top) input.entry.skipped.now files.skipped) }
         ensures server { IfOk result (λ files. Serves (server_of files) (folder_with input.entry.names.now input.entry.links.now) files.pages files.linked) }
         ensures homes { IfOk result (λ files. HasHomes (server_of files) (texts input.entry.names.now) files.homes) }
     {
         let SiteNames {
             names,
             links,
+            skipped,
             base,
             rules,
         } = input;
@@ -103,6 +111,7 @@ impl<'a> SiteFiles<'a> {
         let pages = site.table(names, rules, &mut notes)?;
         let own = own_numbers(&site, &pages, names, rules)?;
         let linked = site.linked_folders(links)?;
+        let skipped = site.skipped_links(skipped)?;
         let homes = site.homes(names, rules)?;
         Ok(SiteFiles {
             site,
@@ -110,6 +119,7 @@ impl<'a> SiteFiles<'a> {
             homes,
             own,
             linked,
+            skipped,
             names,
             rules,
             listed: None,
@@ -204,7 +214,8 @@ impl<'a> SiteFiles<'a> {
         }
     }
 
-    /// The file of the page with this number, if it has one that can have links. Without `Rules.styles`, a style sheet has none.
+    /// The file of the page with this number, if it has one that can have links. Without `Rules.styles`, a style sheet has none, and
+    /// without `Rules.sniff`, neither has a file of unknown kind.
     pub fn document(&self, number: usize) -> Option<SiteFile<'a>>
         ensures { option_map (λ file. site_file file.index file.kind file.name.now) result ≡ document_at self.now number }
     {
@@ -228,10 +239,10 @@ impl<'a> SiteFiles<'a> {
         ensures { result ≡ kind_at self.now index name.now }
     {
         let kind = self.file_kind(index, name)?;
-        if is_style(kind) && !self.rules.styles {
-            None
-        } else {
+        if is_read(self.rules, kind) {
             Some(kind)
+        } else {
+            None
         }
     }
 
@@ -325,11 +336,15 @@ fn has_file(names: &[String]) -> bool
     names.iter().any(|name| !ends_in_slash(name.as_bytes()))
 }
 
-/// Whether the file is a style sheet.
-fn is_style(kind: FileKind) -> bool
-    ensures { result ≡ is_style kind }
+/// Whether files of this kind are read.
+fn is_read(rules: &Rules, kind: FileKind) -> bool
+    ensures { result ≡ is_read rules.now kind }
 {
-    matches!(kind, FileKind::Style)
+    match kind {
+        FileKind::Style => rules.styles,
+        FileKind::Unknown => rules.sniff,
+        _ => true,
+    }
 }
 
 /// Returns the URL of a page and the index of its file among the names. A page that is a redirect has no file.

@@ -175,7 +175,7 @@ impl<R: Files> DiskFolders<'_, R> {
             Ok(found) if found.is_dir() => self.add_linked_folder(path, name, inside),
             Ok(found) if found.is_file() => self.add_linked_file(path, name, inside),
             Ok(_) => inside.note(Left::NoFile, name),
-            Err(error) => inside.note_error(&error, left_by(&error), name),
+            Err(error) => inside.note_error(&error, left_by_link(&error), name),
         }
     }
 
@@ -285,6 +285,17 @@ fn left_by(error: &io::Error) -> Left {
     match error.kind() {
         ErrorKind::PermissionDenied => Left::Unread,
         _ => Left::NoFile,
+    }
+}
+
+/// Why a symbolic link is left out if the system does not say what it leads to. It leads to nothing if its target is not there, if a file
+/// is in the place of a folder, or if it leads back to itself.
+fn left_by_link(error: &io::Error) -> Left {
+    match error.kind() {
+        ErrorKind::NotFound | ErrorKind::NotADirectory | ErrorKind::FilesystemLoop => {
+            Left::LeadsNowhere
+        }
+        _ => left_by(error),
     }
 }
 

@@ -1,7 +1,7 @@
-//! What a server with other rules returns for a URL without a page.
+//! Why a URL has no page: a symbolic link that is not followed, or a rule that another server has.
 ghost use Rattle.std.specs.Prelude.{◌≡◌, IfOk, not, option_map};
 ghost use Rattle.site_files.specs.Entries.{entry_at, host_of};
-ghost use Rattle.site_files.specs.Hints.{hint_at, hint_for, html_hint, is_missing, other_hint, with_fallback};
+ghost use Rattle.site_files.specs.Hints.{hint_at, hint_for, hint_of_link, html_hint, is_missing, missing_hint, other_hint, with_fallback};
 ghost use Rattle.site_files.specs.Pages.{fallback_at, found_file};
 ghost use Rattle.site_files.specs.declared.hint.Hint.TheVariants.{IndexFile};
 
@@ -10,18 +10,22 @@ use crate::pages::ends_in_slash;
 use crate::spellings::{before_query, with_html};
 use std::alloc::{AllocError, Global};
 
-/// What a server with other rules returns for a URL without a page: the file with this index among the names.
+/// Why a URL has no page. A number is the index of a file among the names, which a server with another rule returns for the URL.
 #[derive(Clone, Copy, Debug, PartialEq, Eq)]
 pub enum Hint {
-    /// It is found with `Rules.html_fallback`.
+    /// The file is found with `Rules.html_fallback`.
     HtmlFallback(usize),
-    /// It is found if `Rules.index_files` has the last name on its path.
+    /// The file is found if `Rules.index_files` has the last name on its path.
     IndexFile(usize),
+    /// A symbolic link on the path of the URL leads out of the folder.
+    LeadsOut,
+    /// A symbolic link on the path of the URL leads to nothing.
+    LeadsNowhere,
 }
 
 impl SiteFiles<'_> {
-    /// What a server with other rules returns for a URL of the site, or `None` if there is a page by the rules of the site, or if the
-    /// site has a list.
+    /// Why a URL of the site has no page: the first symbolic link on its path that is not followed, or else what a server with other
+    /// rules returns. `None` if there is a page by the rules of the site, or if the site has a list.
     ///
     /// # Errors
     /// Out of memory.
@@ -45,7 +49,17 @@ impl SiteFiles<'_> {
         if self.has_page(own.as_str()) {
             return Ok(None);
         }
-        self.other_hint(alloc, own.as_str())
+        self.missing_hint(alloc, own.as_str())
+    }
+
+    /// The hint for this URL, which has no page.
+    fn missing_hint(&self, alloc: Global, url: &str) -> Result<Option<Hint>, AllocError>
+        ensures { IfOk result (λ hint. hint ≡ missing_hint (entry_at self.now.pages) (entry_at self.now.homes) self.now.skipped (host_of self.now.rules.now) url.now) }
+    {
+        match self.skipped.is_outside_on(alloc, url)? {
+            Some(is_outside) => Ok(Some(hint_of_link(is_outside))),
+            None => self.other_hint(alloc, url),
+        }
     }
 
     /// The file that is found for this URL by other rules.
@@ -97,5 +111,16 @@ impl SiteFiles<'_> {
         ensures { result ≡ not (is_missing (entry_at self.now.pages url.now)) }
     {
         self.find(url).is_some()
+    }
+}
+
+/// The hint for a URL with such a symbolic link on its path.
+fn hint_of_link(is_outside: bool) -> Hint
+    ensures { result ≡ hint_of_link is_outside }
+{
+    if is_outside {
+        Hint::LeadsOut
+    } else {
+        Hint::LeadsNowhere
     }
 }

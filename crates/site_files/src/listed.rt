@@ -45,12 +45,14 @@ impl<'a> SiteFiles<'a> {
         let mut notes = Vec::new(alloc);
         let pages = site.listed(urls, names, &mut notes)?;
         let linked = site.linked_folders(&[])?;
+        let skipped = site.skipped_links(&[])?;
         Ok(SiteFiles {
             site,
             pages,
             homes: PageTable::empty(alloc),
             own: Vec::new(alloc),
             linked,
+            skipped,
             names,
             rules,
             listed: Some(urls),

@@ -8,12 +8,14 @@ use std::fmt;
 pub enum Left {
     /// The name is not UTF-8.
     NotUtf8,
-    /// It is neither a file nor a folder, or a symbolic link to nothing.
+    /// It is neither a file nor a folder.
     NoFile,
     /// The system refused to say what it is.
     Unread,
     /// It is a symbolic link that leads out of the folder.
     LeadsOut,
+    /// It is a symbolic link to nothing.
+    LeadsNowhere,
     /// The folder cannot be read.
     FolderUnread,
     /// The file cannot be read, so its links are skipped.
@@ -53,6 +55,7 @@ impl fmt::Display for Left {
             Left::LeadsOut => {
                 "skipped, a symbolic link that leads out of the folder (--follow follows it)"
             }
+            Left::LeadsNowhere => "skipped, a symbolic link to nothing",
             Left::FolderUnread => "folder skipped, it cannot be read",
             Left::FileUnread => "links skipped, the file cannot be read",
             Left::LongFile => "links skipped, the file has more than 1 GiB",

@@ -19,6 +19,8 @@ pub struct Rules {
     pub places: bool,
     /// Whether the links of style sheets, and those of styles in documents, are read.
     pub styles: bool,
+    /// Whether a file of unknown kind is an HTML document if it begins like one.
+    pub sniff: bool,
     /// Whether an absolute path is below the folder, as in a check without BASE.
     pub rooted: bool,
     /// Whether symbolic links that lead out of the folder are followed.

@@ -8,11 +8,13 @@ ghost use Rattle.site_files.specs.Files.{IsOfUrl};
 ghost use Rattle.site_files.specs.Links.{IsLinked, names_in, urls_in};
 ghost use Rattle.site_files.specs.Pages.{link_urls};
 ghost use Rattle.site_files.specs.Server.{key_with, url_of};
+ghost use Rattle.site_files.specs.Skipped.{AreSkipped, link_below, link_held};
 
 use crate::alias::{FolderLink, LinkedFolders};
 use crate::below::is_slashed;
 use crate::error::SiteError;
 use crate::escapes::{push_name, push_query, push_respelled};
+use crate::skipped::{SkippedLink, SkippedLinks};
 use crawl_keys::{CanonUrl, KeyError, canonical};
 use std::alloc::{AllocError, Global};
 
@@ -73,6 +75,35 @@ impl Site {
             urls.push(FolderLink { name, own })?;
         }
         Ok(urls)
+    }
+
+    /// The table of symbolic links that are not followed, by their URLs.
+    pub(crate) fn skipped_links(&self, links: &[SkippedLink]) -> Result<SkippedLinks, AllocError>
+        ensures { IfOk result (AreSkipped (string_bytes self.now.top) links.now) }
+    {
+        SkippedLinks::new(self.skipped_urls(links)?)
+    }
+
+    /// Such links with their URLs in place of their names.
+    fn skipped_urls(&self, links: &[SkippedLink]) -> Result<Vec<SkippedLink>, AllocError>
+        ensures { IfOk result (λ urls. map link_held urls.items ≡ map (link_below (string_bytes self.now.top)) links.now) }
+    {
+        let mut urls = Vec::new(*self.top.allocator());
+        'links: for link in links {
+            urls.push(self.skipped_url(link)?)?;
+        }
+        Ok(urls)
+    }
+
+    /// Such a link with its URL in place of its name.
+    fn skipped_url(&self, link: &SkippedLink) -> Result<SkippedLink, AllocError>
+        ensures { IfOk result (λ url. link_held url ≡ link_below (string_bytes self.now.top) link.now) }
+    {
+        let name = self.url_of(link.name.as_bytes(), None)?;
+        Ok(SkippedLink {
+            name,
+            is_outside: link.is_outside,
+        })
     }
 }
 

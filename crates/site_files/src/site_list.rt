@@ -1,9 +1,9 @@
 //! Site lists: the URLs of a site, one per line, each with its file or the target of its redirect.
-ghost use Rattle.std.specs.Prelude.{◌≡◌, IfOk, string_bytes, option_map};
+ghost use Rattle.std.specs.Prelude.{◌≡◌, IfOk, Some, string_bytes, option_map};
 ghost use Rattle.std.specs.Str.Lines.{lines};
 ghost use Rattle.crawl_keys.specs.CanonicalText.{canonical};
 ghost use Rattle.crawl_keys.specs.Outcome.{Gives};
-ghost use Rattle.site_files.specs.SiteList.{checked, columns_in, content_of, fault_of, fields, fields_in, is_bad_file, is_bad_name, is_path, kind_in, line_fault, list_in, row, row_in, url_in};
+ghost use Rattle.site_files.specs.SiteList.{checked, columns_in, content_of, fault_of, fields, fields_in, is_bad_file, is_bad_name, is_path, kind_in, line_fault, list_in, row, row_in, row_of, url_fault, url_in};
 ghost use Rattle.site_files.specs.declared.site_list.ListError.TheVariants as wrong;
 
 use crate::kinds::{FileKind, kind_of_type};
@@ -132,19 +132,25 @@ fn row_of(alloc: Global, number: u64, line: &[u8]) -> Result<Option<ListRow>, Li
     if text.is_empty() {
         return Ok(None);
     }
-    let Some(found) = fields_in(text) else {
-        return Err(ListError::BadLine(number));
-    };
-    let url = url_of(alloc, number, found.url)?;
-    if is_bad_file(found.content, found.name) {
+    match fields_in(text) {
+        Some(found) => Ok(Some(row_with(alloc, number, found)?)),
+        None => Err(ListError::BadLine(number)),
+    }
+}
+
+/// The line with this number, which has these fields.
+fn row_with(alloc: Global, number: u64, found: Fields<'_>) -> Result<ListRow, ListError>
+    ensures checks { Gives ListError.NoMemory (λ _. tt) result (checked (url_fault number (fields found.entry.url.now found.entry.name.now found.entry.content) (canonical found.entry.url.now))) }
+    ensures row { IfOk result (λ r. Some (row r.listed.content (string_bytes r.name) r.listed.url) ≡ row_of (fields found.entry.url.now found.entry.name.now found.entry.content)) }
+{
+    let Fields { url, content, name } = found;
+    let url = url_of(alloc, number, url)?;
+    if is_bad_file(content, name) {
         return Err(ListError::BadFile(number));
     }
-    let listed = ListedUrl {
-        url,
-        content: found.content,
-    };
-    let name = String::from_str(alloc, found.name)?;
-    Ok(Some(ListRow { listed, name }))
+    let name = String::from_str(alloc, name)?;
+    let listed = ListedUrl { url, content };
+    Ok(ListRow { listed, name })
 }
 
 /// The canonical URL of the first field of the line with this number.

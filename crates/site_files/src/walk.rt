@@ -2,8 +2,9 @@
 use crate::alias::FolderLink;
 use crate::error::SiteError;
 use crate::folder::{DiskFolders, Folder, Inside};
-use crate::notes::Note;
+use crate::notes::{Left, Note};
 use crate::rules::Rules;
+use crate::skipped::SkippedLink;
 use std::alloc::{AllocError, Global};
 use std::collections::BTreeMap;
 use std::io::ErrorKind;
@@ -25,6 +26,8 @@ pub struct FolderNames {
     pub names: Vec<String>,
     /// The folders among them that are listed by another name.
     pub links: Vec<FolderLink>,
+    /// The symbolic links that are not followed, because they lead out of the folder or to nothing.
+    pub skipped: Vec<SkippedLink>,
     /// Notes about what was skipped, in the order of the names.
     pub notes: Vec<Note>,
 }
@@ -216,7 +219,7 @@ impl Walk {
         Ok(())
     }
 
-    /// The names and notes in order.
+    /// The names and notes in order, and the symbolic links that the notes are about.
     fn into_names(self) -> Result<FolderNames, AllocError> {
         let Walk {
             mut names,
@@ -226,10 +229,26 @@ impl Walk {
         } = self;
         names.sort()?;
         notes.sort_by(|a: &Note, b: &Note| a.place.as_str().cmp(b.place.as_str()))?;
+        let skipped = skipped_links(*notes.allocator(), notes.as_slice())?;
         Ok(FolderNames {
             names,
             links,
+            skipped,
             notes,
         })
     }
+}
+
+/// The symbolic links that these notes are about.
+fn skipped_links(alloc: Global, notes: &[Note]) -> Result<Vec<SkippedLink>, AllocError> {
+    let mut skipped = Vec::new(alloc);
+    for note in notes {
+        let is_outside = matches!(note.left, Left::LeadsOut);
+        if is_outside || matches!(note.left, Left::LeadsNowhere) {
+            let place = note.place.as_str();
+            let name = String::from_str(alloc, place.strip_suffix("/").unwrap_or(place))?;
+            skipped.push(SkippedLink { name, is_outside })?;
+        }
+    }
+    Ok(skipped)
 }

@@ -168,6 +168,7 @@ pub fn site_options(
         queries: values.flag("queries"),
         follow: values.flag("follow"),
         styles: !values.flag("no-styles"),
+        sniff: host.is_none(),
     })
 }
 

@@ -42,6 +42,7 @@ impl OneFile {
             anchors: true,
             places: true,
             styles: false,
+            sniff: true,
             rooted: false,
             threads: 2,
         };
@@ -57,6 +58,7 @@ fn has_web<R: Threads + Sync>(rt: &R, alloc: Global, site: &OneFile) -> bool {
     let input = SiteNames {
         names: site.names.as_slice(),
         links: &[],
+        skipped: &[],
         base: BASE,
         rules: &site.rules,
     };

@@ -84,7 +84,7 @@ impl<K: SiteName> Linker<K> {
         ensures { IfOk result (λ linker. linker ≡ (self.0, with_found self.0 self.1 (found_of page.now))) }
     {
         // For the proof: the page fits in lines.
-        page.stands();
+        page.fits_lines();
         let base = Base::new(self.alloc, page.url())?;
         let Linker {
             alloc,

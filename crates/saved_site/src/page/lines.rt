@@ -33,11 +33,11 @@ impl SitePage {
     }
 
     /// For the proof: the URL and all texts fit in lines.
-    pub(crate) fn stands(&self)
+    pub(crate) fn fits_lines(&self)
         ensures { IsPage self.now }
     {
         let _ = self.url.as_str();
-        self.under.stands();
+        self.under.fits_lines();
     }
 
     /// The number of bytes of the lines, as far as it can be counted.
@@ -76,7 +76,7 @@ impl Under {
     }
 
     /// For the proof: all texts fit in lines. It does nothing else.
-    fn stands(&self)
+    fn fits_lines(&self)
         ensures { fits_under self.now ≡ true }
     {
         match self {
