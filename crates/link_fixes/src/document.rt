@@ -59,9 +59,22 @@ pub fn fix_document(
     ensures { IfOk result (λ fix. IfSome fix.new (λ new. IsFixed input.entry body.now new.items)) }
 {
     let base = Base::new(alloc, input.url)?;
+    fix_on(alloc, body, input, &base)
+}
+
+/// Rewrites the links of a document on the page with this base.
+fn fix_on(
+    alloc: Global,
+    body: &[u8],
+    input: FixInput<'_>,
+    base: &Base,
+) -> Result<DocumentFix, AllocError>
+    requires { base.now ≡ input.url.now }
+    ensures { IfOk result (λ fix. IfSome fix.new (λ new. IsFixed input.entry body.now new.items)) }
+{
     let mut room = RawLinks::new(alloc);
     let old = read_document(alloc, body, input.url, input.options, &mut room)?;
-    fix_links(alloc, body, input, &base, &old, &mut room)
+    fix_links(alloc, body, input, base, &old, &mut room)
 }
 
 /// Rewrites the links of a document that has these links.
@@ -119,11 +132,25 @@ fn left_in(
     ensures { IfOk result (λ left. IfSome left (λ _. (news : List (List ℕ)) × HasLinkTexts input.entry.options new.now news × (all_lead_on input.entry.url.now input.entry.moves.now old.now.links news ≡ true))) }
 {
     let after = read_document(alloc, new, input.url, input.options, room)?;
+    left_of(alloc, input, base, old, &after)
+}
+
+/// The same for a new document that was read.
+fn left_of(
+    alloc: Global,
+    input: FixInput<'_>,
+    base: &Base,
+    old: &Document,
+    after: &Document,
+) -> Result<Option<usize>, AllocError>
+    requires { base.now ≡ input.url.now }
+    ensures { IfOk result (λ left. IfSome left (λ _. all_lead_on input.entry.url.now input.entry.moves.now old.now.links after.now.links ≡ true)) }
+{
     if !all_lead_on(alloc, base, input.moves, &old.links, &after.links)? {
         return Ok(None);
     }
-    let left = leads_in(alloc, base, &after, input.moves)?;
-    Ok(Some(left.len()))
+    let leads = leads_in(alloc, base, after, input.moves)?;
+    Ok(Some(leads.len()))
 }
 
 /// The links of a document for which there is a move.
@@ -172,8 +199,7 @@ fn edits_of(
     if leads.is_empty() || !is_text(body) {
         return Ok(edits);
     }
-    let indices = indices_of(alloc, leads)?;
-    let places = text_places(alloc, body, kind_of(input.options), indices.as_slice())?;
+    let places = places_of(alloc, body, input.options, leads)?;
     let page = LinkPage {
         base,
         root: input.options.root,
@@ -183,6 +209,17 @@ fn edits_of(
     }
     in_order(&mut edits)?;
     Ok(edits)
+}
+
+/// The locations of these links.
+fn places_of(
+    alloc: Global,
+    body: &[u8],
+    options: ReadOptions<'_>,
+    leads: &[Lead<'_>],
+) -> Result<Vec<TextPlace>, AllocError> {
+    let indices = indices_of(alloc, leads)?;
+    text_places(alloc, body, kind_of(options), indices.as_slice())
 }
 
 /// Sorts edits by position, and leaves out each that begins before the end of another.

@@ -13,4 +13,4 @@ mod relative;
 pub use diff::push_diff;
 pub use document::{DocumentFix, FixInput, fix_document};
 pub use edits::{Edit, fixed};
-pub use moves::Move;
+pub use moves::{Move, adds_slash};

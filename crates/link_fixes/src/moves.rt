@@ -11,6 +11,24 @@ pub struct Move {
     pub to: CanonUrl,
 }
 
+/// Whether a URL is another one with a slash at the end of its path, as that of a folder is.
+pub fn adds_slash(from: &CanonUrl, to: &CanonUrl) -> bool {
+    let from = from.as_str();
+    let path = path_in_url(from);
+    match to.as_str().strip_prefix(path) {
+        Some(rest) => rest.strip_prefix("/") == from.strip_prefix(path),
+        None => false,
+    }
+}
+
+/// A URL without its query.
+pub(crate) fn path_in_url(url: &str) -> &str {
+    match url.split_once('?') {
+        Some((path, _)) => path,
+        None => url,
+    }
+}
+
 /// Whether one of the moves is from a URL to another.
 pub(crate) fn moves_to(moves: &[Move], from: &CanonUrl, to: &CanonUrl) -> bool
     ensures { result ≡ moves_to moves.now from.now to.now }

@@ -3,7 +3,7 @@ ghost use Rattle.std.specs.Prelude.{◌≡◌, ◌≤◌, ◌++◌, ◌∷◌, [
 ghost use Rattle.std.specs.List.{list_all, prefix_len};
 ghost use Rattle.link_fixes.specs.NewLinks.{IsNewLink, is_path, is_plain, path_of, tail_of};
 
-use crate::moves::Move;
+use crate::moves::{Move, adds_slash, path_in_url};
 use crate::relative::relative;
 use crawl_keys::Base;
 use memchr::memchr_iter;
@@ -45,17 +45,17 @@ pub(crate) fn new_link(
     if path.is_empty() {
         return Ok(None);
     }
-    if adds_slash(step) {
+    if adds_slash(&step.from, &step.to) {
         return with_slash(alloc, path, tail);
     }
     let Some(new) = new_path(alloc, page, form_of(path), step)? else {
         return Ok(None);
     };
-    if !leads_right(alloc, page, written, new.as_slice(), step)? {
-        return Ok(None);
-    }
     let mut link = new;
     link.extend_from_slice(tail)?;
+    if !leads_right(alloc, page, written, link.as_slice(), step)? {
+        return Ok(None);
+    }
     Ok(Some(link))
 }
 
@@ -80,11 +80,6 @@ fn is_path(byte: u8) -> bool
     ensures { result ≡ is_path byte }
 {
     !(byte == b'?' || byte == b'#')
-}
-
-/// Whether the new URL is the old one with a slash at its end, as that of a folder.
-fn adds_slash(step: &Move) -> bool {
-    step.to.as_str().strip_suffix("/") == Some(step.from.as_str())
 }
 
 /// The path with a slash at its end, and what comes after it.
@@ -140,7 +135,7 @@ fn new_path(
 ) -> Result<Option<Vec<u8>>, AllocError>
     ensures { IfOk result (λ path. IfSome path (λ text. list_all is_plain text.items ≡ true)) }
 {
-    let path = path_to(alloc, page, form, step.to.as_str())?;
+    let path = path_to(alloc, page, form, path_in_url(step.to.as_str()))?;
     if are_plain(path.as_slice()) {
         Ok(Some(path))
     } else {
@@ -148,7 +143,7 @@ fn new_path(
     }
 }
 
-/// The path to a URL of the site, in this form.
+/// The path to a URL of the site, which has no query, in this form.
 fn path_to(alloc: Global, page: LinkPage<'_>, form: Form, to: &str) -> Result<Vec<u8>, AllocError> {
     match form {
         Form::Url => to.as_bytes().to_vec(alloc),
@@ -215,7 +210,7 @@ fn is_plain(byte: u8) -> bool
     is_visible && !is_special
 }
 
-/// Whether a link leads from its page to the old URL, and the new path to the new one. A link that begins with a slash or a scheme is not
+/// Whether a link leads from its page to the old URL, and the new link to the new one. A link that begins with a slash or a scheme is not
 /// tested, as it leads to the same URL from all pages of the site.
 fn leads_right(
     alloc: Global,
