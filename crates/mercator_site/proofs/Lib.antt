@@ -3,4 +3,5 @@ mod FolderMaps
 mod OwnPages
 mod Runs
 mod Served
+mod Starts
 mod TopCrawls

@@ -3,7 +3,7 @@ use Rattle.std.specs.Prelude.{ℕ, Bool, List, map, string_bytes}
 use Rattle.mercator_site.specs.Seeds.{seed_link}
 use Rattle.mercator_site.specs.declared.options.CheckOptions.{CheckOptions}
 use Rattle.mercator_site.specs.declared.options.ReportOptions.{ReportOptions}
-use Rattle.mercator_site.specs.declared.check.CheckSettings.{CheckSettings}
+use Rattle.mercator_site.specs.declared.settings.CheckSettings.{CheckSettings}
 use Rattle.mercator_site.specs.declared.mapped.MappedFolder.{MappedFolder}
 
 pub record Asks : Type 0 where

@@ -21,13 +21,11 @@ front_of options top = if options.paths then top else []
 -- some files. It says nothing about which files the folder and the folders of the maps have, except that the pages are below the top of
 -- BASE, and those of a map below its prefix
 pub record IsCheckOf (options : CheckOptions) (maps : List FolderMap) (entries : List (List ℕ)) (broken : Bool) (text : List ℕ) : Type 0 where
-  pub top : List ℕ
-  pub is_top : IsTop (string_bytes options.site.base) top
   pub files : SiteFiles
-  pub files_top : string_bytes files.site.top ≡ top
+  pub is_top : IsTop (string_bytes options.site.base) (string_bytes files.site.top)
   pub folders : List MappedFolder
   pub are_mapped : AreMapped maps folders
-  pub site : IsSiteCheck files IsAny (name_of options top) top (asks_of options (front_of options top) entries folders) broken text
+  pub site : IsSiteCheck files IsAny (name_of options (string_bytes files.site.top)) (asks_of options (front_of options (string_bytes files.site.top)) entries folders) broken text
 
 -- with the maps of the options, and an ignore list of these bytes
 abbrev pub IsFolderCheck : CheckOptions → List ℕ → Bool → List ℕ → Type 0

@@ -1,18 +1,18 @@
 -- The errors of a check of a folder, and of its saved web.
-use Rattle.std.specs.Prelude.{◌≡◌, ℕ, Bool, true, false, List, Ok}
+use Rattle.std.specs.Prelude.{◌≡◌, ℕ, Bool, true, false, List, string_bytes}
 use Rattle.std.specs.Str.Lines.{lines}
-use Rattle.crawl_keys.specs.CanonicalText.{canonical}
 use Rattle.crawl_run.specs.Crawls.{CrawlFails, is_incomplete}
 use Rattle.crawl_run.specs.declared.error.CrawlError.{CrawlError}
 use Rattle.crawl_run.specs.declared.error.CrawlError.TheVariants as crawl
 use Rattle.crawl_run.specs.declared.failure.CrawlFailure.{CrawlFailure}
 use Rattle.saved_pages.specs.WebFaults.{IsSound}
 use Rattle.mercator_site.specs.Asks.{seeds_of}
-use Rattle.mercator_site.specs.Checks.{AreStarts}
+use Rattle.mercator_site.specs.Starts.{AreStarts}
 use Rattle.mercator_site.specs.declared.options.CheckOptions.{CheckOptions}
 use Rattle.mercator_site.specs.declared.fault.SiteFault.{SiteFault}
 use Rattle.mercator_site.specs.declared.fault.SiteFault.TheVariants as wrong
 use Rattle.saved_site.specs.Meaning.{IsSiteWeb}
+use Rattle.site_files.specs.Below.{IsTop}
 use Rattle.site_files.specs.declared.error.SiteError.{SiteError}
 use Rattle.site_files.specs.declared.error.SiteError.TheVariants as unmade
 use Rattle.site_files.specs.declared.site_list.ListError.{ListError}
@@ -52,13 +52,10 @@ pub record IsUnfinished (workers : ℕ) : Type 0 where
   pub incomplete : is_incomplete error ≡ true
   pub fails : CrawlFails workers max error
 
--- a crawl of the saved web by this number of workers, from such starts, is incomplete
+-- a crawl of the saved web by this number of workers, from such starts or more, is incomplete
 pub record IsTopIncomplete (top web : List ℕ) (reachable : Bool) (links : List (List ℕ)) (workers : ℕ) : Type 0 where
-  pub url : List ℕ
-  pub canon : canonical top ≡ Ok url
   pub begun : List (List ℕ)
-  pub documents : List (List ℕ)
-  pub started : AreStarts url web reachable links begun documents
+  pub started : AreStarts top web reachable links begun
   pub sound : IsSound (lines web)
   pub unfinished : IsUnfinished workers
 
@@ -68,7 +65,8 @@ pub record IsIncompleteAt (top : List ℕ) (reachable : Bool) (links : List (Lis
   pub made : IsSiteWeb web
   pub crawl : IsTopIncomplete top web reachable links workers
 
--- the crawl of a check is incomplete
+-- the crawl of a check, whose top is that of BASE, is incomplete
 pub record IsSiteIncomplete (options : CheckOptions) : Type 0 where
   pub top : List ℕ
+  pub is_top : IsTop (string_bytes options.site.base) top
   pub incomplete : IsIncompleteAt top options.reachable (seeds_of options) options.workers

@@ -3,8 +3,10 @@ pub mod Checks
 pub mod Ends
 pub mod External
 pub mod Faults
+pub mod Inputs
 pub mod Maps
 pub mod Own
 pub mod Rules
 pub mod Seeds
 pub mod Sources
+pub mod Starts

@@ -11,6 +11,7 @@ pub record AreRules (options : SiteOptions) (rules : Rules) : Type 0 where
   pub exact : rules.exact ≡ (options.exact || is_some options.index)
   pub follow : rules.follow ≡ options.follow
   pub styles : rules.styles ≡ options.styles
+  pub sniff : rules.sniff ≡ (options.sniff || is_some options.index)
 
 -- the same for a check, which also has rules for what is kept of a document
 pub record AreCheckRules (options : CheckOptions) (rules : Rules) : Type 0 where

@@ -1,23 +1,98 @@
 //! Crawls a site within its top's host.
-ghost use Rattle.std.specs.Prelude.{◌≡◌, ◌∷◌, [], IfErr, IfOk, Ok, false, true};
+ghost use Rattle.std.specs.Prelude.{◌≡◌, ◌&&◌, ◌∷◌, ℕ, List, [], IfErr, IfOk, IfSome, false, is_some, map, not, string_bytes, true};
 ghost use Rattle.crawl_certificate.specs.Certificate.{IsCrawl};
-ghost use Rattle.crawl_keys.specs.CanonicalText.{canonical};
 ghost use Rattle.crawl_keys.specs.HostFilter.{allows};
 ghost use Rattle.crawl_keys.specs.HostKey.{host_key};
-ghost use Rattle.mercator_site.specs.Faults.{IsUnfinished, is_unfinished};
+ghost use Rattle.mercator_site.specs.Checks.{AreReached, IsTopCrawl, reached_in};
+ghost use Rattle.mercator_site.specs.Faults.{IsTopIncomplete, IsUnfinished, is_unfinished};
+ghost use Rattle.mercator_site.specs.Sources.{IsSourceOf};
+ghost use Rattle.mercator_site.specs.Starts.{documents_in};
+ghost use Rattle.saved_site.specs.Linked.{page_at};
 
 use crate::fault::SiteFault;
-use crawl_keys::{CanonUrl, Filter, FilterError, KeyError, canonical};
+use crate::settings::CheckSettings;
+use crate::start::{push_documents, starts};
+use crawl_keys::{CanonUrl, Filter, FilterError};
 use crawl_limits::PENDING_LIMIT;
 use crawl_pages::SessionFetch;
 use crawl_run::{CrawlSettings, Crawled, Mode, crawl_with};
+use saved_site::LinkedPages;
+use site_files::SiteFiles;
 use std::alloc::Global;
 use std::sync::Wait;
 use std::thread::Threads;
 
+/// The crawls of a check.
+#[derive(Drop)]
+pub(crate) struct SiteCrawls {
+    /// What is reached from the links or the top, if unreached files are listed and all documents are checked.
+    pub(crate) reached: Option<Crawled>,
+    /// The crawl of everything that is checked.
+    pub(crate) whole: Crawled,
+}
+
+/// Crawls the pages of a site with this top, from the top or the seeds, and from all documents unless only what can be reached is
+/// checked.
+pub(crate) fn crawl_site<R: Threads + Wait + Sync>(
+    rt: &R,
+    alloc: Global,
+    pages: &LinkedPages,
+    files: &SiteFiles<'_>,
+    top: &CanonUrl,
+    settings: CheckSettings<'_>,
+) -> Result<SiteCrawls, SiteFault>
+    ensures found { (web : List ℕ) → IsSourceOf (page_at pages.now) web → IfOk result (λ crawls. IsTopCrawl top.now web settings.entry.reachable (map string_bytes settings.entry.seeds.now) (documents_in settings.entry.reachable files.now top.now) crawls.whole.result) }
+    ensures reached { (web : List ℕ) → IsSourceOf (page_at pages.now) web → IfOk result (λ crawls. AreReached settings.entry.report.lists.unreached top.now web settings.entry.reachable (map string_bytes settings.entry.seeds.now) (reached_in crawls settings.entry.report.lists.unreached)) }
+    ensures incomplete { (web : List ℕ) → IsSourceOf (page_at pages.now) web → IfErr result (λ fault. is_unfinished fault ≡ true → IsTopIncomplete top.now web settings.entry.reachable (map string_bytes settings.entry.seeds.now) settings.entry.workers) }
+{
+    let reached = crawl_reached(rt, alloc, pages, top, settings)?;
+    let whole = crawl_whole(rt, alloc, pages, files, top, settings)?;
+    Ok(SiteCrawls { reached, whole })
+}
+
+/// Crawls what is reached from the top or the seeds, if unreached files are listed and more is checked.
+fn crawl_reached<R: Threads + Wait + Sync>(
+    rt: &R,
+    alloc: Global,
+    pages: &LinkedPages,
+    top: &CanonUrl,
+    settings: CheckSettings<'_>,
+) -> Result<Option<Crawled>, SiteFault>
+    ensures listed { IfOk result (λ found. is_some found ≡ (not settings.entry.reachable && settings.entry.report.lists.unreached)) }
+    ensures found { (web : List ℕ) → IsSourceOf (page_at pages.now) web → IfOk result (λ found. IfSome found (λ crawled. IsTopCrawl top.now web settings.entry.reachable (map string_bytes settings.entry.seeds.now) [] crawled.result)) }
+    ensures incomplete { (web : List ℕ) → IsSourceOf (page_at pages.now) web → IfErr result (λ fault. is_unfinished fault ≡ true → IsTopIncomplete top.now web settings.entry.reachable (map string_bytes settings.entry.seeds.now) settings.entry.workers) }
+{
+    if settings.reachable {
+        return Ok(None);
+    }
+    if !settings.report.lists.unreached {
+        return Ok(None);
+    }
+    let seeds = starts(alloc, pages, top, settings.seeds, settings.reachable)?;
+    let found = crawl_source(rt, alloc, pages, top, seeds.as_slice(), settings.workers)?;
+    Ok(Some(found))
+}
+
+/// Crawls everything that is checked.
+fn crawl_whole<R: Threads + Wait + Sync>(
+    rt: &R,
+    alloc: Global,
+    pages: &LinkedPages,
+    files: &SiteFiles<'_>,
+    top: &CanonUrl,
+    settings: CheckSettings<'_>,
+) -> Result<Crawled, SiteFault>
+    ensures found { (web : List ℕ) → IsSourceOf (page_at pages.now) web → IfOk result (λ found. IsTopCrawl top.now web settings.entry.reachable (map string_bytes settings.entry.seeds.now) (documents_in settings.entry.reachable files.now top.now) found.result) }
+    ensures incomplete { (web : List ℕ) → IsSourceOf (page_at pages.now) web → IfErr result (λ fault. is_unfinished fault ≡ true → IsTopIncomplete top.now web settings.entry.reachable (map string_bytes settings.entry.seeds.now) settings.entry.workers) }
+{
+    let mut seeds = starts(alloc, pages, top, settings.seeds, settings.reachable)?;
+    push_documents(top, files, settings.reachable, &mut seeds)?;
+    crawl_source(rt, alloc, pages, top, seeds.as_slice(), settings.workers)
+}
+
 /// Crawls a source from URLs, within the host of the site's top.
 #[tactic(auto, using(crate::proofs::TopCrawls::unfinished_of))]
-pub(crate) fn crawl_source<F: SessionFetch + Sync, R: Threads + Wait + Sync>(
+fn crawl_source<F: SessionFetch + Sync, R: Threads + Wait + Sync>(
     rt: &R,
     alloc: Global,
     source: &F,
@@ -38,18 +113,6 @@ pub(crate) fn crawl_source<F: SessionFetch + Sync, R: Threads + Wait + Sync>(
     match crawl_with(rt, alloc, source, &settings, seeds) {
         Ok(found) => Ok(found),
         Err(failure) => Err(SiteFault::from(failure)),
-    }
-}
-
-/// The URL of the top with this text.
-pub(crate) fn top_url(alloc: Global, top: &str) -> Result<CanonUrl, SiteFault>
-    ensures canon { IfOk result (λ url. canonical top.now ≡ Ok url) }
-    ensures plain { IfErr result (λ fault. is_unfinished fault ≡ false) }
-{
-    match canonical(alloc, top) {
-        Ok(url) => Ok(url),
-        Err(KeyError::NoMemory) => Err(SiteFault::NoMemory),
-        Err(_) => Err(SiteFault::BadBase),
     }
 }
 

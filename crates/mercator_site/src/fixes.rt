@@ -1,21 +1,22 @@
 //! The files of a folder with links that a check can rewrite: those to redirects, and those to missing pages of which the site has one with
 //! the same name.
-use crate::check::{CheckSettings, Lookups, crawl_site, crawled_site, input_of};
-use crate::crawl::top_url;
+use crate::check::{CrawledSite, checked_of, crawled_site};
+use crate::crawl::crawl_site;
 use crate::fault::SiteFault;
-use crate::folder::{FolderInput, check_rules, files_of, names_of, settings_of};
+use crate::folder::{
+    FolderInput, FolderSettings, Names, files_of, folder_settings, names_of, settings_of,
+};
 use crate::notes::push_page_notes;
 use crate::options::CheckOptions;
-use crate::seeds::seed_links;
+use crate::settings::CheckSettings;
 use crate::start::check_starts;
 use check_report::{Broken, Kind, Place};
-use crawl_keys::CanonUrl;
+use crawl_keys::{CanonUrl, KeyError, canonical};
 use crawl_pages::{Page, PageResult, links_of};
 use document_links::{ReadOptions, Syntax};
-use link_fixes::{DocumentFix, FixInput, Move, fix_document};
-use saved_site::{OnDisk, site_pages};
-use site_check::{check_site, read_ignores};
-use site_files::{Body, FileBytes, FileKind, Note, SiteFile, SiteFiles};
+use link_fixes::{DocumentFix, FixInput, Move, adds_slash, fix_document};
+use saved_site::{LinkedSite, OnDisk, site_pages};
+use site_files::{Body, FileBytes, FileKind, Note, SiteFiles, before_query};
 use std::alloc::{AllocError, Global};
 use std::collections::BTreeMap;
 use std::fs::Files;
@@ -45,21 +46,31 @@ pub fn fixes_of_folder<R: Files<File: Send, Dir: Send> + Threads + Wait + Sync>(
     ignores: &[u8],
     notes: &mut Vec<Note>,
 ) -> Result<Vec<FileFix>, SiteFault> {
-    let known = read_ignores(alloc, ignores)?;
-    let rules = check_rules(alloc, options)?;
+    let made = folder_settings(alloc, options, ignores)?;
     let folder = options.site.folder.as_str();
-    let names = names_of(rt, alloc, folder, &rules, None, notes)?;
-    let files = files_of(alloc, &names, options.site.base.as_str(), &rules)?;
-    let seeds = seed_links(alloc, options.paths, options.seeds.as_slice())?;
+    let names = names_of(rt, alloc, folder, &made.rules, None, notes)?;
+    fixes_of_names(rt, alloc, options, &made, &names, notes)
+}
+
+/// Checks a folder with these names, and returns the files with links that can be rewritten.
+fn fixes_of_names<R: Files<File: Send, Dir: Send> + Threads + Wait + Sync>(
+    rt: &R,
+    alloc: Global,
+    options: &CheckOptions,
+    made: &FolderSettings,
+    names: &Names,
+    notes: &mut Vec<Note>,
+) -> Result<Vec<FileFix>, SiteFault> {
+    let files = files_of(alloc, names, options.site.base.as_str(), &made.rules)?;
     // Links that lead out of the site are never rewritten, so the folders of maps are not read.
     let found = FolderInput {
         top: files.top(),
-        seeds: seeds.as_slice(),
-        known: known.as_slice(),
+        seeds: made.seeds.as_slice(),
+        known: made.ignores.as_slice(),
         maps: &[],
     };
     let settings = settings_of(options, found);
-    check_starts(alloc, &files, settings.seeds, settings.reachable)?;
+    let folder = options.site.folder.as_str();
     let bytes = OnDisk { rt, alloc, folder };
     fixes_of_site(rt, alloc, &files, &bytes, settings, notes)
 }
@@ -73,48 +84,70 @@ fn fixes_of_site<R: Threads + Wait + Sync, B: FileBytes + Sync>(
     settings: CheckSettings<'_>,
     notes: &mut Vec<Note>,
 ) -> Result<Vec<FileFix>, SiteFault> {
+    check_starts(alloc, files, settings.seeds, settings.reachable)?;
     let site = site_pages(rt, alloc, files, settings.seeds, bytes)?;
     push_page_notes(alloc, notes, settings.front, site.notes.as_slice())?;
-    let top = top_url(alloc, files.top())?;
-    let crawls = crawl_site(rt, alloc, &site.pages, files, &top, settings)?;
-    let crawled = crawled_site(&site, &crawls, &top);
-    let lookups = Lookups {
-        left: crawled.pages,
-        names: &[],
-    };
-    let input = input_of(crawled, lookups, settings);
-    let checked = check_site(rt, alloc, crawled.own, files, bytes, input)?;
-    let moves = moves_of(
-        alloc,
-        files,
-        settings.front,
-        crawled.own,
-        checked.broken.as_slice(),
-    )?;
-    Ok(file_fixes(alloc, files, bytes, moves.as_slice())?)
+    fixes_of_pages(rt, alloc, &site, files, bytes, settings)
 }
 
-/// The URL to which the links to another may be moved.
-#[derive(Drop)]
+/// Crawls these pages of a site, and returns the files with links that can be rewritten.
+fn fixes_of_pages<R: Threads + Wait + Sync, B: FileBytes + Sync>(
+    rt: &R,
+    alloc: Global,
+    site: &LinkedSite,
+    files: &SiteFiles<'_>,
+    bytes: &B,
+    settings: CheckSettings<'_>,
+) -> Result<Vec<FileFix>, SiteFault> {
+    let top = files.top_url();
+    let crawls = crawl_site(rt, alloc, &site.pages, files, top, settings)?;
+    let crawled = crawled_site(site, &crawls, top);
+    Ok(fixes_of_crawled(rt, alloc, crawled, files, bytes, settings)?)
+}
+
+/// Checks a site that was crawled, and returns the files with links that can be rewritten.
+fn fixes_of_crawled<R: Threads + Sync, B: FileBytes + Sync>(
+    rt: &R,
+    alloc: Global,
+    crawled: CrawledSite<'_>,
+    files: &SiteFiles<'_>,
+    bytes: &B,
+    settings: CheckSettings<'_>,
+) -> Result<Vec<FileFix>, AllocError> {
+    let checked = checked_of(rt, alloc, crawled, files, bytes, settings)?;
+    let rows = checked.broken.as_slice();
+    let moves = moves_of(alloc, files, settings.front, crawled.own, rows)?;
+    file_fixes(alloc, files, bytes, crawled.own, moves.as_slice())
+}
+
+/// A move of links that lead to the result with this number.
+#[derive(Clone, Copy)]
 struct Step {
-    to: CanonUrl,
-    /// The number of the row if the URL is that of a missing page, and `None` if it is a redirect.
-    row: Option<usize>,
+    from: usize,
+    /// What the links are moved to if the result is that of a missing page, and `None` if it is a redirect.
+    namesake: Option<Namesake>,
 }
 
-/// The URLs to which links may be moved, by those to which they lead.
+/// The moves of links, by the URLs to which the links lead.
 type Steps = BTreeMap<String, Step>;
 
-/// The numbers of the rows of missing pages of which the site has a page with the same name, by their targets.
-type Namesakes = BTreeMap<String, usize>;
+/// The row of a missing page, and the page of the site with the same name, by their numbers.
+#[derive(Clone, Copy)]
+struct Namesake {
+    row: usize,
+    page: usize,
+}
+
+/// The pages with the same names, by the targets of the rows.
+type Namesakes = BTreeMap<String, Namesake>;
 
 /// A move of links in the page with this number.
-#[derive(Drop)]
+#[derive(Clone, Copy)]
 struct FileMove {
     /// The index of the page's file in the names.
     file: usize,
     page: usize,
-    step: Move,
+    step: Step,
 }
 
 /// The moves of all links of these pages, in the order of their files, each once. `front` is removed from the URLs of the rows.
@@ -134,7 +167,7 @@ fn moves_of(
     Ok(moves)
 }
 
-/// The URLs to which the links to these results may be moved.
+/// The moves of links to these results.
 fn steps_of(
     alloc: Global,
     files: &SiteFiles<'_>,
@@ -142,57 +175,69 @@ fn steps_of(
     results: &[PageResult],
     rows: &[Broken],
 ) -> Result<Steps, AllocError> {
-    let namesakes = namesakes_in(alloc, files, rows)?;
+    let namesakes = namesakes_in(alloc, files, front, rows)?;
     let mut steps = BTreeMap::new(alloc);
-    for one in results {
-        if let Some(step) = step_of(alloc, files, front, rows, &namesakes, one)? {
-            let from = String::from_str(alloc, one.url.as_str())?;
-            steps.insert(from, step)?;
+    for (from, one) in results.iter().enumerate() {
+        if let Some(step) = step_of(alloc, files, front, &namesakes, from, one)? {
+            let url = String::from_str(alloc, one.url.as_str())?;
+            steps.insert(url, step)?;
         }
     }
     Ok(steps)
 }
 
-/// The rows of missing pages of which the site has a page with the same name, to which their links may be moved.
+/// The pages with the same names as the targets of these rows, if links may be moved to them.
 fn namesakes_in(
     alloc: Global,
     files: &SiteFiles<'_>,
+    front: &str,
     rows: &[Broken],
 ) -> Result<Namesakes, AllocError> {
     let mut namesakes = BTreeMap::new(alloc);
     for (number, row) in rows.iter().enumerate() {
-        if has_namesake(row) && may_move(files, row) {
+        if let Some(page) = namesake_of(alloc, files, front, row)? {
             let key = String::from_str(alloc, row.target.as_str())?;
-            namesakes.insert(key, number)?;
+            namesakes.insert(key, Namesake { row: number, page })?;
         }
     }
     Ok(namesakes)
 }
 
-/// Whether the row is that of a missing page, and the site has a page with the same name.
-fn has_namesake(row: &Broken) -> bool {
-    matches!(row.kind, Kind::NoPage) && row.same_name.is_some()
+/// The page with the same name as the target of a row, if links may be moved to it.
+fn namesake_of(
+    alloc: Global,
+    files: &SiteFiles<'_>,
+    front: &str,
+    row: &Broken,
+) -> Result<Option<usize>, AllocError> {
+    let Some(name) = &row.same_name else {
+        return Ok(None);
+    };
+    if name.contains('?') || !may_move(files, row) {
+        return Ok(None);
+    }
+    let url = format!(in alloc; "{front}{name}")?;
+    Ok(files.find(url.as_str()))
 }
 
-/// Whether the links to the target of a row may be moved to a page with the same name. A name of index files says nothing about a page, and
-/// a query may be meant for another. Without BASE, a path from the root may be meant for another folder of the host.
+/// Whether a row is that of a missing page, and links to it may be moved to a page with the same name. A name of index files says nothing
+/// about a page. Without BASE, a path from the root may be meant for another folder of the host.
 fn may_move(files: &SiteFiles<'_>, row: &Broken) -> bool {
-    let target = row.target.as_str();
     let is_elsewhere = files.rules().rooted && has_root_path(row.places.as_slice());
-    !is_elsewhere && !target.contains('?') && !is_index(files, target)
+    let is_page = matches!(row.kind, Kind::NoPage);
+    is_page && !is_elsewhere && !is_index(files, before_query(row.target.as_str()))
 }
 
 /// Whether one of the links at these locations is written as a path from the root.
 fn has_root_path(places: &[Place]) -> bool {
-    places.iter().any(|place| is_root_path(place))
-}
-
-/// Whether the link at a location is written as a path from the root.
-fn is_root_path(place: &Place) -> bool {
-    match &place.written {
-        Some(text) => matches!(text.as_bytes(), [b'/' | b'\\', ..]),
-        None => false,
+    for place in places {
+        if let Some(text) = &place.written {
+            if matches!(text.as_bytes(), [b'/' | b'\\', ..]) {
+                return true;
+            }
+        }
     }
+    false
 }
 
 /// Whether a URL without a query ends with the name of an index file.
@@ -201,108 +246,69 @@ fn is_index(files: &SiteFiles<'_>, url: &str) -> bool {
         Some((_, name)) => name,
         None => url,
     };
-    files
-        .rules()
-        .index_files
-        .iter()
-        .any(|one| one.as_str() == name)
+    for one in files.rules().index_files.as_slice() {
+        if one.as_str() == name {
+            return true;
+        }
+    }
+    false
 }
 
-/// The URL to which the links to a result may be moved, if there is one.
+/// The move of links to the result with this number, if there is one.
 fn step_of(
     alloc: Global,
     files: &SiteFiles<'_>,
     front: &str,
-    rows: &[Broken],
     namesakes: &Namesakes,
+    from: usize,
     one: &PageResult,
 ) -> Result<Option<Step>, AllocError> {
     match &one.page {
         Page::Found { .. } => Ok(None),
-        Page::Moved { to } => redirect_step(files, &one.url, to),
-        Page::Missing => namesake_step(alloc, files, front, rows, namesakes, &one.url),
+        Page::Moved { to } => redirect_step(alloc, files, from, &one.url, to),
+        Page::Missing => Ok(namesake_step(front, namesakes, from, one.url.as_str())),
     }
 }
 
-/// The step from a redirect, if it only adds a slash and leads to a page.
+/// The move of links to a redirect, if the redirect only adds a slash to the path, and a server returns a file for its target.
 fn redirect_step(
+    alloc: Global,
     files: &SiteFiles<'_>,
-    from: &CanonUrl,
+    from: usize,
+    url: &CanonUrl,
     to: &Option<CanonUrl>,
 ) -> Result<Option<Step>, AllocError> {
     let Some(to) = to else {
         return Ok(None);
     };
-    if to.as_str().strip_suffix("/") != Some(from.as_str()) || !has_file(files, to) {
+    if !adds_slash(url, to) || !has_file(alloc, files, to)? {
         return Ok(None);
     }
-    let to = to.clone()?;
-    Ok(Some(Step { to, row: None }))
+    Ok(Some(Step {
+        from,
+        namesake: None,
+    }))
 }
 
-/// Whether the site has a file for a URL.
-fn has_file(files: &SiteFiles<'_>, url: &CanonUrl) -> bool {
-    files.file_of(url.as_str()).is_some()
-}
-
-/// The step from a missing page to the page with the same name, if there is one.
-fn namesake_step(
-    alloc: Global,
-    files: &SiteFiles<'_>,
-    front: &str,
-    rows: &[Broken],
-    namesakes: &Namesakes,
-    from: &CanonUrl,
-) -> Result<Option<Step>, AllocError> {
-    let Some(number) = namesakes.get(without(front, from.as_str())) else {
-        return Ok(None);
-    };
-    let Some(row) = rows.get(*number) else {
-        return Ok(None);
-    };
-    match named_page(alloc, files, front, row)? {
-        Some(to) => Ok(Some(Step {
-            to,
-            row: Some(*number),
-        })),
-        None => Ok(None),
+/// Whether a server returns a file for a URL.
+fn has_file(alloc: Global, files: &SiteFiles<'_>, url: &CanonUrl) -> Result<bool, AllocError> {
+    match files.served(alloc, url)? {
+        Some(page) => Ok(files.own_url(page).is_some()),
+        None => Ok(false),
     }
 }
 
-/// The URL without the front, if it begins with that.
-fn without<'a>(front: &str, url: &'a str) -> &'a str {
-    match url.strip_prefix(front) {
-        Some(rest) => rest,
-        None => url,
-    }
+/// The move of links to a missing page, if there is a page with the same name.
+fn namesake_step(front: &str, namesakes: &Namesakes, from: usize, url: &str) -> Option<Step> {
+    let target = url.strip_prefix(front).unwrap_or(url);
+    let namesake = *namesakes.get(target)?;
+    Some(Step {
+        from,
+        namesake: Some(namesake),
+    })
 }
 
-/// The URL of the page with the same name as the target of a row.
-fn named_page(
-    alloc: Global,
-    files: &SiteFiles<'_>,
-    front: &str,
-    row: &Broken,
-) -> Result<Option<CanonUrl>, AllocError> {
-    let Some(name) = &row.same_name else {
-        return Ok(None);
-    };
-    let url = format!(in alloc; "{front}{name}")?;
-    match files.find(url.as_str()) {
-        Some(page) => url_of(files, page),
-        None => Ok(None),
-    }
-}
-
-/// The URL of the page with this number.
-fn url_of(files: &SiteFiles<'_>, page: usize) -> Result<Option<CanonUrl>, AllocError> {
-    match files.url(page) {
-        Some(url) => Ok(Some(url.clone()?)),
-        None => Ok(None),
-    }
-}
-
-/// Appends the moves of the links of a result, if it is a page with a document.
+/// Appends the moves of the links of a result, if it is a page with a document. A link to a missing page is moved only if it is reported.
 fn push_page_moves(
     files: &SiteFiles<'_>,
     steps: &Steps,
@@ -313,48 +319,30 @@ fn push_page_moves(
     let Some(page) = files.find(one.url.as_str()) else {
         return Ok(());
     };
-    let Some(file) = files.document(page) else {
+    let Some(document) = files.document(page) else {
         return Ok(());
     };
-    if syntax_of(file.kind).is_none() {
+    if syntax_of(document.kind).is_none() {
         return Ok(());
     }
+    let file = document.index;
     for link in links_of(&one.page) {
         if let Some(step) = steps.get(link.as_str()) {
-            push_move(page, file, rows, link, step, moves)?;
+            if is_reported(rows, step.namesake, document.name) {
+                let step = *step;
+                moves.push(FileMove { file, page, step })?;
+            }
         }
     }
     Ok(())
 }
 
-/// Appends the move of a link in the file of a page. A link to a missing page is moved only if it is reported.
-fn push_move(
-    page: usize,
-    file: SiteFile<'_>,
-    rows: &[Broken],
-    from: &CanonUrl,
-    step: &Step,
-    moves: &mut Vec<FileMove>,
-) -> Result<(), AllocError> {
-    if !is_reported(rows, step.row, file.name) {
-        return Ok(());
-    }
-    let from = from.clone()?;
-    let to = step.to.clone()?;
-    moves.push(FileMove {
-        file: file.index,
-        page,
-        step: Move { from, to },
-    })?;
-    Ok(())
-}
-
-/// Whether the row with this number has a location in the file with this name, or there is no row.
-fn is_reported(rows: &[Broken], row: Option<usize>, file: &str) -> bool {
-    let Some(number) = row else {
+/// Whether the row of a missing page has a location in the file with this name, or it is no missing page.
+fn is_reported(rows: &[Broken], namesake: Option<Namesake>, file: &str) -> bool {
+    let Some(namesake) = namesake else {
         return true;
     };
-    match rows.get(number) {
+    match rows.get(namesake.row) {
         Some(row) => has_place(row.places.as_slice(), file),
         None => false,
     }
@@ -367,10 +355,10 @@ fn has_place(places: &[Place], file: &str) -> bool {
         .is_ok()
 }
 
-/// Sorts moves by file and old URL, and leaves each once.
+/// Sorts moves by file and old URL, and leaves each once. Results are in the order of their URLs.
 fn in_order(moves: &mut Vec<FileMove>) -> Result<(), AllocError> {
     moves.sort_by(|a: &FileMove, b: &FileMove| {
-        (a.file, a.step.from.as_str()).cmp(&(b.file, b.step.from.as_str()))
+        (a.file, a.step.from).cmp(&(b.file, b.step.from))
     })?;
     moves.dedup_by(|a: &mut FileMove, b: &mut FileMove| {
         a.file == b.file && a.step.from == b.step.from
@@ -392,70 +380,153 @@ fn file_fixes<B: FileBytes>(
     alloc: Global,
     files: &SiteFiles<'_>,
     bytes: &B,
+    results: &[PageResult],
     moves: &[FileMove],
 ) -> Result<Vec<FileFix>, AllocError> {
     let mut all = Vec::new(alloc);
     let mut rest = moves;
     for _ in 0..moves.len() {
-        let Some(first) = rest.first() else {
-            break;
-        };
-        let (own, more) = split_file(rest, first.file);
-        push_fix(alloc, files, bytes, first.page, own, &mut all)?;
+        let (own, more) = split_file(rest);
+        if let Some(fix) = fix_of(alloc, files, bytes, results, own)? {
+            all.push(fix)?;
+        }
         rest = more;
     }
     Ok(all)
 }
 
-/// The moves in the file with this index, which come first, and those in the others.
-fn split_file(moves: &[FileMove], file: usize) -> (&[FileMove], &[FileMove]) {
-    let count = moves
-        .iter()
-        .position(|one| one.file != file)
-        .unwrap_or(moves.len());
-    moves.split_at(count.min(moves.len()))
+/// The moves in the file of the first one, and those in the others.
+fn split_file(moves: &[FileMove]) -> (&[FileMove], &[FileMove]) {
+    let Some(first) = moves.first() else {
+        return (&[], &[]);
+    };
+    for (index, one) in moves.iter().enumerate() {
+        if one.file != first.file {
+            return moves.split_at(index);
+        }
+    }
+    (moves, &[])
 }
 
-/// Appends the file of the page with this number after these moves, if it can be read.
-fn push_fix<B: FileBytes>(
+/// The file of these moves, if there are some, it is a document, and it can be read.
+fn fix_of<B: FileBytes>(
     alloc: Global,
     files: &SiteFiles<'_>,
     bytes: &B,
-    page: usize,
+    results: &[PageResult],
     moves: &[FileMove],
-    all: &mut Vec<FileFix>,
-) -> Result<(), AllocError> {
-    let Some(file) = files.document(page) else {
-        return Ok(());
+) -> Result<Option<FileFix>, AllocError> {
+    let Some(first) = moves.first() else {
+        return Ok(None);
+    };
+    let Some(file) = files.document(first.page) else {
+        return Ok(None);
     };
     let mut body = Body::new(alloc);
     if bytes.read(file, &mut body)?.is_some() {
-        return Ok(());
+        return Ok(None);
     }
-    let steps = steps_in(alloc, moves)?;
-    if let Some(fix) = fix_of(alloc, files, page, body.as_slice(), steps.as_slice())? {
-        all.push(FileFix {
-            file: String::from_str(alloc, file.name)?,
-            old: body.as_slice().to_vec(alloc)?,
-            fix,
-        })?;
+    let steps = moves_at(alloc, files, results, moves)?;
+    if steps.is_empty() {
+        return Ok(None);
+    }
+    match fixed(alloc, files, first.page, body.as_slice(), steps.as_slice())? {
+        Some(fix) => Ok(Some(file_fix(alloc, file.name, body.as_slice(), fix)?)),
+        None => Ok(None),
+    }
+}
+
+/// The file with this name, these contents, and these new contents.
+fn file_fix(
+    alloc: Global,
+    name: &str,
+    body: &[u8],
+    fix: DocumentFix,
+) -> Result<FileFix, AllocError> {
+    let file = String::from_str(alloc, name)?;
+    let old = body.to_vec(alloc)?;
+    Ok(FileFix { file, old, fix })
+}
+
+/// The moves with their URLs.
+fn moves_at(
+    alloc: Global,
+    files: &SiteFiles<'_>,
+    results: &[PageResult],
+    moves: &[FileMove],
+) -> Result<Vec<Move>, AllocError> {
+    let mut all = Vec::new(alloc);
+    for one in moves {
+        if let Some(from) = results.get(one.step.from) {
+            push_move(alloc, files, from, one.step.namesake, &mut all)?;
+        }
+    }
+    Ok(all)
+}
+
+/// Appends the move of links to a result.
+fn push_move(
+    alloc: Global,
+    files: &SiteFiles<'_>,
+    one: &PageResult,
+    namesake: Option<Namesake>,
+    moves: &mut Vec<Move>,
+) -> Result<(), AllocError> {
+    let found = match namesake {
+        Some(namesake) => namesake_url(alloc, files, &one.url, namesake.page)?,
+        None => redirect_url(&one.page)?,
+    };
+    if let Some(to) = found {
+        let from = one.url.clone()?;
+        moves.push(Move { from, to })?;
     }
     Ok(())
 }
 
-/// The moves without their file.
-fn steps_in(alloc: Global, moves: &[FileMove]) -> Result<Vec<Move>, AllocError> {
-    let mut steps = Vec::new(alloc);
-    for one in moves {
-        let from = one.step.from.clone()?;
-        let to = one.step.to.clone()?;
-        steps.push(Move { from, to })?;
+/// The URL to which a result redirects.
+fn redirect_url(page: &Page) -> Result<Option<CanonUrl>, AllocError> {
+    match page {
+        Page::Moved { to: Some(to) } => Ok(Some(to.clone()?)),
+        _ => Ok(None),
     }
-    Ok(steps)
+}
+
+/// The URL of the page with this number, with the query of another URL. `None` if a server returns another page for it.
+fn namesake_url(
+    alloc: Global,
+    files: &SiteFiles<'_>,
+    from: &CanonUrl,
+    page: usize,
+) -> Result<Option<CanonUrl>, AllocError> {
+    let Some(url) = files.url(page) else {
+        return Ok(None);
+    };
+    let Some((_, query)) = from.as_str().split_once('?') else {
+        return Ok(Some(url.clone()?));
+    };
+    let path = url.as_str();
+    let text = format!(in alloc; "{path}?{query}")?;
+    let Some(url) = url_of(alloc, text.as_str())? else {
+        return Ok(None);
+    };
+    if files.served(alloc, &url)? == Some(page) {
+        Ok(Some(url))
+    } else {
+        Ok(None)
+    }
+}
+
+/// The URL with this text, if it is one.
+fn url_of(alloc: Global, text: &str) -> Result<Option<CanonUrl>, AllocError> {
+    match canonical(alloc, text) {
+        Ok(url) => Ok(Some(url)),
+        Err(KeyError::NoMemory) => Err(AllocError),
+        Err(_) => Ok(None),
+    }
 }
 
 /// The document of the page with this number and these contents after moves of its links. `None` if the page is no document.
-fn fix_of<'a>(
+fn fixed<'a>(
     alloc: Global,
     files: &'a SiteFiles<'_>,
     page: usize,

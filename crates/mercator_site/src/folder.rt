@@ -1,6 +1,6 @@
 //! A folder's saved web, and the report of its check.
 ghost use Rattle.std.specs.Prelude.{◌≡◌, IfErr, IfOk, map, string_bytes, false, true};
-ghost use Rattle.mercator_site.specs.Asks.{asks_in, asks_with};
+ghost use Rattle.mercator_site.specs.Asks.{asks_in, asks_with, seeds_of};
 ghost use Rattle.mercator_site.specs.Ends.{IsCheckOf, IsFolderCheck, front_of, name_of};
 ghost use Rattle.mercator_site.specs.Faults.{IsSiteIncomplete, is_unfinished};
 ghost use Rattle.mercator_site.specs.Rules.{AreCheckRules, AreRules};
@@ -9,11 +9,12 @@ ghost use Rattle.saved_site.specs.Meaning.{IsSiteWeb};
 ghost use Rattle.site_check.specs.Ignored.{entries_in};
 ghost use Rattle.site_files.specs.Below.{IsTop};
 
-use crate::check::{CheckReport, CheckSettings, report_of_site};
+use crate::check::{CheckReport, report_of_site};
 use crate::fault::SiteFault;
 use crate::mapped::{MapNames, MappedFolder, map_names, mapped_folders};
 use crate::options::{CheckOptions, SiteOptions};
 use crate::seeds::seed_links;
+use crate::settings::CheckSettings;
 use saved_site::{OnDisk, Web, WebText, site_web};
 use site_check::read_ignores;
 use site_files::{
@@ -35,7 +36,7 @@ fn rules_of(alloc: Global, options: &SiteOptions) -> Result<Rules, AllocError>
     ensures { IfOk result (AreRules options.now) }
 {
     Ok(Rules {
-        index_files: index_files(alloc, options.index_files.as_slice())?,
+        index_files: index_files(alloc, &options.index_files)?,
         html_fallback: options.html_fallback,
         queries: options.queries,
         exact: options.exact || options.index.is_some(),
@@ -43,33 +44,32 @@ fn rules_of(alloc: Global, options: &SiteOptions) -> Result<Rules, AllocError>
         anchors: false,
         places: false,
         styles: options.styles,
+        sniff: options.sniff || options.index.is_some(),
         rooted: false,
         threads: THREADS,
     })
 }
 
 /// The names of index files that are given or, if there are none, the usual ones.
-fn index_files(alloc: Global, given: &[String]) -> Result<Vec<String>, AllocError> {
-    let mut names = Vec::new(alloc);
-    for name in given {
-        names.push(name.clone()?)?;
+fn index_files(alloc: Global, given: &Vec<String>) -> Result<Vec<String>, AllocError> {
+    if given.is_empty() {
+        usual_index_files(alloc)
+    } else {
+        given.clone()
     }
-    if names.is_empty() {
-        push_index_files(alloc, &mut names)?;
+}
+
+/// The usual names of index files.
+fn usual_index_files(alloc: Global) -> Result<Vec<String>, AllocError> {
+    let mut names = Vec::new(alloc);
+    for name in INDEX_FILES {
+        names.push(String::from_str(alloc, name)?)?;
     }
     Ok(names)
 }
 
-/// Appends the usual names of index files.
-fn push_index_files(alloc: Global, names: &mut Vec<String>) -> Result<(), AllocError> {
-    for name in INDEX_FILES {
-        names.push(String::from_str(alloc, name)?)?;
-    }
-    Ok(())
-}
-
 /// The rules of a check: with the positions of links, and with anchors if they are checked. Without BASE, the root is the top.
-pub(crate) fn check_rules(alloc: Global, options: &CheckOptions) -> Result<Rules, AllocError>
+fn check_rules(alloc: Global, options: &CheckOptions) -> Result<Rules, AllocError>
     ensures { IfOk result (AreCheckRules options.now) }
 {
     let mut rules = rules_of(alloc, &options.site)?;
@@ -84,6 +84,41 @@ fn map_rules(alloc: Global, options: &SiteOptions) -> Result<Rules, AllocError> 
     let mut rules = rules_of(alloc, options)?;
     rules.exact = options.exact;
     Ok(rules)
+}
+
+/// What a check makes of its options and of the ignore list before it reads any names.
+#[derive(Drop)]
+pub(crate) struct FolderSettings {
+    /// The rules of the folder.
+    pub(crate) rules: Rules,
+    /// The rules of the folders of maps.
+    map_rules: Rules,
+    /// The links at which the search starts.
+    pub(crate) seeds: Vec<String>,
+    /// The entries of the ignore list.
+    pub(crate) ignores: Vec<String>,
+}
+
+/// What a check makes of these options, and of the bytes of an ignore list.
+pub(crate) fn folder_settings(
+    alloc: Global,
+    options: &CheckOptions,
+    ignores: &[u8],
+) -> Result<FolderSettings, AllocError>
+    ensures rules { IfOk result (λ made. AreCheckRules options.now made.rules) }
+    ensures seeds { IfOk result (λ made. map string_bytes made.seeds.items ≡ seeds_of options.now) }
+    ensures ignores { IfOk result (λ made. map string_bytes made.ignores.items ≡ entries_in ignores.now) }
+{
+    let rules = check_rules(alloc, options)?;
+    let map_rules = map_rules(alloc, &options.site)?;
+    let seeds = seed_links(alloc, options.paths, options.seeds.as_slice())?;
+    let entries = read_ignores(alloc, ignores)?;
+    Ok(FolderSettings {
+        rules,
+        map_rules,
+        seeds,
+        ignores: entries,
+    })
 }
 
 /// The names of a site's files: those in a folder, or those of a site list.
@@ -120,6 +155,7 @@ pub(crate) fn files_of<'a>(
     rules: &'a Rules,
 ) -> Result<SiteFiles<'a>, SiteFault>
     ensures top { IfOk result (λ files. IsTop base.now (string_bytes files.site.top)) }
+    ensures url { IfOk result (λ files. files.site.top_url ≡ string_bytes files.site.top) }
     ensures plain { IfErr result (λ fault. is_unfinished fault ≡ false) }
 {
     match names {
@@ -127,6 +163,7 @@ pub(crate) fn files_of<'a>(
             let input = SiteNames {
                 names: found.names.as_slice(),
                 links: found.links.as_slice(),
+                skipped: found.skipped.as_slice(),
                 base,
                 rules,
             };
@@ -154,9 +191,25 @@ pub fn web_of_folder<R: Files<File: Send, Dir: Send> + Threads + Sync>(
     ensures plain { IfErr result (λ fault. is_unfinished fault ≡ false) }
 {
     let rules = rules_of(alloc, options)?;
+    let names = names_of(rt, alloc, options.folder.as_str(), &rules, list, notes)?;
+    web_of_names(rt, alloc, options, &rules, &names, notes)
+}
+
+/// Makes the saved web of a folder with these names.
+fn web_of_names<R: Files<File: Send, Dir: Send> + Threads + Sync>(
+    rt: &R,
+    alloc: Global,
+    options: &SiteOptions,
+    rules: &Rules,
+    names: &Names,
+    notes: &mut Vec<Note>,
+) -> Result<WebText, SiteFault>
+    ensures web { IfOk result IsSiteWeb }
+    ensures below { IfOk result (IsWebAt (string_bytes options.now.base)) }
+    ensures plain { IfErr result (λ fault. is_unfinished fault ≡ false) }
+{
+    let files = files_of(alloc, names, options.base.as_str(), rules)?;
     let folder = options.folder.as_str();
-    let names = names_of(rt, alloc, folder, &rules, list, notes)?;
-    let files = files_of(alloc, &names, options.base.as_str(), &rules)?;
     let bytes = OnDisk { rt, alloc, folder };
     let Web {
         text,
@@ -184,30 +237,24 @@ pub fn report_of_folder<R: Files<File: Send, Dir: Send> + Threads + Wait + Sync>
     ensures folder { IfOk result (λ report. IsFolderCheck options.now ignores.now report.is_broken report.text.items) }
     ensures incomplete { IfErr result (λ fault. is_unfinished fault ≡ true → IsSiteIncomplete options.now) }
 {
-    let known = read_ignores(alloc, ignores)?;
-    let rules = check_rules(alloc, options)?;
+    let made = folder_settings(alloc, options, ignores)?;
     let folder = options.site.folder.as_str();
-    let names = names_of(rt, alloc, folder, &rules, list, notes)?;
-    let map_rules = map_rules(alloc, &options.site)?;
-    let maps = map_names(rt, alloc, options.maps.as_slice(), &map_rules)?;
+    let names = names_of(rt, alloc, folder, &made.rules, list, notes)?;
+    let maps = map_names(rt, alloc, options.maps.as_slice(), &made.map_rules)?;
     let read = ReadFolder {
+        made: &made,
         names: &names,
-        rules: &rules,
         maps: maps.as_slice(),
-        map_rules: &map_rules,
-        known: known.as_slice(),
     };
     report_of_names(rt, alloc, options, read, notes)
 }
 
-/// What is read before a check: the names and the rules of a folder and of the folders of maps, and the entries of the ignore list.
+/// What a check knows before it looks at files: the names in a folder and in the folders of maps, and what it made of its options.
 #[derive(Clone, Copy)]
 struct ReadFolder<'a> {
+    made: &'a FolderSettings,
     names: &'a Names,
-    rules: &'a Rules,
     maps: &'a [MapNames<'a>],
-    map_rules: &'a Rules,
-    known: &'a [String],
 }
 
 /// Checks a folder whose names were read.
@@ -218,16 +265,17 @@ fn report_of_names<R: Files<File: Send, Dir: Send> + Threads + Wait + Sync>(
     read: ReadFolder<'_>,
     notes: &mut Vec<Note>,
 ) -> Result<CheckReport, SiteFault>
-    ensures checked { IfOk result (λ report. IsCheckOf options.now (map (λ one. one.map.now) read.entry.maps.now) (map string_bytes read.entry.known.now) report.is_broken report.text.items) }
+    requires { map string_bytes read.made.now.seeds.items ≡ seeds_of options.now }
+    ensures checked { IfOk result (λ report. IsCheckOf options.now (map (λ one. one.map.now) read.entry.maps.now) (map string_bytes read.entry.made.now.ignores.items) report.is_broken report.text.items) }
     ensures incomplete { IfErr result (λ fault. is_unfinished fault ≡ true → IsSiteIncomplete options.now) }
 {
-    let files = files_of(alloc, read.names, options.site.base.as_str(), read.rules)?;
-    let folders = mapped_folders(alloc, read.maps, read.map_rules)?;
-    let seeds = seed_links(alloc, options.paths, options.seeds.as_slice())?;
+    let made = read.made;
+    let files = files_of(alloc, read.names, options.site.base.as_str(), &made.rules)?;
+    let folders = mapped_folders(alloc, read.maps, &made.map_rules)?;
     let found = FolderInput {
         top: files.top(),
-        seeds: seeds.as_slice(),
-        known: read.known,
+        seeds: made.seeds.as_slice(),
+        known: made.ignores.as_slice(),
         maps: folders.as_slice(),
     };
     let settings = settings_of(options, found);

@@ -14,9 +14,10 @@ mod options;
 mod own;
 mod print;
 mod seeds;
+mod settings;
 mod start;
 
-pub use check::{CheckReport, CheckSettings, Files, report_of_files, report_of_pages};
+pub use check::{CheckReport, Files, report_of_files};
 pub use check_report::Lists;
 pub use fault::SiteFault;
 pub use fixes::{FileFix, fixes_of_folder};
@@ -25,4 +26,5 @@ pub use link_fixes::DocumentFix;
 pub use mapped::MappedFolder;
 pub use maps::{FolderMap, MapError, read_maps};
 pub use options::{CheckForm, CheckOptions, Fix, ReportOptions, SiteOptions};
+pub use settings::CheckSettings;
 pub use site_files::Note;

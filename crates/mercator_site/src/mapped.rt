@@ -112,6 +112,7 @@ fn mapped_folder<'a>(
     let input = SiteNames {
         names: one.names.names.as_slice(),
         links: one.names.links.as_slice(),
+        skipped: one.names.skipped.as_slice(),
         base: prefix,
         rules,
     };

@@ -68,6 +68,8 @@ pub struct SiteOptions {
     pub follow: bool,
     /// Whether `url()` and `@import` in style sheets, style elements and style attributes are links.
     pub styles: bool,
+    /// Whether a file without a known suffix is an HTML document if it begins like one. A site list can have such files in any case.
+    pub sniff: bool,
 }
 
 /// The settings of `check`, which reports the broken links of a folder.

@@ -1,12 +1,13 @@
 //! The URLs at which the crawl of a check starts.
-ghost use Rattle.std.specs.Prelude.{◌≡◌, ◌∷◌, [], true, IfErr, IfOk, OnOk, map, string_bytes, Ok, false};
+ghost use Rattle.std.specs.Prelude.{◌≡◌, ◌++◌, [], true, IfErr, IfOk, OnOk, map, string_bytes, Ok, false};
 ghost use Rattle.crawl_keys.specs.CanonicalText.{resolve};
-ghost use Rattle.mercator_site.specs.Checks.{is_left_out, starts};
 ghost use Rattle.mercator_site.specs.Faults.{is_unfinished};
 ghost use Rattle.mercator_site.specs.Maps.{has_page};
 ghost use Rattle.mercator_site.specs.Own.{AreOwn};
+ghost use Rattle.mercator_site.specs.Starts.{documents_in, if_own, is_left_out, starts};
 ghost use Rattle.saved_site.specs.Linked.{page_at};
 ghost use Rattle.site_files.specs.Below.{begins};
+ghost use Rattle.site_files.specs.Own.{start_at};
 
 use crate::fault::SiteFault;
 use crate::own::is_own;
@@ -155,45 +156,37 @@ fn seed_of(alloc: Global, top: &CanonUrl, link: &str) -> Result<CanonUrl, SiteFa
     }
 }
 
-/// The own URLs of the documents, sitemaps and feeds at which a check starts, or none if only what can be reached is checked.
-pub(crate) fn start_urls(
-    alloc: Global,
+/// Appends the own URLs of the documents, sitemaps and feeds at which a check starts, unless only what can be reached is checked.
+pub(crate) fn push_documents(
     top: &CanonUrl,
     files: &SiteFiles<'_>,
     reachable: bool,
-) -> Result<Vec<CanonUrl>, AllocError>
-    ensures own { IfOk result (λ urls. AreOwn top.now urls.items) }
-    ensures only { IfOk result (λ urls. reachable ≡ true → urls.items ≡ []) }
+    urls: &mut Vec<CanonUrl>,
+) -> Result<(), AllocError>
+    ensures { OnOk result (urls.new.items ≡ urls.old.items ++ documents_in reachable files.now top.now) }
 {
     if reachable {
-        return Ok(Vec::new(alloc));
+        return Ok(());
     }
-    own_start_urls(alloc, top, files)
+    'pages: for number in 0..files.page_count() {
+        push_document(top, files, number, urls)?;
+    }
+    Ok(())
 }
 
-/// The own URLs of the HTML and XHTML documents, and of the sitemaps and feeds with a usual name. All are below the top, which is tested
-/// because the contract promises it of any site.
-fn own_start_urls(
-    alloc: Global,
+/// Appends the URL of the page with this number, if a check starts there. All such URLs are below the top, which is tested because no clause
+/// says so.
+fn push_document(
     top: &CanonUrl,
     files: &SiteFiles<'_>,
-) -> Result<Vec<CanonUrl>, AllocError>
-    ensures { IfOk result (λ urls. AreOwn top.now urls.items) }
+    number: usize,
+    urls: &mut Vec<CanonUrl>,
+) -> Result<(), AllocError>
+    ensures { OnOk result (urls.new.items ≡ urls.old.items ++ if_own top.now (start_at files.now number)) }
 {
-    let mut urls = Vec::new(alloc);
-    for number in 0..files.page_count() {
-        if let Some(url) = files.start(number) {
-            push_own(top, url, &mut urls)?;
-        }
-    }
-    Ok(urls)
-}
-
-/// Adds a URL, if it is below the top.
-#[tactic(auto, using(crate::proofs::OwnPages::own_with))]
-fn push_own(top: &CanonUrl, url: &CanonUrl, urls: &mut Vec<CanonUrl>) -> Result<(), AllocError>
-    ensures { AreOwn top.now urls.old.items → OnOk result (AreOwn top.now urls.new.items) }
-{
+    let Some(url) = files.start(number) else {
+        return Ok(());
+    };
     if !is_own(top, url) {
         return Ok(());
     }

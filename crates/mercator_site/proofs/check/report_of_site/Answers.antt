@@ -1,24 +1,7 @@
-use Rattle.mercator_site.proofs.Prelude.{ℕ, List, Result, Ok, Err, IfOk, sym, true, ◌≡◌, err_from_is_err_and, Asks, AreAliasesIn, IsCheck, IsIncompleteAt, IsSiteCheck, IsTopIncomplete, is_unfinished, Alias}
+use Rattle.mercator_site.proofs.Prelude.{map, string_bytes, subst, sym, err_from_is_err_and, asks_in, IsCheck, IsTopIncomplete}
 use Rattle.std.proofs.Common.{true≢false}
-use Rattle.mercator_site.specs.declared.check.CheckReport.{CheckReport}
-use Rattle.mercator_site.specs.declared.fault.SiteFault.{SiteFault}
 use Rattle.mercator_site.proofs.TopCrawls.{aliases_in, source_of, web_of}
-use Rattle.saved_site.specs.AllPages.{IsWebOf}
-use Rattle.saved_site.specs.Below.{IsWebBelow}
-use Rattle.saved_site.specs.Meaning.{IsSiteWeb}
-use Rattle.site_files.specs.declared.files.SiteFiles.{SiteFiles}
-use Rattle.std.specs.Prelude.{Bool, IfErr, Option}
 use Rattle.mercator_site.proofs.check.report_of_site.Goals as goal
-
-site_check : (answer : Result CheckReport SiteFault) (files : SiteFiles) (reads : ℕ → Option (List ℕ) → Type 0) (name top web : List ℕ) (aliases : List Alias) (asks : Asks) → IsSiteWeb web → IsWebOf files reads web → IsWebBelow top web → AreAliasesIn web aliases
-    → IfOk answer (λ report. IsCheck name top web aliases asks report.is_broken report.text.items) → IfOk answer (λ report. IsSiteCheck files reads name top asks report.is_broken report.text.items)
-site_check (Ok report) files reads name top web aliases asks made of_files below are is = record { web = web; made = made; of_files = of_files; below = below; aliases = aliases; are_aliases = are; checked = is }
-site_check (Err fault) files reads name top web aliases asks made of_files below are is = tt
-
-incomplete_at : (answer : Result CheckReport SiteFault) (top web : List ℕ) (reachable : Bool) (links : List (List ℕ)) (workers : ℕ) → IsSiteWeb web
-    → IfErr answer (λ fault. is_unfinished fault ≡ true → IsTopIncomplete top web reachable links workers) → IfErr answer (λ fault. is_unfinished fault ≡ true → IsIncompleteAt top reachable links workers)
-incomplete_at (Ok report) top web reachable links workers made is = tt
-incomplete_at (Err fault) top web reachable links workers made is = λ two. record { web = web; made = made; crawl = is two }
 
 pub returns-clause-checked : goal.returns-clause-checked
 returns-clause-checked g c =
@@ -26,13 +9,33 @@ returns-clause-checked g c =
     let site = c.in_ok-site.site in
     let files = c.args.files.now in
     let reads = g.B.FileBytes.reads c.args.bytes.now in
-    site_check c.report_of_pages.result files reads _ _ source.bytes site.aliases.items _ source.web (web_of files reads _ site.pages source c.in_ok-site.ensures.served (c.has_all_pages.ensures c.if-not-has_all_pages.false)) source.below
-    (aliases_in site.pages source.bytes site.aliases.items (source_of _ _ source) c.in_ok-site.ensures.aliases) (c.report_of_pages.ensures.checked source.bytes (source_of _ _ source))
+    let report = c.in_ok-report.report in
+    let name = c.args.settings.name.now in
+    let asks = asks_in c.args.settings in
+    record {
+      web = source.bytes;
+      made = source.web;
+      of_files = web_of files reads _ site.pages source c.in_ok-site.ensures.served (c.has_all_pages.ensures.all c.if-not-has_all_pages.false);
+      below = source.below;
+      aliases = site.aliases.items;
+      are_aliases = aliases_in site.pages source.bytes site.aliases.items (source_of _ _ source) c.in_ok-site.ensures.aliases;
+      checked =
+          subst (λ t. IsCheck files name t source.bytes site.aliases.items asks report.is_broken report.text.items) c.requires
+          (c.in_ok-report.ensures.checked source.bytes (source_of _ _ source));
+    }
 
-pub returns-clause-incomplete : goal.returns-clause-incomplete
-returns-clause-incomplete g c =
+pub returns-in_err-report-clause-incomplete : goal.returns-in_err-report-clause-incomplete
+returns-in_err-report-clause-incomplete g c =
+    let r = c.from_residual-in_err-report in
+    let same = err_from_is_err_and r.result r.ensures.1 in
     let source = c.in_ok-site.ensures.source in
-    incomplete_at c.report_of_pages.result _ source.bytes _ _ _ source.web (c.report_of_pages.ensures.incomplete source.bytes (source_of _ _ source))
+    rw (same.1, same.2) (λ two. record {
+      web = source.bytes;
+      made = source.web;
+      crawl =
+          subst (λ t. IsTopIncomplete t source.bytes c.args.settings.reachable (map string_bytes c.args.settings.seeds.now) c.args.settings.workers) c.requires
+          (c.in_err-report.ensures.incomplete source.bytes (source_of _ _ source) two);
+    })
 
 pub returns-in_err-push_page_notes-clause-incomplete : goal.returns-in_err-push_page_notes-clause-incomplete
 returns-in_err-push_page_notes-clause-incomplete g c =

@@ -1,4 +1,4 @@
-use Rattle.mercator_site.proofs.Prelude.{List, ℕ, Result, IfOk, map, string_bytes, subst, ◌≡◌, ◌∙◌, ap}
+use Rattle.mercator_site.proofs.Prelude.{List, ℕ, Result, IfOk, subst, ◌≡◌, ◌∙◌, ap, map}
 use Rattle.mercator_site.specs.Ends.{IsCheckOf}
 use Rattle.mercator_site.specs.declared.check.CheckReport.{CheckReport}
 use Rattle.mercator_site.specs.declared.fault.SiteFault.{SiteFault}
@@ -17,4 +17,4 @@ pub returns-clause-folder : goal.returns-clause-folder
 returns-clause-folder g c =
     let of : MapNames → FolderMap = λ one. one.map.now in
     same_check c.report_of_names.result c.args.options.now _ _ _ _ (ap (map of) c.as_slice-2.ensures.value ∙ c.in_ok-maps.ensures.maps ∙ c.as_slice.ensures.value)
-    (ap (map string_bytes) c.as_slice-3.ensures.value ∙ c.in_ok-known.ensures) c.report_of_names.ensures.checked
+    c.in_ok-made.ensures.ignores c.report_of_names.ensures.checked

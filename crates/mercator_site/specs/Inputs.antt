@@ -1,0 +1,47 @@
+-- What a check reads of its settings and of the site.
+use Rattle.std.specs.Prelude.{ℕ, Bool, List, map, string_bytes, Option, option_map}
+use Rattle.crawl_pages.specs.declared.page.PageResult.{PageResult}
+use Rattle.mercator_site.specs.Asks.{Asks}
+use Rattle.site_check.specs.declared.input.CheckInput.{CheckInput}
+use Rattle.site_check.specs.declared.input.MapName.{MapName}
+use Rattle.site_files.specs.declared.alias.Alias.{Alias}
+
+pub record Input : Type 0 where
+  pub front : List ℕ
+  pub entries : List (List ℕ)
+  pub invalid : Bool
+  pub rooted : Bool
+  pub maps : List MapName
+  -- the results among which are the pages that are not below the top
+  pub found : List PageResult
+  pub aliases : List Alias
+  pub documents : List (List ℕ)
+  -- what a search finds, if unreached files are listed
+  pub reached : Option (List PageResult)
+
+abbrev pub input_in : CheckInput → Input
+input_in input = record {
+  front = input.front.now;
+  entries = map string_bytes input.ignores.now;
+  invalid = input.invalid;
+  rooted = input.rooted;
+  maps = input.maps.now;
+  found = input.found.now;
+  aliases = input.aliases.now;
+  documents = input.documents.now;
+  reached = option_map (λ results. results.now) input.reached;
+}
+
+-- with these settings
+abbrev pub input_with : Asks → List MapName → List PageResult → List Alias → List (List ℕ) → Option (List PageResult) → Input
+input_with asks maps found aliases documents reached = record {
+  front = asks.front;
+  entries = asks.entries;
+  invalid = asks.invalid;
+  rooted = asks.rooted;
+  maps = maps;
+  found = found;
+  aliases = aliases;
+  documents = documents;
+  reached = reached;
+}
