@@ -82,20 +82,29 @@ fn wrong_pages<R: Threads>(
     Some(wrong)
 }
 
-// How many of them each of two threads gets otherwise.
-fn wrong_in_two<R: Threads + Sync>(rt: &R, alloc: Global) -> Option<(usize, usize)> {
+// How many pages of the site each of two threads gets otherwise.
+fn wrong_in_site<R: Threads + Sync>(rt: &R, alloc: Global) -> Option<(usize, usize)> {
     let text = site(alloc).ok()?;
     let web = SavedWeb::read_in_threads(rt, alloc, text.as_bytes()).ok()?;
-    let source = WebInThreads::new(rt, alloc, &web, true);
+    wrong_in_two(rt, alloc, &web)
+}
+
+// How many pages of the web each of two threads gets otherwise.
+fn wrong_in_two<R: Threads + Sync>(
+    rt: &R,
+    alloc: Global,
+    web: &SavedWeb<'_>,
+) -> Option<(usize, usize)> {
+    let source = WebInThreads::new(rt, alloc, web, true);
     let (one, other) = join(
         rt,
-        || wrong_pages(alloc, &web, &source),
-        || wrong_pages(alloc, &web, &source),
+        || wrong_pages(alloc, web, &source),
+        || wrong_pages(alloc, web, &source),
     );
     Some((one?, other?))
 }
 
 #[test]
 fn links_found_ahead(rt: HostRuntime) {
-    assert!(rt; wrong_in_two(&rt, rt.alloc()) == Some((0, 0)));
+    assert!(rt; wrong_in_site(&rt, rt.alloc()) == Some((0, 0)));
 }

@@ -32,19 +32,26 @@ fn new_page(alloc: Global, url: &str, change: Change) -> Option<Page> {
     }
 }
 
+// A copy of the result, with the change if it is about this result.
+fn copy_with(alloc: Global, one: &PageResult, change: Change) -> Option<PageResult> {
+    let url = one.url.as_str();
+    if matches!(change, Change::Without(at) if at == url) {
+        return None;
+    }
+    let mut copy = one.copy().ok()?;
+    if let Some(page) = new_page(alloc, url, change) {
+        copy.page = page;
+    }
+    Some(copy)
+}
+
 // Copies of the results, with the change.
 fn changed(alloc: Global, found: &[PageResult], change: Change) -> Vec<PageResult> {
     let mut results = Vec::new(alloc);
     for one in found {
-        let url = one.url.as_str();
-        if matches!(change, Change::Without(at) if at == url) {
-            continue;
+        if let Some(copy) = copy_with(alloc, one, change) {
+            let _ = results.push(copy);
         }
-        let Ok(mut copy) = one.copy() else { continue };
-        if let Some(page) = new_page(alloc, url, change) {
-            copy.page = page;
-        }
-        let _ = results.push(copy);
     }
     if let Change::More(url) = change
         && let Ok(url) = canonical(alloc, url)
