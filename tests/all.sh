@@ -63,6 +63,8 @@ part tests/plain_texts.py
 part tests/serve.py
 part tests/check.py --drawn 10000 --changed 50 --large 20000
 part tests/check.py --model --drawn 1000
+part tests/definitions.py --drawn 300 --package debian-faq --package mkdocs-doc --package debian-policy
+part tests/definitions.py --edits --drawn 300
 part tests/warc.py
 part tests/site.py
 part tests/cluster_model.py
