@@ -578,7 +578,7 @@ class Folders(Converting):
                 "http://a.test/other": ["moved /other/"],
             },
         )
-        self.assertIn("skipped, neither a file nor a folder: gone\n", self.notes)
+        self.assertIn("skipped, a symbolic link to nothing: gone\n", self.notes)
         exact = self.converted("--exact")
         self.assertEqual(exact["http://a.test/other/x.html"], ["link /dir/x.html"])
         self.assertEqual(set(pages) | {"http://a.test/other/x.html"}, set(exact))
@@ -607,7 +607,7 @@ class Folders(Converting):
         note = "converter: skipped, a symbolic link that leads out of the folder (--follow follows it): {}\n"
         for name in ("device.html", "dir", "near", "through", "twice.html"):
             self.assertIn(note.format(name), self.notes)
-        self.assertIn("skipped, neither a file nor a folder: gone.html\n", self.notes)
+        self.assertIn("skipped, a symbolic link to nothing: gone.html\n", self.notes)
         pages = self.converted("--follow")
         for name in ("dir/b.html", "near/a.html", "twice.html"):
             self.assertEqual(pages[f"http://a.test/{name}"], ["link x"])
@@ -698,7 +698,7 @@ class Documents(Converting):
             '<link rel="stylesheet" href="x"><link rel="preconnect" href="//y">': ["x"],
             '<template><a href="x"><template></template></template></template><a href="y">': ["y"],
             '<p><template shadowrootmode="open"><a href="x"><template/><a href="z"></template></template><a href="y">': ["x", "y"],
-            '<link rel="preconnect DNS-Prefetch" href="//y"><link href="x">': ["x"],
+            '<link rel="preconnect DNS-Prefetch" href="//y"><link href="y"><link itemprop href="x">': ["x"],
             '<link rel="prev DNS-Prefetch" href="//y"><link rel="" href="x">': ["//y"],
             '<script src="x"></script><iframe src="y"></iframe><area href="z">': ["x", "y", "z"],
             '<video src="x" poster="y"><source src="z"><track src="t"></video>': ["x", "y", "z", "t"],

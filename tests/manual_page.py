@@ -14,7 +14,7 @@ made.
   other arguments.
 - bash and zsh complete the commands, the options of each, and files where a value is a file. zsh runs
   in a terminal, if it is installed.
-- The version of CHANGELOG.md is that of the program, of the page and of the Python clients.
+- The version of CHANGELOG.md is that of the program, of the page and of the clients.
 
 It prints each difference, with a command that makes only this comparison, and at the end `N passed,
 M failed`. The exit status is 1 if anything differs.
@@ -377,6 +377,8 @@ def compare_versions(trial: Trial, program: str) -> None:
     trial.equal("the program's version", shown.stdout.split()[:2], ["mercator", version])
     clients = version_in("clients/python/make_wheel.py", 'NAME, VERSION = "mercator_clients", "')
     trial.equal("the version of the Python clients", clients, version)
+    trial.equal("the version of the Node client", version_in("clients/node/package.json", '  "version": "'), f"{version}.0")
+    trial.equal("the version of the Go client", version_in("clients/go/README.md", "go mod edit -require=mercator.example/frontier@v"), f"{version}.0")
 
 
 def main() -> None:

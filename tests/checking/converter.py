@@ -26,6 +26,7 @@ from __future__ import annotations
 
 import argparse
 import collections
+import errno
 import html
 import html.entities
 import html.parser
@@ -413,7 +414,7 @@ def is_link(tag: str, name: str, found: dict[str, str]) -> bool:
     """Return whether an attribute of an element is a link, by the other attributes."""
     kind = found.get("type", "").lower()
     if tag == "link":
-        return "rel" not in found or not set(re.split("[\t\n\f\r ]", found["rel"].lower())) <= {"", *HOST_HINTS}
+        return not set(re.split("[\t\n\f\r ]", found["rel"].lower())) <= {"", *HOST_HINTS} if "rel" in found else "itemprop" in found
     if tag == "input":
         return kind == "image" or name == "formaction" and kind == "submit"
     if tag == "button":
@@ -902,8 +903,7 @@ def entries_below(folder: bytes, web: Web, follow: bool) -> Names:
             elif os.path.isfile(path):
                 names.paths.append(place + name)
             else:
-                why = "it cannot be read" if is_hidden(path) else "neither a file nor a folder"
-                web.note(f"skipped, {why}", os.fsdecode(place + name))
+                web.note(f"skipped, {why_skipped(path)}", os.fsdecode(place + name))
     names.paths.sort()
     return names
 
@@ -927,15 +927,16 @@ def leads_out(path: bytes, top: bytes) -> bool:
     return not (os.path.realpath(path) + b"/").startswith(os.path.join(top, b""))
 
 
-def is_hidden(path: bytes) -> bool:
-    """Return whether there is no permission to look at this path."""
+def why_skipped(path: bytes) -> str:
+    """Return why something that is neither a file nor a folder is skipped."""
     try:
         os.stat(path)
     except PermissionError:
-        return True
-    except OSError:
-        pass
-    return False
+        return "it cannot be read"
+    except OSError as error:
+        if error.errno in (errno.ENOENT, errno.ENOTDIR, errno.ELOOP):
+            return "a symbolic link to nothing"
+    return "neither a file nor a folder"
 
 
 def kind_of(name: bytes) -> tuple[Optional[str], bool]:

@@ -176,8 +176,8 @@ def link_names(tag: Tag) -> Tuple[str, ...]:
     return () if tag.name == "font" else ("href", "xlink:href")
 
 
-def texts_of(tag: Tag, found: Dict[str, Attribute]) -> List[Link]:
-    """The links of a start tag."""
+def texts_of(tag: Tag, found: Dict[str, Attribute], is_inner: bool = False) -> List[Link]:
+    """The links of a start tag. Of a tag in a document in a frame, an attribute that names an anchor of that document is none."""
     values = {name: attribute.value for name, attribute in found.items()}
     is_foreign = tag.context.kind in ("svg", "math")
     if tag.name == "meta" and values.get("http-equiv", "").lower() == "refresh":
@@ -186,8 +186,28 @@ def texts_of(tag: Tag, found: Dict[str, Attribute]) -> List[Link]:
     for name in link_names(tag):
         if name in found and (is_foreign or TOOL.is_link(tag.name, name, values)):
             value = found[name]
-            texts = TOOL.candidates(value.value) if name.endswith("srcset") else [value.value]
-            links += [Link(text, value.at) for text in texts]
+            if name.endswith("srcset"):
+                links += [Link(text, value.at) for text in TOOL.candidates(value.value)]
+            elif not is_inner or not value.value.startswith("#"):
+                links.append(Link(value.value, value.at))
+    return links
+
+
+def is_base(tag: Tag, found: Dict[str, Attribute]) -> bool:
+    """Whether a start tag sets the base of its document, if it is the first one."""
+    return tag.name == "base" and tag.context.kind in ("html", "xml") and "href" in found
+
+
+def frame_links(tag: Tag, found: Dict[str, Attribute]) -> List[Link]:
+    """The links before any base of the document in the `srcdoc` of a frame, at the position of the value. Those of its styles, and of frames in it, are left out."""
+    if tag.name != "iframe" or tag.context.kind not in ("html", "xml") or "srcdoc" not in found:
+        return []
+    value, links = found["srcdoc"], []
+    for inner in page_tags(value.value):
+        attributes = firsts(inner)
+        if is_base(inner, attributes):
+            break
+        links += [Link(link.text, value.at) for link in texts_of(inner, attributes, True)]
     return links
 
 
@@ -214,10 +234,9 @@ def read_tags(text: str, xml: bool = False, styles: bool = False) -> Tuple[List[
     base = None
     for tag in page_tags(text, xml):
         found = firsts(tag)
-        is_base = tag.name == "base" and tag.context.kind in ("html", "xml")
-        if is_base and base is None and "href" in found:
+        if base is None and is_base(tag, found):
             base = found["href"].value
-        links += (styles_of(tag, found, text) if styles else []) + texts_of(tag, found)
+        links += (styles_of(tag, found, text) if styles else []) + texts_of(tag, found) + frame_links(tag, found)
         if "id" in found:
             ids.add(found["id"].value)
         if tag.name == "a" and "name" in found:

@@ -71,7 +71,7 @@ PIECES = [
     "<template/><a href=gone55.html>", "<template><a href=gone31.html><p id=x></template>", "<template id=y>", "</template>", "<template shadowrootmode=open><a href=gone32.html></template>",
     "<input src=gone33.png><input type=image src=gone34.png formaction=gone35.html>", "<meta name=twitter:image content=gone36.png>",
     "<button formaction='gone37.html'>", "<img longdesc=gone38.html src=gone39.png><param name=movie value='gone40'>",
-    "<link rel=preconnect href=gone10.css>", "<a href='gone11.html", "<p title=\"", "<a href=\n\n  'gone12.html'>", "\u00fc<a href=gone13.html>",
+    "<link rel=preconnect href=gone10.css>", "<link rev=made href=no10>", "<link itemprop=x href=gone10.html>", "<a href='gone11.html", "<p title=\"", "<a href=\n\n  'gone12.html'>", "\u00fc<a href=gone13.html>",
     "<a\n href=gone14.html\n>", "\u65e5\u672c<img src=gone15.png>", "<!doctype html>", "<![CDATA[<a href=gone16.html>]]>", "\t<a href=gone17.html>",
     "<a href=http://other.test/a>", "<img src=HTTP://Other.test:80/a#b><a href='//other.test/'>", "<a href=https://docs.test.org/?a&amp;b>",
     "<a href=https://docs.test/x><a href=http://www.docs.test/>", "<a href=http://docs.test:8080/x><a href=http://docs.tes/>",
@@ -174,16 +174,26 @@ def random_file(draw: Random, documents: Any, names: List[str], name: str) -> by
         text += f'<link rel=stylesheet href="{path_to(draw, spelled(draw, sheet), place)}">'
     if draw.random() < 0.5:
         text += documents.drawn_document(draw, draw.random() < 0.5)
+    if draw.random() < 0.15:
+        text += random_frame(draw, documents, names, place)
     encoding = draw.choice(["utf-8"] * 6 + ["cp1252", "latin-1", "utf-16-le", "utf-16-be", "utf-8-sig"])
     mark = {"utf-16-le": b"\xff\xfe", "utf-16-be": b"\xfe\xff"}.get(encoding, b"")
     return mark + text.encode(encoding, "replace") + (b"\xff\x81" if draw.random() < 0.05 else b"")
+
+
+def random_frame(draw: Random, documents: Any, names: List[str], place: str) -> str:
+    """A frame with a random document in it."""
+    links = "".join(f'<a href="{random_link(draw, names, place)}">' for _ in range(draw.randint(0, 4)))
+    inner = draw.choice(["", "", "<base href=sub/>", "<base>", "<template>", "<svg>"]) + links + documents.drawn_document(draw, False)
+    inner = html.escape(inner) if draw.random() < 0.7 else inner.replace('"', "&quot;")
+    return f'<iframe {draw.choice(["", "src=a.html ", "SRCDOC=x "])}srcdoc="{inner}">' + draw.choice(["</iframe>", "</iframe>", "</iframe>", ""])
 
 
 # In a style sheet, around a link, and elsewhere
 SHEET_LINKS = ["url({})", "url( '{}' )", 'URL("{}"', "@import '{}';", '@import/* x */ "{}" screen;', "@import url({}) print;", "a{{b:url({}),url(gone1.png)}}"]
 SHEET_PIECES = [
     "/* url(no3) */", "content:'url(no4)'", 'content:"@import";', "@import;'no5'", "\n", "\r\n", "a{color:#fff}", "\u00fc{}", "<!-- -->", "/* \n", "*/", "}",
-    "@media print{", "url(#x)", "url(y.svg#z)", "url(data:,x)", "@font-face{src:url(gone2.eot?#iefix)}", "@imports 'no9'",
+    'content:"\\"url(no6)";', "content:'\\\\';", "a{b:no-url(no7)}", "#url(no8)", "content:'url(no9)\n", '}\\"{', "@media print{", "url(#x)", "url(y.svg#z)", "url(data:,x)", "@font-face{src:url(gone2.eot?#iefix)}", "@imports 'no9'",
 ]
 
 
@@ -192,12 +202,30 @@ def without_escapes(link: str) -> str:
     return "".join(one for one in link if one not in "\\'\"() \x7f" and one >= " ")
 
 
+def with_escapes(draw: Random, link: str, shape: str) -> str:
+    """A link with escapes for what would end or break off the URL or the text in quotes that it is in, and for some other characters."""
+    ends = '"\\\n\r\f' if '"{}"' in shape else "'\\\n\r\f" if "'{}'" in shape else None
+    share = draw.choice((0, 0, 0, 0.1))
+    letters = []
+    for one in link:
+        is_end = one in ends if ends else one <= " " or one in "\\'\"()\x7f"
+        letters.append(escaped_in_sheet(draw, one) if is_end or draw.random() < share else one)
+    return "".join(letters)
+
+
+def escaped_in_sheet(draw: Random, letter: str) -> str:
+    """A character as an escape of a style sheet."""
+    number = f"{ord(letter):x}"
+    forms = [number + " ", number + "\n", number + "\r\n", number.upper() + "\t", number.zfill(6)]
+    return "\\" + draw.choice(forms if letter in "0123456789abcdefABCDEF\n\r\f" else [letter, *forms])
+
+
 def random_sheet(draw: Random, names: List[str], place: str) -> bytes:
-    """The bytes of a random style sheet in the folder `place`, without broken strings and URLs, escapes, and functions that end in `url`."""
+    """The bytes of a random style sheet in the folder `place`, without broken URLs."""
     text = draw.choice(["", "", "", '@charset "utf-8";', '@charset "L1";', '@charset "koi8-r";', '@charset "utf-16";', "@charset 'l1';"])
     for _ in range(draw.randint(0, 8)):
-        link = without_escapes(random_link(draw, names, place))
-        text += draw.choice([draw.choice(SHEET_LINKS).format(link), draw.choice(SHEET_PIECES), draw.choice(SHEET_PIECES)])
+        shape, link = draw.choice(SHEET_LINKS), random_link(draw, names, place)
+        text += draw.choice([shape.format(with_escapes(draw, link, shape)), draw.choice(SHEET_PIECES), draw.choice(SHEET_PIECES)])
     encoding = draw.choice(["utf-8"] * 5 + ["cp1252", "utf-16-le", "utf-8-sig"])
     return {"utf-16-le": b"\xff\xfe"}.get(encoding, b"") + text.encode(encoding, "replace") + (b"\xff" if draw.random() < 0.05 else b"")
 
@@ -359,7 +387,7 @@ NEW_FOLDERS = ["moved/", "moved/", "moved/\u00fc/", "new name/", "sub/deep/", "a
 AROUND = [
     '<a href="{}">x</a>', "<a href='{}'>", "<a href={}>", "<a href=' {}'>", "<a href='{} '>", "<a\r\nhref='{}'>\r\n", "\u00fc<img src='{}'>\n", "<img srcset='{} 1x, {} 2x'>",
     "<img srcset='{0} 1x, a 2x' src='{0}'>", "<p style='a:url({})'>", "<style>a{{b:url( \"{}\" )}}</style>\n", "<meta http-equiv=refresh content='0;url={}'>", "<svg><a xlink:href='{}'/></svg>",
-    "<a href='{}'>{}</a>\U0001f514", "<!-- <a href='{}'> -->", "<template><a href='{}'></template>", "<link rel=stylesheet href='{}'>", "<a name='{}'>",
+    "<a href='{}'>{}</a>\U0001f514", "<!-- <a href='{}'> -->", "<template><a href='{}'></template>", "<iframe srcdoc='&lt;a href={}>'></iframe>", "<link rel=stylesheet href='{}'>", "<a name='{}'>",
 ]
 MOVED_HEADS = ["", "", "", "", "<!doctype html>\n", "<meta charset=l1>", "<meta charset=koi8-r>", "<base href='{}'>", "\ufeff"]
 

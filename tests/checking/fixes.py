@@ -1,6 +1,6 @@
 """The links that `check --fix` rewrites, by the rules in the manual: the new bytes of each file, the diff and the notes.
 
-A link with a move leads to a redirect from a folder without its last slash, or to a missing page that has one candidate.
+A link with a move leads to a redirect from a folder without its last slash, or to a missing page that has one candidate. Its query stays.
 """
 
 from __future__ import annotations
@@ -11,7 +11,7 @@ from typing import Dict, Iterator, List, NamedTuple, Optional, Tuple
 
 import drawn
 from checking.documents import TOOL, Document, document_of, with_query_in
-from checking.model import Base, Found, Model, Moved, Row, begins_path, last_of, origin_of
+from checking.model import Alias, Base, Found, Model, Moved, Row, begins_path, last_of, origin_of
 from checking.printing import shown, targets
 
 SCHEME = re.compile("[A-Za-z][A-Za-z0-9+.-]*:")
@@ -49,9 +49,10 @@ class Fixer:
         self.candidates = self.moves_by_file()
 
     def folders_without_slash(self) -> Iterator[Tuple[str, str]]:
-        """The URLs that redirect to a page whose URL has one more slash at its end, other than a path through a symbolic link to a folder."""
+        """The URLs that redirect to a file whose URL has one more slash, at the end of its path."""
         for url, response in self.model.responses.items():
-            if isinstance(response, Moved) and response.url == url + "/" and response.url in self.site.by_url:
+            path, mark, query = url.partition("?")
+            if isinstance(response, Moved) and response.url == path + "/" + mark + query and isinstance(self.site.served(response.url), (Found, Alias)):
                 yield url, response.url
 
     def moves_by_file(self) -> Dict[str, Moves]:
@@ -62,13 +63,18 @@ class Fixer:
             url = self.whole(row["target"])
             if row["same_name"] is not None and self.is_certain(url, names[last_of(url)][0], places):
                 for place in places:
-                    found.setdefault(place["file"], {})[url] = names[last_of(url)][0]
+                    found.setdefault(place["file"], {})[url] = with_query_of(url, names[last_of(url)][0])
         return found
 
     def is_certain(self, url: str, candidate: str, places: List[Row]) -> bool:
-        """Whether the links at these locations can only be meant for a candidate: not those with a query, to an index file, or, without BASE, to a path from the root."""
+        """Whether the links at these locations can only be meant for a candidate: not those to an index file or, without BASE, to a path from the root.
+
+        With the query of the link, the server returns the same file.
+        """
         is_outside = self.model.settings.is_rooted() and any((place["written"] or "").startswith(("/", "\\")) for place in places)
-        return "?" not in url + candidate and last_of(url) not in self.model.settings.indices and not is_outside
+        files = [self.site.served(one) for one in (candidate, with_query_of(url, candidate))]
+        is_same = all(isinstance(one, (Found, Alias)) for one in files) and len({one.name for one in files if isinstance(one, (Found, Alias))}) == 1
+        return "?" not in candidate and is_same and last_of(url) not in self.model.settings.indices and not is_outside
 
     def whole(self, target: str) -> str:
         """The URL of a target of the report."""
@@ -158,7 +164,7 @@ class Page:
         rest = written[len(path):]
         if lead in self.redirects:
             return path + "/" + rest
-        new = self.new_path(written, self.moves[lead])
+        new = self.new_path(written, self.moves[lead].partition("?")[0])
         is_right = written.startswith(("/", "\\")) or SCHEME.match(written) or self.leads_to(written, lead) and self.leads_to(new + rest, self.moves[lead])
         return new + rest if is_right and PLAIN.fullmatch(new) else None
 
@@ -198,6 +204,11 @@ class Page:
     def left(self, new: bytes) -> int:
         """How many links with a move lead where they led."""
         return sum(now in self.moves and now == old for now, old in zip(self.leads_of(self.read(new)), self.leads))
+
+
+def with_query_of(url: str, candidate: str) -> str:
+    """The URL of a candidate with the query of another URL."""
+    return candidate + "".join(url.partition("?")[1:])
 
 
 def utf8(body: bytes) -> Optional[str]:

@@ -5,7 +5,7 @@ from __future__ import annotations
 from typing import Any, Dict, List, NamedTuple, Optional, Tuple, Union
 
 from checking.documents import known_schemes
-from checking.model import HOSTS, NOWHERE
+from checking.model import HOSTS, LEADS_NOWHERE, LEADS_OUT, NOWHERE
 
 
 class To(NamedTuple):
@@ -55,6 +55,7 @@ def error(text: str) -> Tuple[Dict[str, Any]]:
 INDICES = (("indices", ("home.html", "index.htm")),)
 FALLBACK = (("fallback", True),)
 FOLLOW = (("follow", True),)
+LONG = "/".join(["%" * 200] * 8)  # a path with 1,607 bytes, and 4,807 in a URL
 NO_BASE = (("base", NOWHERE), ("front", NOWHERE), ("external", True))
 NO_STYLES = (("styles", False),)
 # A site with documents that the top does not lead to. Two of them lead to each other
@@ -67,6 +68,19 @@ ORPHANS: Dict[str, Union[str, bytes, To, Zeros]] = {
 def hint(target: str, text: Optional[str]) -> Tuple[Dict[str, Any]]:
     """The row of a missing page with this hint."""
     return ({"kind": "broken", "target": target, "hint": text},)
+
+
+# Missing pages that symbolic links are on the way to, and the hint of each
+SKIPPED_LINKS: Dict[str, Optional[str]] = {
+    "a": LEADS_OUT, "a/": LEADS_OUT, "a/gone": LEADS_OUT, "d/a/in.html": LEADS_OUT, "d//a?q": LEADS_OUT, "v/a/in.html": LEADS_OUT, "s.js": LEADS_OUT, "%73.js?q": LEADS_OUT,
+    "s.js/x": LEADS_OUT, "gone.html": LEADS_NOWHERE, "gone/x/y": LEADS_NOWHERE, "itself": LEADS_NOWHERE, "deep/gone": LEADS_NOWHERE, "deep/a/x": LEADS_NOWHERE, "null": None,
+    "in.html/x": None, "b": "b.html exists: --fallback html", "ab": None, "A": None,
+}
+SKIPPED: Dict[str, Union[str, bytes, To, Zeros]] = {
+    "index.html": "\n".join(f"<a href={link}>" for link in SKIPPED_LINKS), "a": To("../site2"), "a.html": "", "gone.html": To("none"), "gone": To("none/x"),
+    "d/a": To("../../site2"), "v": To("d"), "s.js": To("../out.js"), "itself": To("itself"), "deep": To("index.html/x"), "null": To("/dev/null"), "in.html": To("b.html"), "b.html": "",
+    "../site2/in.html": "", "../out.js": "",
+}
 
 
 def written(target: str, text: Optional[str]) -> Tuple[Dict[str, Any]]:
@@ -137,7 +151,7 @@ KNOWN = [
     Known("an anchor of a folder", {"index.html": "<a href=f#x><a href=f#y>", "f/index.html": "<p id=x>"}, ["f/#y index.html:1:21"]),
     Known(
         "any anchor of a file that is not a document",
-        {"index.html": "<a href=a.pdf#page=2><img src=b.png#x><img src=b.svgz#x><link href=c.css#x>", "a.pdf": "", "b.png": "", "b.svgz": "", "c.css": ""},
+        {"index.html": "<a href=a.pdf#page=2><img src=b.png#x><img src=b.svgz#x><link rel=stylesheet href=c.css#x>", "a.pdf": "", "b.png": "", "b.svgz": "", "c.css": ""},
         [],
     ),
     Known(
@@ -198,7 +212,36 @@ KNOWN = [
             "gone.html in.html:1:9", "b/gone.html b/a.html:1:9", "near/a.html index.html:1:79", "out.html index.html:1:43",
             "out/a.html index.html:1:60",
         ],
-        total(pages=3, links=7, redirects=0, aliases=1),
+        (
+            *total(pages=3, links=7, redirects=0, aliases=1), *hint("gone.html", None), *hint("near/a.html", LEADS_OUT), *hint("out.html", LEADS_OUT),
+            *hint("out/a.html", LEADS_OUT),
+        ),
+    ),
+    Known(
+        "links to symbolic links that are not followed",
+        SKIPPED,
+        [f"{link} index.html:{line}:9" for line, link in enumerate(SKIPPED_LINKS, 1)],
+        tuple(row for link, text in SKIPPED_LINKS.items() for row in hint(link, text)),
+        settings=NO_BASE,
+    ),
+    Known(
+        "links to symbolic links to nothing, if all are followed",
+        {"index.html": "<a href=a/in.html><a href=a/gone><a href=b/c><a href=d>", "a": To("../site2"), "b": To("none"), "d": To("d"), "../site2/in.html": ""},
+        ["a/gone index.html:1:27", "b/c index.html:1:42", "d index.html:1:54"],
+        (*hint("a/gone", None), *hint("b/c", LEADS_NOWHERE), *hint("d", LEADS_NOWHERE)),
+        settings=(*NO_BASE, *FOLLOW),
+    ),
+    Known(
+        "queries and symbolic links that are not followed",
+        {
+            "index.html": "<a href='s%3Fx'>\n<a href='s?x'>\n<a href='s?x%20y/z'>\n<a href='s?x/z'>\n<a href='d%3Fq/z'>\n<a href='t?x'>\n", "s?x": To("../out.html"),
+            "s?x y": To("none"), "d?q": To("../site2"), "t": To("../out.html"), "../out.html": "", "../site2/z": "",
+        },
+        ["d%3Fq/z index.html:5:10", "s%3Fx index.html:1:10", "s?x index.html:2:10", "s?x%20y/z index.html:3:10", "s?x/z index.html:4:10", "t?x index.html:6:10"],
+        (
+            *hint("s%3Fx", LEADS_OUT), *hint("s?x", None), *hint("s?x%20y/z", None), *hint("s?x/z", None), *hint("d%3Fq/z", LEADS_OUT), *hint("t?x", None),
+        ),
+        settings=(*NO_BASE, ("queries", True)),
     ),
     Known(
         "a symbolic link to the folder of the latest version",
@@ -285,6 +328,12 @@ KNOWN = [
             "d//gone d/b.html:1:9",
         ],
         (*total(pages=5, links=9, redirects=1, aliases=4), {"kind": "redirect", "page": "/d", "to": "d/", "pages": 1}),
+    ),
+    Known(
+        "a short spelling of a page whose own URL is too long for a line",
+        {"index.html": f"<a href={LONG}/>", f"{LONG}/index.html": "<a href=no>"},
+        [f"{LONG}/ index.html:1:9", LONG.replace("%", "%25") + "/"],
+        total(pages=1, links=1, redirects=0, aliases=0),
     ),
     Known(
         "escaped slashes",
@@ -396,6 +445,40 @@ KNOWN = [
         [f"s+x.y-z: index.html:1:{1 + sum(28 + 2 * len(scheme) for scheme in known_schemes()) + len('<a href=')}"],
     ),
     Known(
+        "links of a document in a frame",
+        {
+            "index.html": "<iframe src=1 longdesc=2 srcdoc=\"<a href=3&amp;amp;4><img src=#x srcset='#y 1x'><style>a{b:url(5)}</style><p style='c:url(6)'>"
+            "<iframe srcdoc='<a href=7>' src=8></iframe><base target=b><base href=b/><a href=9>\"></iframe>\n<a href=10>",
+        },
+        ["./#y index.html:1:34", "1 index.html:1:13", "10 index.html:2:9", "2 index.html:1:24", "3&4 index.html:1:34", "8 index.html:1:34"],
+        total(pages=1, links=6, redirects=0, aliases=0),
+    ),
+    Known(
+        "documents in frames, with references, templates and a base of the page",
+        {
+            "index.html": "<base href=d/>\n<iframe srcdoc='&lt;p id=x&gt;&#60;a href=&quot;1&quot;><a href=&quot; #x&quot;>'></iframe><a href=../#x>\n<iframe srcdoc='<template><a href=no><base href=e/></template>"
+            "<svg><use href=\"2\"/></svg><iframe><a href=no></iframe><meta http-equiv=refresh content=\"0;url=3\">'></iframe>",
+        },
+        ["./#x index.html:2:100", "d/ index.html:2:17", "d/1 index.html:2:17", "d/2 index.html:3:17", "d/3 index.html:3:17"],
+    ),
+    Known(
+        "documents in frames, in XHTML and elsewhere",
+        {
+            "x.xhtml": "<iframe srcdoc='&lt;a href=\"1\"/>&lt;title/>&lt;a href=\"no\"/>'/>\n<svg><iframe srcdoc='&lt;a href=\"2\">'/></svg>",
+            "y.html": "<frame srcdoc='<a href=no>'><svg><iframe srcdoc='<a href=no>'/></svg><svg><desc><iframe srcdoc='<a href=3>'></iframe></desc></svg><template><iframe srcdoc='<a href=no>'></iframe></template>",
+        },
+        ["1 x.xhtml:1:17", "2 x.xhtml:2:22", "3 y.html:1:97"],
+    ),
+    Known(
+        "elements `link` without rel",
+        {
+            "index.html": "<link href=no><link rev=made href=no><link itemprop href=1><link itemprop=x rel='' href=no imagesrcset=no><link rel=next href=2>"
+            "<link itemprop=y imagesrcset='3 1x' href=4><svg><link href=5></svg>",
+            "x.xhtml": "<link href='no'/>\n<link itemprop='' href='6'/>",
+        },
+        ["1 index.html:1:58", "2 index.html:1:127", "3 index.html:1:159", "4 index.html:1:170", "5 index.html:1:188", "6 x.xhtml:2:25"],
+    ),
+    Known(
         "a base of another scheme",
         {"index.html": "<base href=htp:x><a href=y><a href=htp:y><a href=//[z><a href=''>"},
         ["htp:y index.html:1:36"],
@@ -464,9 +547,19 @@ KNOWN = [
         total(pages=1, files=5, links=10, redirects=0, aliases=2),
     ),
     Known(
+        "texts in quotes and names of style sheets",
+        {"index.html": "<link rel=stylesheet href=a.css>", "a.css": 'a{b:"\\"url(no)";c:no-url(no) url(1);d:"url(no)\n}\\".e{f:url(2)}@import "3'},
+        ["1 a.css:1:34", "2 a.css:2:13", "3 a.css:2:25"],
+    ),
+    Known(
+        "escapes in style sheets",
+        {"index.html": "<link rel=stylesheet href=a.css>", "a.css": 'a{b:url(a\\28 1\\).png);c:url("x\\"y\\000020z\\\nw");d:URL(\\67one.png);f:url(\\0)}'},
+        ["%EF%BF%BD a.css:2:29", "a(1).png a.css:1:9", "gone.png a.css:2:11", "x%22y%20zw a.css:1:30"],
+    ),
+    Known(
         "no links of styles",
-        {"index.html": "<link href=a.css><style>a{b:url(no)}</style><p style='a:url(no)'><a href=gone>", "a.css": "a{b:url(no)}"},
-        ["gone index.html:1:74"],
+        {"index.html": "<link rel=stylesheet href=a.css><style>a{b:url(no)}</style><p style='a:url(no)'><a href=gone>", "a.css": "a{b:url(no)}"},
+        ["gone index.html:1:89"],
         total(pages=1, files=1, links=2, redirects=0, aliases=0),
         settings=NO_STYLES,
     ),
@@ -498,7 +591,7 @@ KNOWN = [
     Known(
         "the encoding of a style sheet",
         {
-            "index.html": "<link href=a.css><link href=b.css><link href=c.css><link href=d.css>", "a.css": "a{b:url(\u00e4?\u00e4)}".encode(),
+            "index.html": "".join(f"<link rel=stylesheet href={name}.css>" for name in "abcd"), "a.css": "a{b:url(\u00e4?\u00e4)}".encode(),
             "b.css": b'@charset "latin1";a{b:url(\xe4?\xe4)}', "c.css": b'@charset "koi8-r";a{b:url(\xe4),url(c#\xe4)}', "d.css": b"a{b:url(\xe4)}",
         },
         ["%C3%A4?%C3%A4 a.css:1:9", "%C3%A4?%C3%A4 b.css:1:27", "%EF%BF%BD d.css:1:9", "c c.css:1:34"],
@@ -842,6 +935,13 @@ KNOWN = [
         ["d/ index.html:1:9"],
         total(pages=3, links=2, redirects=0, aliases=1),
         settings=(*NO_BASE, *host("github")),
+    ),
+    Known(
+        "files without a known suffix, by the rules of a host",
+        {"index.html": "<a href=f#x><a href=g.php><a href=h/>", "f": "<html><a href=no>", "g.php": "<!doctype html><a href=no>", "h/index.php": "<html><a href=no>"},
+        ["h/ index.html:1:35"],
+        (*total(pages=1, files=2, links=3, redirects=0, aliases=0), *hint("h/", "h/ has index.php: --index-file index.php")),
+        settings=(*NO_BASE, *host("nginx")),
     ),
     Known(
         "the rules of Netlify", {"index.html": "<a href=a#x>", "a.html": ""}, ["a#x index.html:1:9"], total(pages=2, links=1, redirects=0, aliases=1),

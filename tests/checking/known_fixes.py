@@ -27,11 +27,13 @@ def page(name: str, old: str, new: str, left: int = 0, *others: str) -> Fixed:
 
 FIXED = [
     page("a folder without its slash", "<a href=d>1</a> <a href='d#x'>2</a> <a href=\"./d\">3</a> <a href=/d>4</a>", "<a href=d/>1</a> <a href='d/#x'>2</a> <a href=\"./d/\">3</a> <a href=/d/>4</a>"),
-    page("a folder without its slash and with a query", "<a href=d?x>", "<a href=d?x>"),
+    page("a folder without its slash and with a query", "<a href=d?x><a href='d?#x'><a href=d/e?x>", "<a href=d/?x><a href='d/?#x'><a href=d/e?x>", 0, "d/e/x.png"),
     page("another spelling of a folder without its slash", "<a href=%64><a href=d>", "<a href=%64><a href=d/>"),
     page("a folder without an index file", "<a href=e>", "<a href=e>", 0, "e/x.png"),
     page("a page that was moved", "<a href='old/a.html'><a href=a.html#x?y><img src=\"old/b.png\">", "<a href='new/a.html'><a href=new/a.html#x?y><img src=\"new/b.png\">"),
-    page("a page that was moved, with a query", "<a href=a.html?x#y><a href='a.html#?x'>", "<a href=a.html?x#y><a href='new/a.html#?x'>"),
+    page("a page that was moved, with a query", "<a href=a.html?x#y><a href='a.html#?x'><a href='old/a.html?'>", "<a href=new/a.html?x#y><a href='new/a.html#?x'><a href='new/a.html?'>"),
+    page("a page that was moved, with slashes in a query", "<a href=old/a.html?../b.png>", "<a href=new/a.html?../b.png>"),
+    page("queries with escapes", "<a href='a.html?%41&amp;b'><a href='a.html?%41'><a href=%64?x>", "<a href='a.html?%41&amp;b'><a href='new/a.html?%41'><a href=%64?x>", 1),
     page("a path from the root, without BASE", "<a href=/old/a.html><a href=old/a.html><a href='\\c\\b.png'><a href=/d>", "<a href=/old/a.html><a href=old/a.html><a href='\\c\\b.png'><a href=/d/>"),
     page("two pages with the name", "<a href=a.html>", "<a href=a.html>", 0, "e/a.html"),
     page("a suggestion that is an index file", "<a href=e/index.htm>", "<a href=e/index.htm>", 0, "f/index.htm"),
@@ -42,6 +44,8 @@ FIXED = [
     page("the beginning of another link in a list", "<img srcset='d.png 1x, d 2x'><a href=old/a.html>", "<img srcset='d.png 1x, d 2x'><a href=old/a.html>", 2, "d.png"),
     page("a refresh", "<meta http-equiv=refresh content='0;url=d'>", "<meta http-equiv=refresh content='0;url=d'>", 1),
     page("styles in a document", "<style>p{a:url(b.png)}</style>\n<p style='b:url( \"c/b.png\" )'>", "<style>p{a:url(new/b.png)}</style>\n<p style='b:url( \"new/b.png\" )'>"),
+    page("a document in a frame", "<iframe srcdoc='<a href=d>'></iframe><a href=d>", "<iframe srcdoc='<a href=d>'></iframe><a href=d/>", 1),
+    page("a document in a frame that begins with the text of a link", "<iframe srcdoc='d<a href=d>'></iframe><a href=d>", "<iframe srcdoc='d<a href=d>'></iframe><a href=d>", 2),
     page("a path with a space", "<a href=c.html>", "<a href=new%20name/c.html>", 0, "new name/c.html"),
     page("a path with a character that may end a link", "<a href=c.html>", "<a href=c.html>", 1, "a&b/c.html"),
     page("a path that would be a scheme", "<a href='old/x:y.html'><a href=d>", "<a href='old/x:y.html'><a href=d/>", 1, "x:y.html"),
@@ -85,6 +89,18 @@ FIXED = [
     Fixed(
         "symbolic links", {"index.html": "", "t/x.html": "<a href=/d>", "s.html": To("t/x.html"), "u": To("t"), "d/index.html": ""},
         {"t/x.html": "<a href=/d/>"}, ["s.html: not rewritten, because its path has a symbolic link"], NO_BASE,
+    ),
+    Fixed(
+        "symbolic links to folders", {"index.html": "<a href=u><a href=u?x#y><a href=u/e><a href=w><a href=z>", "t/index.html": "", "t/e/index.html": "", "u": To("t"), "w": To("x"), "x/a.png": "", "z": To("../out"), "../out/index.html": ""},
+        {"index.html": "<a href=u/><a href=u/?x#y><a href=u/e><a href=w><a href=z>"}, settings=NO_BASE,
+    ),
+    Fixed(
+        "queries in the names of files", {"index.html": "<a href=a.html?x><a href=b.html?x><a href=d?x><a href=d>", "new/a.html": "", "new/a.html?x": "", "new/b.html": "", "d/index.html": ""},
+        {"index.html": "<a href=a.html?x><a href=b.html?x><a href=d?x><a href=d/>"}, settings=(*NO_BASE, ("queries", True)),
+    ),
+    Fixed(
+        "only the exact spelling of a URL", {"index.html": "<a href=a.html?x><a href=a.html><a href=d?x><a href=d>", "new/a.html": "", "d/index.html": ""},
+        {"index.html": "<a href=a.html?x><a href=new/a.html><a href=d?x><a href=d/>"}, settings=(*NO_BASE, ("exact", True)),
     ),
     Fixed("bytes that are not UTF-8", {"index.html": b"\xe9<a href=d>", "d/index.html": "<a href=../d>"}, {"d/index.html": "<a href=../d/>"}, ["index.html: links left as they are: 1"], NO_BASE),
     Fixed("a byte order mark", {"index.html": "\ufeff<a href=d>", "a.html": b"\xff\xfe" + "<a href=d>".encode("utf-16-le"), "d/index.html": ""}, {}, ["a.html: links left as they are: 1", "index.html: links left as they are: 1"], NO_BASE),

@@ -5,8 +5,10 @@ drawn.py parses the URLs. It raises NotPlain if a URL needs tables that it does 
 
 from __future__ import annotations
 
+import errno
 import os
 import re
+import stat
 from collections import Counter
 from functools import lru_cache
 from typing import AbstractSet, Any, Dict, Iterable, Iterator, List, NamedTuple, Optional, Set, Tuple, Union
@@ -20,6 +22,8 @@ Row = Dict[str, Any]
 FRAGMENT = "\"<>`"  # percent-encoded in a fragment, in addition to controls, spaces and everything beyond ASCII
 MOST_FILES = 10  # the number of files in the list of files with the most broken links
 ERROR_PAGE = "404.html"  # the last name of the URL of a page that no sitemap has to list
+LEADS_OUT = "a symbolic link out of the folder: --follow"  # the hint of a symbolic link that is not followed
+LEADS_NOWHERE = "a symbolic link to nothing"
 ROOT_FOLDER = re.compile("/([A-Za-z0-9_~-][A-Za-z0-9_.~-]*)/")  # the first folder of a path from the root, if it has the same text in a URL
 LINE_LIMIT = 4096  # the most bytes in a line of a saved web
 FILE_LIMIT = 1 << 30  # the most bytes of a file that is read
@@ -119,7 +123,7 @@ class Settings(NamedTuple):
     workers: int = 1  # which makes no difference
     indices: Tuple[str, ...] = INDEX_FILES  # the names of index files; in each folder the first one counts
     fallback: bool = False  # a file is also found without its suffix .html
-    host: str = ""  # the host whose rules the last two settings and `exact` are, if the option names one
+    host: str = ""  # the host whose rules the last two settings and `exact` are, if the option names one. Then suffixes say what is a document
     maps: Tuple[Map, ...] = ()
 
     def is_rooted(self) -> bool:
@@ -291,6 +295,7 @@ class Names(NamedTuple):
 
     paths: Set[bytes]
     links: Dict[bytes, bytes]
+    skipped: Dict[bytes, str]  # the hint of each symbolic link that is not followed
 
 
 def names_below(folder: bytes, follow: bool) -> Names:
@@ -302,6 +307,7 @@ def names_below(folder: bytes, follow: bool) -> Names:
     top = os.path.realpath(folder)
     paths: Set[bytes] = set()
     links: Dict[bytes, bytes] = {}
+    skipped: Dict[bytes, str] = {}
     outside: Dict[bytes, bytes] = {}
     level = [b""]
     while level:
@@ -310,6 +316,8 @@ def names_below(folder: bytes, follow: bool) -> Names:
         for place, entry in listed:
             path, real = place + entry.name, os.path.realpath(entry.path)
             is_inside = os.path.commonpath([top, real]) == top
+            if entry.is_symlink():
+                skipped.update({path: hint for hint in skipped_hints(entry.path, is_inside or follow)})
             if entry.is_symlink() and not is_inside and not follow:
                 continue
             if os.path.isfile(entry.path):
@@ -322,7 +330,19 @@ def names_below(folder: bytes, follow: bool) -> Names:
                     level.append(path)
                 else:
                     links[path] = b"" if real == top else own
-    return Names({name for name in paths if TOOL.is_utf8(name)}, links)
+    return Names({name for name in paths if TOOL.is_utf8(name)}, links, {name: hint for name, hint in skipped.items() if TOOL.is_utf8(name)})
+
+
+def skipped_hints(path: bytes, is_followed: bool) -> Iterator[str]:
+    """The hint of a symbolic link if it is skipped because it leads out of the folder or to nothing."""
+    try:
+        mode = os.stat(path).st_mode
+    except OSError as error:
+        if error.errno in (errno.ENOENT, errno.ENOTDIR, errno.ELOOP):
+            yield LEADS_NOWHERE
+        return
+    if not is_followed and (stat.S_ISDIR(mode) or stat.S_ISREG(mode)):
+        yield LEADS_OUT
 
 
 def ordered(entries: Iterator["os.DirEntry[bytes]"]) -> List["os.DirEntry[bytes]"]:
@@ -344,7 +364,7 @@ class Site:
         self.folder = os.fsencode(folder)
         self.base = drawn.url_of(settings.base)
         self.settings = settings
-        self.names, self.links = names_below(self.folder, settings.follow)
+        self.names, self.links, self.skipped = names_below(self.folder, settings.follow)
         self.documents: Dict[bytes, Optional[Document]] = {}
         self.files: Dict[Key, bytes] = {}  # the first file in the order of names has the key
         self.own: Dict[bytes, str] = {}  # the own URL of each file: that of its folder for an index file
@@ -404,8 +424,9 @@ class Site:
         return next(self.keys(name)).path
 
     def form(self, name: bytes) -> Optional[str]:
-        """The form of a file."""
-        return form_of(self.path(name), self.settings.styles)
+        """The form of a file. No host serves a file whose name does not say what it is as a document."""
+        form = form_of(self.path(name), self.settings.styles)
+        return None if form == "" and self.settings.host else form
 
     def is_feed(self, name: bytes) -> bool:
         """Whether a file is a sitemap or a feed by its name."""
@@ -452,16 +473,24 @@ class Site:
         return key._replace(path=self.own_path(key.path))
 
     def hint(self, url: str) -> Optional[str]:
-        """What another rule would find at a URL without a page, and its option."""
+        """Which symbolic link was skipped on the way to a URL without a page, or what another rule would find there, and its option."""
         key = self.key_of(url)
         if key is None or key in self.files:
             return None
+        skipped = self.skipped_on(key)
+        if skipped:
+            return skipped
         if os.path.basename(key.path):
             page = self.files.get(key._replace(path=key.path + b".html"))
             is_off = not self.settings.exact and not self.settings.fallback
             return f"{self.file_of(page)} exists: --fallback html" if page and is_off else None
         index = self.likely_indices.get(key)
         return f"{os.fsdecode(key.path) or './'} has {index}: --index-file {index}" if index else None
+
+    def skipped_on(self, key: Key) -> Optional[str]:
+        """The hint of the first symbolic link on a path that was skipped, or of the one at its end."""
+        ends = [found.start() for found in re.finditer(b"/", key.path)] + ([len(key.path)] if key.query is None else [])
+        return next((self.skipped[key.path[:end]] for end in ends if key.path[:end] in self.skipped), None)
 
     def likely_index(self, names: List[bytes]) -> Dict[Key, str]:
         """By folder and query, the first file that a server may use as index file."""
@@ -470,7 +499,7 @@ class Site:
             key = next(self.keys(name))
             folder, last = os.path.split(key.path)
             is_named = last.lower().startswith(tuple(map(str.encode, INDEX_NAMES)))
-            if is_named and (self.form(name) in ("html", "") or is_page(key.path)):
+            if is_named and (form_of(key.path, True) in ("html", "") or is_page(key.path)):
                 found.setdefault(key._replace(path=os.path.join(folder, b"")), os.fsdecode(last))
         return found
 

@@ -1,4 +1,4 @@
-"""The definitions of a server in crates/site_files/specs (Server.antt, Pages.antt, Hints.antt): the same functions, with the same cases in their order.
+"""The definitions of a server in crates/site_files/specs (Server.antt, Pages.antt, Hints.antt, Skipped.antt): the same functions, with the same cases in their order.
 
 `server_fault` compares them with the model, which is written from other rules.
 """
@@ -166,11 +166,19 @@ def plain_url(server: Server, url: bytes) -> Optional[bytes]:
     return url_of(server.top, key) if is_accepted(server.host, url_of(server.top, key), url) else None
 
 
+class SkippedLink(NamedTuple):
+    """A symbolic link that is not followed: it leads out of the folder, or to nothing."""
+
+    name: Name
+    is_outside: bool
+
+
 class Folder(NamedTuple):
-    """The names in a folder, and the folders that are listed by another name, with that name."""
+    """The names in a folder, the folders that are listed by another name, with that name, and the symbolic links that are not followed."""
 
     names: Names
     links: Tuple[Tuple[Name, Name], ...]
+    skipped: Tuple[SkippedLink, ...]
 
 
 class Moved(NamedTuple):
@@ -405,7 +413,32 @@ def index_hint(homes: At, url: bytes) -> Optional[Hint]:
     return None if file is None else Hint(False, file)
 
 
-def hint_at(server: Server, tables: Tuple[Table, Table], folder: Folder, url: bytes) -> Optional[Hint]:
+class LinkHint(NamedTuple):
+    """A symbolic link that is not followed leads out of the folder, or to nothing."""
+
+    is_outside: bool
+
+
+def outside_at(server: Server, folder: Folder, url: bytes) -> Optional[bool]:
+    """Whether the first link with a URL leads out of the folder, if there is one. Its URL is that of a folder with its name, without the slash."""
+    return next((link.is_outside for link in folder.skipped if url_of(server.top, key_with(None, link.name)) == url), None)
+
+
+def outside_on(at: Callable[[bytes], Optional[bool]], front: bytes, names: Names) -> Optional[bool]:
+    """Likewise for the first link on the path of a URL: at a front of it that ends before a slash, or at the URL itself."""
+    if not names:
+        return None
+    found = at(front + names[0])
+    return found if found is not None or len(names) == 1 else outside_on(at, front + names[0] + b"/", names[1:])
+
+
+def link_hint(server: Server, folder: Folder, url: bytes) -> Optional[LinkHint]:
+    """The first symbolic link on the path of this URL that is not followed."""
+    is_outside = outside_on(partial(outside_at, server, folder), b"", names_of(url))
+    return None if is_outside is None else LinkHint(is_outside)
+
+
+def hint_at(server: Server, tables: Tuple[Table, Table], folder: Folder, url: bytes) -> Union[Hint, LinkHint, None]:
     """The hint for a URL, by the pages at each URL and those under other rules."""
     table, homes = tables
     plain = plain_url(server, url)
@@ -415,7 +448,7 @@ def hint_at(server: Server, tables: Tuple[Table, Table], folder: Folder, url: by
     looked_up = own_spelling(own, b"", names_of(plain))
     if table.get(looked_up) is not None:
         return None
-    return html_hint(table.get, server.host, looked_up) or index_hint(homes.get, looked_up)
+    return link_hint(server, folder, looked_up) or html_hint(table.get, server.host, looked_up) or index_hint(homes.get, looked_up)
 
 
 # ---- against the model
@@ -432,7 +465,8 @@ def server_of(site: model.Site) -> Server:
 def server_fault(found: model.Model) -> Optional[str]:
     """A URL for which the definitions say something else than the model, or a file whose own URL they do."""
     site = found.site
-    folder = Folder(tuple(sorted(site.names)), tuple(sorted(site.links.items())))
+    skipped = tuple(SkippedLink(name, hint == model.LEADS_OUT) for name, hint in sorted(site.skipped.items()))
+    folder = Folder(tuple(sorted(site.names)), tuple(sorted(site.links.items())), skipped)
     server = server_of(site)
     table = table_of(server, folder.names)
     for number, name in enumerate(folder.names):
@@ -454,15 +488,18 @@ def hint_fault(found: model.Model, folder: Folder, table: Table) -> Optional[str
     for url in found.responses:
         if response_at(server, table, folder, url.encode()) is None and model.is_short("page", url):
             hint = hint_at(server, tables, folder, url.encode())
-            text = None if hint is None else hint_text(site, folder.names[hint.number], hint.is_fallback)
+            text = None if hint is None else hint_text(site, folder, hint)
             if text != site.hint(url):
                 return f"{url}: hint {text}, the model has {site.hint(url)}"
     return None
 
 
-def hint_text(site: model.Site, name: Name, is_fallback: bool) -> str:
+def hint_text(site: model.Site, folder: Folder, hint: Union[Hint, LinkHint]) -> str:
     """A hint as the model shows it."""
-    if is_fallback:
+    if isinstance(hint, LinkHint):
+        return model.LEADS_OUT if hint.is_outside else model.LEADS_NOWHERE
+    name = folder.names[hint.number]
+    if hint.is_fallback:
         return f"{site.file_of(name)} exists: --fallback html"
     front, last = os.path.split(os.fsdecode(site.path(name)))
     return f"{os.path.join(front, '') or './'} has {last}: --index-file {last}"

@@ -3,6 +3,7 @@
 from __future__ import annotations
 
 import io
+import re
 from typing import Any, Dict, List, Optional, Tuple
 
 import drawn
@@ -17,6 +18,7 @@ differences of the program:
   the bytes 81, 8D, 8F, 90 and 9D of windows-1252 are C1 controls, as in the Encoding Standard
   after a base, a link with an invalid host stays as it is, and all other hosts are canonical
   a sitemap or a feed that is not well-formed has links"""
+NO_START = re.compile(b"(?!)")  # with the rules of a host, no file is a document by its first bytes
 KNOWN = {"utf_8": "utf-8", "u8": "utf-8", "windows-1252": "cp1252", "1252": "cp1252", "utf-8": "utf-8", "cp1252": "cp1252"}
 
 
@@ -52,7 +54,7 @@ class Converter:
     def __init__(self, tool: Any = None, reader: Any = Reader) -> None:
         self.tool: Any = tool or loading.script("converter_model", "tests/checking/converter.py")
         self.charset, self.text, self.entries = self.tool.charset_of, self.tool.text_of, self.tool.entries_below
-        self.resolved = self.tool.with_base
+        self.resolved, self.start = self.tool.with_base, self.tool.HTML_START
         self.tool.LinkReader = reader
         self.tool.without_long_references = lambda text: text
         self.tool.links_of_style = lambda text: [link.text for link in style_links(text, 0)]
@@ -91,6 +93,7 @@ class Converter:
     def web(self, folder: str, options: List[str], base: str) -> bytes:
         """The saved web of a folder."""
         parser = self.tool.command_line()
+        self.tool.HTML_START = NO_START if any(option.startswith("--host=") for option in options) else self.start
         settings = parser.parse_args(["--quiet", *(word for option in options for word in rules_in(option)), folder, base])
         web = self.tool.Web(settings)
         self.tool.Folder(folder, self.tool.base_of(base, parser), settings, web).write()
