@@ -9,7 +9,7 @@
 #   --deb           Make a Debian package instead, in FOLDER [default: .], and print its name
 #
 # Without --program, the program is proved and built, unless that was done before. This needs the Rattle toolchain,
-# and takes 75 CPU minutes.
+# and takes 80 CPU minutes.
 # Everything else needs Python 3.9 or later, and --deb also dpkg-dev and binutils. The maintainer of the package is
 # taken from DEBFULLNAME and DEBEMAIL, or from git's user.
 # Exit status: 0 success, 1 error, 3 bad command line.
@@ -27,7 +27,7 @@ usage() {
 }
 
 built() {
-    echo "install.sh: proving and building the program, unless that was done; it takes 75 CPU minutes .." >&2
+    echo "install.sh: proving and building the program, unless that was done; it takes 80 CPU minutes .." >&2
     (cd "$here/crates/mercator_cli" && rt run -- --help) > "$scratch/told" 2>&1 || { cat "$scratch/told" >&2; exit 1; }
     echo "$here/crates/mercator_cli/out/mercator_cli"
 }
@@ -111,10 +111,10 @@ END
     cat "$here/LICENSE-MIT"
 }
 
-# Prints the newest section of CHANGELOG.md as a Debian changelog.
+# Prints the newest section of CHANGELOG.md as a Debian changelog, without its Markdown.
 changes() {
     printf 'mercator (%s) unstable; urgency=medium\n\n' "$(version)"
-    sed -n '/^## /,/^## /{/^- /p}' "$here/CHANGELOG.md" | sed 's/^- //; s/`//g' | while read -r line; do
+    awk '/^## / { sections++ } sections == 1 && sub(/^- /, "")' "$here/CHANGELOG.md" | sed 's/\*\*//g; s/`//g; s/\[\([^]]*\)\]([^)]*)/\1/g' | while read -r line; do
         fold -s -w 74 <<< "$line" | sed '1s/^/  * /; 2,$s/^/    /; s/ *$//'
     done
     printf '\n -- %s  %s\n' "$(maintainer)" "$(date -R -u -d "@$SOURCE_DATE_EPOCH")"

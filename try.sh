@@ -4,7 +4,7 @@
 #
 # Usage: ./try.sh [--proved] [ARGUMENT..]
 # The arguments are those of mercator [default: check examples/site]. With --proved the program is proved and built first, which
-# takes 75 CPU minutes. The exit status is that of mercator. Requires the Rattle toolchain.
+# takes 80 CPU minutes. The exit status is that of mercator. Requires the Rattle toolchain.
 set -euo pipefail
 here=$(cd "$(dirname "$0")" && pwd)
 folder=$here/crates/mercator_cli
@@ -20,7 +20,7 @@ is_new() {
 
 if [ "${1:-}" = --proved ]; then
     shift
-    echo "try.sh: proving and building the program, unless that was done; it takes 75 CPU minutes .." >&2
+    echo "try.sh: proving and building the program, unless that was done; it takes 80 CPU minutes .." >&2
     (cd "$folder" && rt run -- --version) >&2
 elif ! is_new; then
     program=$("$here/tools/unproved.sh")
