@@ -565,7 +565,9 @@ class Mapped:
             top = url_of(one.prefix if one.prefix.endswith("/") else one.prefix + "/", drawn.url_of(settings.base))
             assert top is not None and top not in self.folders
             self.folders[top] = one.folder
-            self.sites[top] = Site(one.folder, settings._replace(base=top))
+            # The top of a folder has no consecutive slashes, as that of BASE.
+            host = origin_of(drawn.url_of(top))[:-1]
+            self.sites[top] = Site(one.folder, settings._replace(base=host + re.sub("/+", "/", top[len(host):])))
 
     def top_of(self, url: str) -> Optional[str]:
         """The longest prefix under which a URL is."""
