@@ -49,7 +49,7 @@ def findings_of(base: str, report: Report) -> Record:
 
 
 def from_hint(hint: Value) -> Value:
-    """The hint behind a reference, if there is one."""
+    """The hint to which a reference points, if there is one."""
     return from_option(hint, lambda found: some(reference(found))) or NONE
 
 

@@ -54,7 +54,7 @@ def set_of(crate: str, module: str, written: str) -> FrozenSet[int]:
 
 @lru_cache(maxsize=None)
 def constant(crate: str, module: str, name: str) -> Union[FrozenSet[int], Value]:
-    """A constant as a value: a text behind a reference, a list of numbers, a number or a set of bytes."""
+    """A constant as a value: a text to which a reference points, a list of numbers, a number or a set of bytes."""
     found = re.search(rf"(?:const|static) {name}: ([^=]+?) =\s*(.*?);\n", source_of(crate, module), re.DOTALL)
     assert found is not None, f"{crate}: {name}"
     kind, written = found[1], found[2].strip()
