@@ -10,7 +10,7 @@ use crate::out::Out;
 use crate::printing::total_of;
 use crate::results::row_of;
 use crawl_pages::{NoMemory, PageResult};
-use result_order::results_by_url;
+use report_order::results_by_url;
 use std::alloc::Global;
 
 /// The report of the results, each line ended by LF.

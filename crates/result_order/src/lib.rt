@@ -4,8 +4,6 @@
 mod beginning;
 mod numbered;
 mod numbering;
-mod references;
 mod sorting;
 
-pub use references::results_by_url;
 pub use sorting::in_order;

@@ -1,4 +1,3 @@
-pub mod AddedPages
 pub mod PageLists
 pub mod PageTexts
 pub mod SavedWeb

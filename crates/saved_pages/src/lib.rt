@@ -1,7 +1,6 @@
-//! The pages of a saved web: the content of a line, the checks of a line, and a list of pages with different URLs.
+//! The pages of a saved web: the content of a line, and a list of pages with different URLs.
 #![tactic(auto)]
 
-mod add;
 mod error;
 mod known_page;
 mod line;
@@ -9,7 +8,6 @@ mod link_text;
 mod pages;
 mod url_list;
 
-pub use add::{Above, add_line, check_line, header};
 pub use error::WebError;
 pub use known_page::KnownPage;
 pub use line::{Line, line_of};

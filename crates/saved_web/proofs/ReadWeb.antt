@@ -2,8 +2,8 @@
 use Rattle.saved_web.proofs.Prelude.{◌≡◌, inl, inr, ℕ, ◌+◌, ◌<◌, ◌==◌, Bool, false, ◌||◌, List, [], ◌∷◌, ◌++◌, length, Option, Some, None, Result, Ok, Err, IfOk, IfErr, codes, is_some, refl, sym, ap, subst, ◌∙◌, arith, append_assoc, append-nil, length-append, if◌then◌else◌, list_any, position, cons_option, option_map, option_or, option_map_or, bytes_eq, lines, cond-false, or_right, map-append, filter_map-append, list_any-append, IsRefusal, SoundAfter, IsLeastFault, under_more, ReadTo, AllFound, FoundTo, AreRead, IsHeader, page_of, page_urls, says_page, says_link, says_moved, url_said, is_page, is_link, is_moved_line, is_page_at, page_url, is_second, under_last_page, fault_after, IsSound, IsWebFault, IsWebRefusal, line_fault, checked, behind_line, KnownPages, known_behind, known_page, PageRead, urls, page_with, has, WebError}
 use Rattle.std.proofs.Math.Bool.{or-false}
 use Rattle.text_lines.proofs.CutLines.{is_lf, lines_at, lines_only}
-use Rattle.saved_pages.specs.AddedPages.{has_some, kept_before, Adds, Follows}
-use Rattle.saved_pages.specs.declared.add.Above.{Above}
+use Rattle.saved_lines.specs.AddedPages.{has_some, kept_before, Adds, Follows}
+use Rattle.saved_lines.specs.declared.line_check.Above.{Above}
 use Rattle.saved_pages.specs.declared.error.WebError.TheVariants as wrong
 
 -- ---- with one more page

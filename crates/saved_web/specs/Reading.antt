@@ -3,13 +3,13 @@ use Rattle.std.specs.Prelude.{◌≡◌, ℕ, Bool, List, [], ◌∷◌, ◌++�
 use Rattle.std.specs.List.{list_any}
 use Rattle.std.specs.Option.{option_or}
 use Rattle.saved_web.specs.KnownPages.{KnownPages, known_behind, known_page}
-use Rattle.saved_pages.specs.AddedPages.{has_some}
+use Rattle.saved_lines.specs.AddedPages.{has_some}
 use Rattle.text_lines.specs.LeastFault.{SoundAfter}
 use Rattle.saved_pages.specs.PageLists.{urls}
 use Rattle.saved_pages.specs.SavedWeb.{lines_behind, page_of, page_urls}
 use Rattle.saved_pages.specs.WebFaults.{is_second, under_last_page, fault_after}
 use Rattle.saved_pages.specs.WebLines.{line_of, is_page, is_link, is_moved_line}
-use Rattle.saved_pages.specs.declared.add.Above.{Above}
+use Rattle.saved_lines.specs.declared.line_check.Above.{Above}
 use Rattle.saved_pages.specs.declared.line.Line.TheVariants as says
 
 -- the lines before the rest pass all checks, and what the next checks need to know about them is known

@@ -4,7 +4,8 @@ ghost use Rattle.std.specs.Str.Lines.{lines};
 ghost use Rattle.saved_web.specs.Reading.{FoundTo, AreRead};
 ghost use Rattle.saved_pages.specs.WebFaults.{IsWebRefusal};
 
-use saved_pages::{Above, Pages, WebError, add_line};
+use saved_lines::{Above, add_line};
+use saved_pages::{Pages, WebError};
 use std::alloc::Global;
 use text_lines::first_text;
 

@@ -5,7 +5,7 @@ ghost use Rattle.saved_web.specs.Reading.{AreRead, AreReadBehind, IsHeader};
 
 use crate::reader::pages_behind;
 use crate::web_pages::WebPages;
-use saved_pages::{Above, header};
+use saved_lines::{Above, header};
 use simdutf8::compat::from_utf8;
 use std::alloc::Global;
 use std::thread::{Threads, join};

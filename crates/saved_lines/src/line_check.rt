@@ -7,14 +7,11 @@ ghost use Rattle.text_lines.specs.FirstLine.{behind_line, line_in};
 ghost use Rattle.text_lines.specs.Lines.{text_of};
 ghost use Rattle.saved_pages.specs.WebChecks.{header_of, page_fault, under_fault, line_fault, Tells};
 ghost use Rattle.saved_pages.specs.WebLines.{page_url, is_page};
-ghost use Rattle.saved_pages.specs.AddedPages.{kept_before, Adds, Follows};
 ghost use Rattle.saved_pages.specs.PageLists.{has};
+ghost use Rattle.saved_lines.specs.AddedPages.{kept_before, Adds, Follows};
 
-use crate::error::WebError;
-use crate::known_page::KnownPage;
-use crate::line::{Line, line_of};
-use crate::pages::Pages;
 use crawl_keys::{KeyError, canonical, is_canonical};
+use saved_pages::{KnownPage, Line, Pages, WebError, line_of};
 use std::alloc::Global;
 use text_lines::{short_text, split_line, text_of};
 

@@ -3,7 +3,7 @@ use Rattle.std.specs.Prelude.{◌≡◌, ℕ, ◌==◌, Bool, false, ◌||◌, n
 use Rattle.saved_pages.specs.PageLists.{PageRead, has}
 use Rattle.saved_pages.specs.WebChecks.{Before}
 use Rattle.saved_pages.specs.WebLines.{is_page, is_link, is_moved_line}
-use Rattle.saved_pages.specs.declared.add.Above.{Above}
+use Rattle.saved_lines.specs.declared.line_check.Above.{Above}
 
 -- there is a page
 abbrev pub has_some : List PageRead → Bool
