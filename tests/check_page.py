@@ -8,7 +8,8 @@ The script searches the page, changes its views and narrows the window, and prin
 screenshots. The exit status is 1 if
 - the console is not empty, or the page's script does not run,
 - Chromium reads other text in the plain lists than Python's html.parser,
-- a search shows other rows than the lists have, or the bars do not match the list of external hosts,
+- a search shows other rows than the lists have, or the groups of targets that are alike have other numbers of targets and links,
+- the bars do not match the list of external hosts,
 - the locations in the table are not the links to the sources that the list of broken links has,
 - the page has an unexpected element, or a link that is neither http nor a fragment,
 - the page is wider than a narrow screen.
@@ -31,6 +32,7 @@ from typing import Any, Dict, List, Optional
 from checking import loading
 from checking.forms import Lines
 
+STEP = 200  # the number of rows that the page adds at a time
 BUILT = loading.ROOT / "crates/mercator_cli/out/mercator_cli"
 CHROMIUM = "exec chromium --headless=new --no-sandbox --disable-gpu --remote-debugging-pipe --user-data-dir={} 3<&{} 4>&{}"
 SAID = ("Runtime.consoleAPICalled", "Runtime.exceptionThrown", "Log.entryAdded")
@@ -43,6 +45,10 @@ FOUND = "document.getElementById('said').textContent"
 HOSTS = (
     "Object.fromEntries([...document.querySelectorAll('#external tbody tr')]"
     ".map((row) => [row.querySelector('th').textContent, +row.querySelector('td').textContent]))"
+)
+ROWS = (
+    "[...document.querySelectorAll('#broken tbody tr')]"
+    ".map((row) => [row.querySelector('th').firstChild.textContent, row.querySelector('.aside').textContent, +row.querySelector('.n').textContent])"
 )
 WIDTHS = "[...document.querySelectorAll('#external .bar')].map((bar) => bar.style.width)"
 FOREIGN = (
@@ -166,6 +172,27 @@ def targets_of(text: str) -> List[str]:
     return [target.lower() for target in targets]
 
 
+def folder_of(target: str) -> str:
+    """Returns what targets that are alike share: the page of an anchor, or the text up to the last slash."""
+    page, mark, _ = target.partition("#")
+    return page if mark else target[:target.rfind("/") + 1] or "./"
+
+
+def folders_of(text: str) -> List[List[object]]:
+    """Returns the groups of targets that are alike, in the order of the list of broken links: the name, the number of targets and the number of links."""
+    targets: Dict[str, int] = {}
+    links: Dict[str, int] = {}
+    folder = ""
+    for line in text.split("\n"):
+        if line.startswith("\t"):
+            links[folder] += 1
+        elif line:
+            folder = folder_of(line.split("\t")[0])
+            targets[folder] = targets.get(folder, 0) + 1
+            links.setdefault(folder, 0)
+    return [[name, f"{count} target{'' if count == 1 else 's'}", links[name]] for name, count in targets.items()]
+
+
 def look_at_lists(browser: Browser, page: str, faults: Faults) -> Lines:
     """Compares the plain lists with the text that Python reads in the page, and the bars with the list of external links."""
     read = Lines()
@@ -188,7 +215,13 @@ def search(browser: Browser, read: Lines, faults: Faults) -> None:
         found = sum(all(word in target for word in words.lower().split()) for target in targets)
         faults.want(f"search for {words!r}", browser.ask(FOUND), f"{found} of {counted}")
         print(f"search for {words!r}: {browser.ask(DRAWN)}; {took:.0f} ms")
-    for field, value in [("q", ""), ("by", "file"), ("order", "most"), ("by", "target")]:
+    browser.change("q", "")
+    took = browser.change("by", "folder")
+    folders = folders_of(read.texts["broken"])
+    print(f"by=folder: {browser.ask(DRAWN)}; {took:.0f} ms")
+    faults.want("groups of targets", browser.ask(ROWS), folders[:STEP])
+    faults.want("number of groups", browser.ask(FOUND), f"{len(folders)} of {len(folders)} folder{'' if len(folders) == 1 else 's'}")
+    for field, value in [("by", "file"), ("order", "most"), ("by", "folder"), ("by", "target")]:
         took = browser.change(field, value)
         print(f"{field}={value}: {browser.ask(DRAWN)}; {took:.0f} ms")
         shown = browser.ask(SOURCES)

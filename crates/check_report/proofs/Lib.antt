@@ -3,6 +3,7 @@ mod Adding
 mod Controls
 mod Decoding
 mod Inert
+mod Objects
 mod Pieces
 mod Results
 mod Runs

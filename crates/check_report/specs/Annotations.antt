@@ -5,28 +5,31 @@ use Rattle.check_report.specs.Names.{target_in}
 use Rattle.check_report.specs.Paths.{slash_after, without_here}
 use Rattle.check_report.specs.Rows as line
 use Rattle.check_report.specs.Rows.{Line}
-use Rattle.check_report.specs.Text.{counted, wrong_of}
+use Rattle.check_report.specs.Text.{advised, base_hint, counted, message}
 use Rattle.check_report.specs.declared.escape.Escape.TheVariants as escape
 use Rattle.check_report.specs.declared.row.Section.{Section}
 use Rattle.check_report.specs.declared.row.Section.TheVariants as section
+use Rattle.check_report.specs.declared.value.BaseHint.{BaseHint}
 use Rattle.check_report.specs.declared.value.Broken.{Broken}
 use Rattle.check_report.specs.declared.value.Place.{Place}
 
--- a target and what is wrong
+-- a target, what is wrong with it, and what is suggested
 abbrev pub message_line : Broken → List ℕ
-message_line b = target_in escape.Data b ++ codes ": " ++ wrong_of escape.Data b ++ codes "\n"
+message_line b = advised escape.Data b (target_in escape.Data b ++ codes ": " ++ message b.kind) ++ codes "\n"
 
--- the text before the names of a folder's files: nothing for an empty name and for the current folder
-abbrev pub front_of : List ℕ → List ℕ
-front_of folder = if bytes_eq folder (codes ".") then [] else escaped escape.Property folder ++ slash_after (slice_get folder (length folder - 1))
+-- a hint at BASE, which is no error
+abbrev pub hint_annotation : BaseHint → List ℕ
+hint_annotation h = codes "::notice::" ++ base_hint escape.Data h ++ codes "\n"
 
--- the location of a link
-abbrev pub at_place : List ℕ → Place → List ℕ
-at_place folder p =
-    codes "::error file=" ++ front_of (without_here folder) ++ escaped escape.Property (string_bytes p.file) ++ counted (codes ",line=") p.line ++ counted (codes ",col=") p.column
+-- the command up to the name of a file: with its folder and a slash, or without them for an empty name and for the current folder
+abbrev pub file_start : List ℕ → List ℕ
+file_start folder =
+    if bytes_eq folder (codes ".") then codes "::error file=" else codes "::error file=" ++ escaped escape.Property folder ++ slash_after (slice_get folder (length folder - 1))
 
+-- the location of a link, and the message
 abbrev pub place_annotation : List ℕ → Broken → Place → List ℕ
-place_annotation folder b p = at_place folder p ++ codes "::" ++ message_line b
+place_annotation folder b p =
+    file_start (without_here folder) ++ (escaped escape.Property (string_bytes p.file) ++ counted (codes ",line=") p.line ++ counted (codes ",col=") p.column ++ codes "::") ++ message_line b
 
 -- a target without locations
 abbrev pub broken_annotation : Broken → List ℕ
@@ -48,7 +51,7 @@ name_annotation section.Unused text = []
 
 abbrev pub annotation_line : List ℕ → Line → List ℕ
 annotation_line folder (line.total base totals counts) = []
-annotation_line folder (line.hint h) = []
+annotation_line folder (line.hint h) = hint_annotation h
 annotation_line folder (line.begin of_section) = []
 annotation_line folder (line.finish of_section) = []
 annotation_line folder (line.broken b) = broken_annotation b

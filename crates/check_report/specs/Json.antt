@@ -2,7 +2,6 @@
 use Rattle.std.specs.Prelude.{ℕ, Bool, true, false, List, [], ◌∷◌, ◌++◌, codes, decimal, string_bytes, if◌then◌else◌, Option, None, Some, option_map}
 use Rattle.json.specs.Json.{Json, null, string, number, object, Members, no_members, member}
 use Rattle.json.specs.Print.{print}
-use Rattle.json.specs.Token.{Token}
 use Rattle.json.specs.Tree.{json_tokens}
 use Rattle.check_report.specs.Rows as line
 use Rattle.check_report.specs.Rows.{Line}
@@ -27,11 +26,6 @@ count_at key count rest = member key (number (decimal count)) rest
 abbrev pub count_if_at : List ℕ → Option ℕ → Members → Members
 count_if_at key None rest = rest
 count_if_at key (Some count) rest = count_at key count rest
-
--- the tokens of such a count
-abbrev pub count_tokens : List ℕ → Option ℕ → List Token
-count_tokens name None = []
-count_tokens name (Some count) = Token.key name ∷ Token.number (decimal count) ∷ []
 
 -- a text, or `null` if there is none
 abbrev pub text_or_null : Option (List ℕ) → Json
@@ -112,17 +106,9 @@ target_at b rest = text_at (codes "target") (string_bytes b.target) (text_at (wr
 abbrev pub same_name_at : Broken → Members → Members
 same_name_at b rest = if is_missing b.kind then member (codes "same_name") (text_or_null (option_map string_bytes b.same_name)) rest else rest
 
--- the tokens of the page that is suggested
-abbrev pub same_name_tokens : Broken → List Token
-same_name_tokens b = if is_missing b.kind then Token.key (codes "same_name") ∷ json_tokens (text_or_null (option_map string_bytes b.same_name)) else []
-
 -- the hint, or `null`; nothing if the kind of the target has none
 abbrev pub hint_at : Broken → Members → Members
 hint_at b rest = if has_hint b.kind then member (codes "hint") (text_or_null (option_map string_bytes b.hint)) rest else rest
-
--- the tokens of the hint
-abbrev pub hint_tokens : Broken → List Token
-hint_tokens b = if has_hint b.kind then Token.key (codes "hint") ∷ json_tokens (text_or_null (option_map string_bytes b.hint)) else []
 
 -- the kind of the rows in a section
 abbrev pub row_kind : Section → List ℕ
@@ -190,7 +176,7 @@ is_object (line.name of_section text) = true
 is_object line.last = false
 
 -- an object without spaces, and LF
-abbrev pub object_line : Members → List ℕ
+unfoldable pub object_line : Members → List ℕ
 object_line members = print (json_tokens (object members)) ++ 10 ∷ []
 
 abbrev pub json_line : Line → List ℕ

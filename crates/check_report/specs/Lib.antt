@@ -5,9 +5,11 @@ pub mod Junit
 pub mod Messages
 pub mod Names
 pub mod Natural
+pub mod Objects
 pub mod Order
 pub mod Page
 pub mod Paths
+pub mod Pieces
 pub mod Printing
 pub mod Rows
 pub mod Sarif

@@ -1,11 +1,11 @@
 -- A row of the HTML page. Untrusted texts are only in elements, and escaped.
-use Rattle.std.specs.Prelude.{ℕ, ◌==◌, Bool, ◌&&◌, ◌||◌, List, [], ◌++◌, codes, decimal, length, nat_lt, string_bytes, if◌then◌else◌, Option, None, Some, option_map}
+use Rattle.std.specs.Prelude.{ℕ, ◌==◌, Bool, ◌&&◌, ◌||◌, List, [], ◌++◌, codes, length, nat_lt, string_bytes, if◌then◌else◌, Option, None, Some, option_map}
 use Rattle.check_report.specs.Escape.{escaped}
-use Rattle.check_report.specs.Names.{ends_with_link, page_in, target_in}
+use Rattle.check_report.specs.Names.{page_in, target_in}
 use Rattle.check_report.specs.Rows as line
 use Rattle.check_report.specs.Rows.{Line}
 use Rattle.check_report.specs.Paths.{base_url, path_uri}
-use Rattle.check_report.specs.Text.{base_hint, bracketed, counted, is_broken, linked_from, name_in, redirect_target, wrong_of}
+use Rattle.check_report.specs.Text.{advised, base_hint, counted, is_broken, message, name_in, noun, pages_noun, redirect_target, written_text}
 use Rattle.check_report.specs.declared.as_page.parts.TheConstants.{HEAD, SCRIPT, STYLE, TAIL, TOOLS}
 use Rattle.check_report.specs.declared.escape.Escape.TheVariants as escape
 use Rattle.check_report.specs.declared.row.Counts.{Counts}
@@ -41,76 +41,54 @@ tail_part = TAIL.now
 abbrev pub html : List ℕ → List ℕ
 html text = escaped escape.Html text
 
-abbrev pub links_noun : ℕ → List ℕ
-links_noun n = if n == 1 then codes " broken link" else codes " broken links"
-
-abbrev pub missing_noun : ℕ → List ℕ
-missing_noun n = if n == 1 then codes " missing page" else codes " missing pages"
-
-abbrev pub invalid_noun : ℕ → List ℕ
-invalid_noun n = if n == 1 then codes " invalid link" else codes " invalid links"
-
-abbrev pub leaving_noun : ℕ → List ℕ
-leaving_noun n = if n == 1 then codes " leaving link" else codes " leaving links"
-
 -- the title counts the broken links; if there are none, the missing pages, to which no link leads; if there are none, the invalid
 -- links; if there are none, the links that lead out of the site
 abbrev pub counts_links : Totals → Bool
 counts_links t = nat_lt 0 t.broken_links || ((t.broken_urls == 0) && (t.invalid_links == 0) && (t.leaving_links == 0))
 
-abbrev pub other_count : Totals → ℕ
-other_count t = if nat_lt 0 t.invalid_links then t.invalid_links else t.leaving_links
-
-abbrev pub other_noun : Totals → List ℕ
-other_noun t = if nat_lt 0 t.invalid_links then invalid_noun t.invalid_links else leaving_noun t.leaving_links
-
 abbrev pub title_count : Totals → ℕ
-title_count t = if counts_links t then t.broken_links else (if nat_lt 0 t.broken_urls then t.broken_urls else other_count t)
+title_count t =
+    if counts_links t then t.broken_links else (if nat_lt 0 t.broken_urls then t.broken_urls else (if nat_lt 0 t.invalid_links then t.invalid_links else t.leaving_links))
 
+-- what it counts
 abbrev pub title_noun : Totals → List ℕ
-title_noun t = if counts_links t then links_noun t.broken_links else (if nat_lt 0 t.broken_urls then missing_noun t.broken_urls else other_noun t)
-
--- the page up to its body, with the title
-abbrev pub page_start : List ℕ → Totals → List ℕ
-page_start base t = head_part ++ decimal (title_count t) ++ title_noun t ++ codes " - " ++ html base ++ style_part
+title_noun t =
+    if counts_links t then noun t.broken_links (codes " broken link") (codes " broken links")
+    else (if nat_lt 0 t.broken_urls then noun t.broken_urls (codes " missing page") (codes " missing pages")
+    else (if nat_lt 0 t.invalid_links then noun t.invalid_links (codes " invalid link") (codes " invalid links") else noun t.leaving_links (codes " leaving link") (codes " leaving links")))
 
 abbrev pub verdict_start : Totals → List ℕ
 verdict_start t = if is_broken t then codes "</p>\n<h1 class=bad><b>" else codes "</p>\n<h1 class=good><b>"
 
-abbrev pub page_heading : List ℕ → Totals → List ℕ
-page_heading base t = script_part ++ html base ++ verdict_start t ++ decimal (title_count t) ++ codes "</b>" ++ title_noun t ++ codes "</h1>\n<ul>\n"
+-- the page up to the list of counts, with the title and the heading
+abbrev pub page_start : List ℕ → Totals → List ℕ
+page_start base t =
+    counted head_part (title_count t) ++ title_noun t ++ codes " - " ++ html base ++ style_part ++ script_part ++ html base ++ counted (verdict_start t) (title_count t) ++ codes "</b>"
+    ++ title_noun t ++ codes "</h1>\n<ul>\n"
 
 -- an item in the list of totals
 abbrev pub total_item : List ℕ → ℕ → List ℕ
 total_item word n = counted word n ++ codes "</b></li>\n"
 
-abbrev pub site_items : Totals → List ℕ
-site_items t = total_item (codes "<li>pages <b>") t.pages ++ total_item (codes "<li>other files <b>") t.files ++ total_item (codes "<li>links <b>") t.links ++ total_item (codes "<li>redirects <b>") t.moved
-    ++ total_item (codes "<li>other URLs of pages <b>") t.aliases
-
 -- an item if the count is not 0, otherwise nothing
 abbrev pub item_some : List ℕ → ℕ → List ℕ
 item_some word n = if n == 0 then [] else total_item word n
-
-abbrev pub broken_items : Totals → List ℕ
-broken_items t =
-    total_item (codes "<li>missing pages <b>") t.broken_urls ++ total_item (codes "<li>missing anchors <b>") t.broken_anchors
-    ++ item_some (codes "<li>invalid links <b>") t.invalid_links ++ item_some (codes "<li>leaving links <b>") t.leaving_links
 
 -- an item if there is a count, otherwise nothing
 abbrev pub item_if : List ℕ → Option ℕ → List ℕ
 item_if word None = []
 item_if word (Some n) = total_item word n
 
-abbrev pub optional_items : Counts → List ℕ
-optional_items c =
-    item_if (codes "<li>unreached files <b>") c.unreached ++ item_if (codes "<li>documents that no sitemap lists <b>") c.unlisted ++ item_if (codes "<li>external URLs <b>") c.external
-
+-- the list of counts, and the form after it
 abbrev pub count_items : Totals → Counts → List ℕ
-count_items t c = site_items t ++ broken_items t ++ optional_items c
+count_items t c =
+    total_item (codes "<li>pages <b>") t.pages ++ total_item (codes "<li>other files <b>") t.files ++ total_item (codes "<li>links <b>") t.links ++ total_item (codes "<li>redirects <b>") t.moved
+    ++ total_item (codes "<li>other URLs of pages <b>") t.aliases ++ total_item (codes "<li>missing pages <b>") t.broken_urls ++ total_item (codes "<li>missing anchors <b>") t.broken_anchors
+    ++ item_some (codes "<li>invalid links <b>") t.invalid_links ++ item_some (codes "<li>leaving links <b>") t.leaving_links ++ item_if (codes "<li>unreached files <b>") c.unreached
+    ++ item_if (codes "<li>documents that no sitemap lists <b>") c.unlisted ++ item_if (codes "<li>external URLs <b>") c.external ++ tools_part
 
 unfoldable pub page_total : List ℕ → Totals → Counts → List ℕ
-page_total base t c = page_start base t ++ page_heading base t ++ count_items t c ++ tools_part
+page_total base t c = page_start base t ++ count_items t c
 
 -- ---- sections
 
@@ -129,40 +107,30 @@ section_start section.Unused = codes "<section id=unused aria-labelledby=h-unuse
 -- ---- rows
 
 abbrev pub broken_row : Broken → List ℕ
-broken_row b = codes "<b>" ++ target_in escape.Html b ++ codes "</b>\t" ++ wrong_of escape.Html b ++ codes "\n"
+broken_row b = advised escape.Html b (codes "<b>" ++ target_in escape.Html b ++ codes "</b>\t" ++ message b.kind) ++ codes "\n"
 
--- the URL of a location in the sources, for an attribute
-abbrev pub source_link : List ℕ → Place → List ℕ
-source_link source_url p = html (base_url source_url) ++ html (path_uri (string_bytes p.file)) ++ counted (codes "#L") p.line
-
--- the start and the end of the link of a location, if there is one
+-- a tab, and the start of the link of a location to its sources, if there is one
 abbrev pub link_start : List ℕ → Place → List ℕ
-link_start source_url p = if length source_url == 0 then [] else codes "<a href=\"" ++ source_link source_url p ++ codes "\">"
+link_start source_url p =
+    if length source_url == 0 then codes "\t"
+    else codes "\t<a href=\"" ++ html (base_url source_url) ++ html (path_uri (string_bytes p.file)) ++ counted (codes "#L") p.line ++ codes "\">"
 
+-- the end of that link
 abbrev pub link_end : List ℕ → List ℕ
 link_end source_url = if length source_url == 0 then [] else codes "</a>"
 
-abbrev pub place_name : Place → List ℕ
-place_name p = html (string_bytes p.file) ++ counted (codes ":") p.line ++ counted (codes ":") p.column
-
--- a tab and the link as it is written, unless the name of its target ends with it
-abbrev pub written_cell : Broken → Option (List ℕ) → List ℕ
-written_cell b None = []
-written_cell b (Some link) = if ends_with_link b link then [] else codes "\t" ++ bracketed escape.Html (codes "(written as ") link
-
--- a location as a link, if there is one
-abbrev pub place_cell : List ℕ → Place → List ℕ
-place_cell source_url p = link_start source_url p ++ place_name p ++ link_end source_url
-
+-- a location, and the link as it is written
 abbrev pub place_row : List ℕ → Broken → Place → List ℕ
-place_row source_url b p = codes "\t" ++ place_cell source_url p ++ written_cell b (option_map string_bytes p.written) ++ codes "\n"
+place_row source_url b p =
+    link_start source_url p ++ html (string_bytes p.file) ++ counted (codes ":") p.line ++ counted (codes ":") p.column ++ link_end source_url
+    ++ written_text escape.Html (codes "\t(written as ") b (option_map string_bytes p.written) ++ codes "\n"
 
 abbrev pub worst_row : FileCount → List ℕ
 worst_row c = html (string_bytes c.file) ++ counted (codes "\t") c.links ++ codes "\n"
 
 abbrev pub redirect_row : Redirect → List ℕ
 redirect_row r =
-    page_in escape.Html (string_bytes r.page) ++ codes "\tto " ++ redirect_target escape.Html (option_map string_bytes r.target) ++ codes "\t" ++ linked_from r.pages ++ codes "\n"
+    page_in escape.Html (string_bytes r.page) ++ codes "\tto " ++ redirect_target escape.Html (option_map string_bytes r.target) ++ counted (codes "\tlinked from ") r.pages ++ pages_noun r.pages ++ codes "\n"
 
 abbrev pub external_row : External → List ℕ
 external_row e = html (string_bytes e.url) ++ counted (codes "\t") e.links ++ codes "\n"

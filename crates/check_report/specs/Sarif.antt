@@ -46,6 +46,10 @@ physical contents p =
 abbrev pub location : Contents → Place → Json
 location contents p = object (member (codes "physicalLocation") (physical contents p) no_members)
 
+-- the member of a result with the location of its link
+abbrev pub locations : Contents → Place → Members
+locations contents p = member (codes "locations") (array (item (location contents p) no_items)) no_members
+
 -- ---- results
 
 -- the tokens of the start of a result: its rule, its level and its message
@@ -60,7 +64,7 @@ result_start rule text rest =
 
 abbrev pub link_result : Contents → Broken × Place → Json
 link_result contents link =
-    object (result_start (rule_id link.0.kind) (shown (link_message link.0 link.1)) (member (codes "locations") (array (item (location contents link.1) no_items)) no_members))
+    object (result_start (rule_id link.0.kind) (shown (link_message link.0 link.1)) (locations contents link.1))
 
 -- a target without locations
 abbrev pub bare_result : Broken → Json

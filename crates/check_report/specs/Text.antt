@@ -2,7 +2,7 @@
 use Rattle.std.specs.Prelude.{ℕ, ◌==◌, Bool, true, false, ◌||◌, List, [], ◌∷◌, ◌++◌, codes, length, nat_lt, decimal, string_bytes, if◌then◌else◌, Option, None, Some, option_map}
 use Rattle.shown_text.specs.Shown.{shown}
 use Rattle.check_report.specs.Escape.{escaped}
-use Rattle.check_report.specs.Names.{ends_with_link, page_in, target_in}
+use Rattle.check_report.specs.Names.{ends_with_link, has_host, page_in, target_in}
 use Rattle.check_report.specs.Rows as line
 use Rattle.check_report.specs.Rows.{Line}
 use Rattle.check_report.specs.declared.escape.Escape.{Escape}
@@ -63,22 +63,18 @@ abbrev pub hint_text : Escape → Option (List ℕ) → List ℕ
 hint_text how None = []
 hint_text how (Some hint) = bracketed how (codes " (") hint
 
--- the page that is suggested, and the hint
-abbrev pub advice : Escape → Broken → List ℕ
-advice how b = same_name_text how (option_map string_bytes b.same_name) ++ hint_text how (option_map string_bytes b.hint)
+-- a text, and then the page that is suggested and the hint
+abbrev pub advised : Escape → Broken → List ℕ → List ℕ
+advised how b text = text ++ same_name_text how (option_map string_bytes b.same_name) ++ hint_text how (option_map string_bytes b.hint)
 
--- the link as it is written, unless the name of its target ends with it
-abbrev pub written_text : Escape → Broken → Option (List ℕ) → List ℕ
-written_text how b None = []
-written_text how b (Some link) = if ends_with_link b link then [] else bracketed how (codes " (written as ") link
+-- a word and the link as it is written, unless the name of its target ends with it
+abbrev pub written_text : Escape → List ℕ → Broken → Option (List ℕ) → List ℕ
+written_text how word b None = []
+written_text how word b (Some link) = if ends_with_link b link then [] else bracketed how word link
 
 abbrev pub redirect_target : Escape → Option (List ℕ) → List ℕ
 redirect_target how None = codes "-"
 redirect_target how (Some page) = page_in how page
-
--- what is wrong, and what is suggested
-abbrev pub wrong_of : Escape → Broken → List ℕ
-wrong_of how b = message b.kind ++ advice how b
 
 -- a word and a count
 abbrev pub counted : List ℕ → ℕ → List ℕ
@@ -93,30 +89,26 @@ counted_if word (Some n) = counted word n
 abbrev pub counted_some : List ℕ → ℕ → List ℕ
 counted_some word n = if n == 0 then [] else counted word n
 
--- what is wrong
-abbrev pub wrong_text : Bool → Kind → List ℕ
-wrong_text colour kind = code colour red ++ message kind ++ code colour plain
+-- the singular after the count 1, otherwise the plural
+abbrev pub noun : ℕ → List ℕ → List ℕ → List ℕ
+noun n one many = if n == 1 then one else many
 
 -- a target, and what is wrong with it
 abbrev pub target_start : Bool → Broken → List ℕ
-target_start colour b = target_in escape.Shown b ++ codes ": " ++ wrong_text colour b.kind
+target_start colour b = target_in escape.Shown b ++ codes ": " ++ code colour red ++ message b.kind ++ code colour plain
 
 -- and what is suggested
 abbrev pub target_text : Bool → Broken → List ℕ
-target_text colour b = target_start colour b ++ advice escape.Shown b ++ codes "\n"
+target_text colour b = advised escape.Shown b (target_start colour b) ++ codes "\n"
 
 -- a location, as compilers print it
-abbrev pub place_start : Place → List ℕ
-place_start p = shown (string_bytes p.file) ++ counted (codes ":") p.line ++ counted (codes ":") p.column ++ codes ": "
-
 abbrev pub place_head : Bool → Place → List ℕ
-place_head colour p = code colour bold ++ place_start p ++ code colour plain
+place_head colour p = code colour bold ++ shown (string_bytes p.file) ++ counted (codes ":") p.line ++ counted (codes ":") p.column ++ codes ": " ++ code colour plain
 
-abbrev pub link_text : Bool → Broken → Place → List ℕ
-link_text colour b p = target_start colour b ++ written_text escape.Shown b (option_map string_bytes p.written) ++ advice escape.Shown b ++ codes "\n"
-
+-- a location, the target of its link, and the link as it is written
 abbrev pub place_text : Bool → Broken → Place → List ℕ
-place_text colour b p = place_head colour p ++ link_text colour b p
+place_text colour b p =
+    place_head colour p ++ target_start colour b ++ (advised escape.Shown b (written_text escape.Shown (codes " (written as ") b (option_map string_bytes p.written)) ++ codes "\n")
 
 -- a target without locations has its own line
 abbrev pub broken_text : Bool → Broken → List ℕ
@@ -135,21 +127,17 @@ abbrev pub broken_total : Bool → Totals → List ℕ
 broken_total colour t =
     code colour (verdict t) ++ counted (codes "broken links ") t.broken_links ++ code colour plain
     ++ counted (codes ", missing pages ") t.broken_urls ++ counted (codes ", missing anchors ") t.broken_anchors
-    ++ counted_some (codes ", invalid links ") t.invalid_links ++ counted_some (codes ", leaving links ") t.leaving_links
-
--- the optional counts in the first line of the totals
-abbrev pub optional_total : Counts → List ℕ
-optional_total c =
-    counted_if (codes ", unreached files ") c.unreached ++ counted_if (codes ", documents that no sitemap lists ") c.unlisted ++ counted_if (codes ", external URLs ") c.external
+    ++ counted_some (codes ", invalid links ") t.invalid_links ++ counted_some (codes ", leaving links ") t.leaving_links ++ codes "\n"
 
 -- the first line of the totals
 abbrev pub site_total : Totals → Counts → List ℕ
 site_total t c =
     counted (codes "pages ") t.pages ++ counted (codes ", other files ") t.files ++ counted (codes ", links ") t.links ++ counted (codes ", redirects ") t.moved
-    ++ counted (codes ", aliases ") t.aliases ++ optional_total c
+    ++ counted (codes ", aliases ") t.aliases ++ counted_if (codes ", unreached files ") c.unreached ++ counted_if (codes ", documents that no sitemap lists ") c.unlisted
+    ++ counted_if (codes ", external URLs ") c.external ++ codes "\n"
 
 unfoldable pub total_text : Bool → Totals → Counts → List ℕ
-total_text colour t c = site_total t c ++ codes "\n" ++ broken_total colour t ++ codes "\n"
+total_text colour t c = site_total t c ++ broken_total colour t
 
 abbrev pub title : Section → List ℕ
 title section.Broken = []
@@ -160,11 +148,15 @@ title section.Unlisted = codes "documents that no sitemap lists:\n"
 title section.External = codes "external links (not checked):\n"
 title section.Unused = codes "unused --ignore entries:\n"
 
--- a folder that is not in the site, with which many paths begin
+-- a folder that is not in the site, with which many paths begin, or a URL with which many links begin
+abbrev pub hint_end : Escape → List ℕ → List ℕ
+hint_end how start =
+    if has_host start then codes " links begin with " ++ escaped how start ++ codes ": pass it as BASE"
+    else codes " paths from the root begin with " ++ escaped how start ++ codes ", which is not in the folder: pass BASE, such as https://HOST" ++ escaped how start
+
+-- how many begin with it, and of how many
 abbrev pub base_hint : Escape → BaseHint → List ℕ
-base_hint how h =
-    counted (codes "hint: ") h.paths ++ counted (codes " of ") h.of ++ codes " paths from the root begin with " ++ escaped how (string_bytes h.folder)
-    ++ codes ", which is not in the folder: pass BASE, such as https://HOST" ++ escaped how (string_bytes h.folder)
+base_hint how h = counted (codes "hint: ") h.paths ++ counted (codes " of ") h.of ++ hint_end how (string_bytes h.folder)
 
 abbrev pub base_hint_line : BaseHint → List ℕ
 base_hint_line h = base_hint escape.Shown h ++ codes "\n"
@@ -176,19 +168,14 @@ begin_text colour of_section = codes "\n" ++ code colour bold ++ title of_sectio
 abbrev pub worst_text : FileCount → List ℕ
 worst_text c = counted (codes "  ") c.links ++ codes " " ++ shown (string_bytes c.file) ++ codes "\n"
 
--- a redirect and its target
-abbrev pub moves_text : Redirect → List ℕ
-moves_text r = codes "  " ++ page_in escape.Shown (string_bytes r.page) ++ codes " -> " ++ redirect_target escape.Shown (option_map string_bytes r.target)
-
 abbrev pub pages_noun : ℕ → List ℕ
-pages_noun n = if n == 1 then codes " page" else codes " pages"
+pages_noun n = noun n (codes " page") (codes " pages")
 
--- the number of pages that link to a redirect
-abbrev pub linked_from : ℕ → List ℕ
-linked_from n = counted (codes "linked from ") n ++ pages_noun n
-
+-- a redirect, its target, and the number of pages that link to it
 abbrev pub redirect_text : Redirect → List ℕ
-redirect_text r = moves_text r ++ codes " (" ++ linked_from r.pages ++ codes ")\n"
+redirect_text r =
+    codes "  " ++ page_in escape.Shown (string_bytes r.page) ++ codes " -> " ++ redirect_target escape.Shown (option_map string_bytes r.target) ++ counted (codes " (linked from ") r.pages
+    ++ pages_noun r.pages ++ codes ")\n"
 
 -- the number of links to an external URL
 abbrev pub external_text : External → List ℕ
@@ -196,7 +183,7 @@ external_text e = counted (codes "  ") e.links ++ codes " " ++ shown (string_byt
 
 -- the text after this number of links that are not listed, with the option that lists them
 abbrev pub more_links : ℕ → List ℕ
-more_links n = if n == 1 then codes " more link (--all-sources lists it)\n" else codes " more links (--all-sources lists them)\n"
+more_links n = noun n (codes " more link (--all-sources lists it)\n") (codes " more links (--all-sources lists them)\n")
 
 abbrev pub more_text : ℕ → List ℕ
 more_text count = counted (codes "  and ") count ++ more_links count

@@ -1,26 +1,26 @@
 //! Prints a row as a GitHub annotation.
 ghost use Rattle.std.specs.Prelude.{◌≡◌, ◌++◌, OnOk};
-ghost use Rattle.check_report.specs.Annotations.{annotation_line, at_place, broken_annotation, front_of, message_line, name_annotation, place_annotation, unlisted_annotation};
+ghost use Rattle.check_report.specs.Annotations.{annotation_line, broken_annotation, file_start, hint_annotation, message_line, name_annotation, place_annotation, unlisted_annotation};
 ghost use Rattle.check_report.specs.Rows.{line_of};
 
-use crate::as_text::put_wrong_of;
-use crate::escape::{Escape, put_escaped};
-use crate::names::put_target_name;
+use crate::as_text::{message, put_base_hint};
+use crate::escape::Escape;
 use crate::paths::{slash_after, without_here};
-use crate::put::{NoMemory, put, put_counted};
+use crate::piece::{Piece, put_all};
+use crate::put::{NoMemory, put};
 use crate::row::{Row, Section};
-use crate::value::{Broken, Place};
+use crate::value::{BaseHint, Broken, Place};
 
 /// Appends the annotation of a row, if it has one; the path of its file starts with the folder.
 pub fn put_annotation(out: &mut Vec<u8>, folder: &str, row: Row<'_>) -> Result<(), NoMemory>
     ensures { OnOk result (out.new.items ≡ out.old.items ++ annotation_line folder.now (line_of row.entry)) }
 {
     match row {
+        Row::Hint(hint) => put_hint(out, hint),
         Row::Broken(broken) => put_broken(out, broken),
         Row::Place(broken, place) => put_place(out, folder, broken, place),
         Row::Name(section, text) => put_name(out, section, text),
         Row::Total { .. }
-        | Row::Hint(_)
         | Row::Begin(_)
         | Row::Finish(_)
         | Row::More(_)
@@ -30,6 +30,15 @@ pub fn put_annotation(out: &mut Vec<u8>, folder: &str, row: Row<'_>) -> Result<(
         | Row::External(_)
         | Row::Last => Ok(()),
     }
+}
+
+/// Appends a `::notice` command for the hint at BASE.
+fn put_hint(out: &mut Vec<u8>, hint: &BaseHint) -> Result<(), NoMemory>
+    ensures { OnOk result (out.new.items ≡ out.old.items ++ hint_annotation hint.now) }
+{
+    put(out, "::notice::")?;
+    put_base_hint(out, Escape::Data, hint)?;
+    put(out, "\n")
 }
 
 /// Appends an `::error` command without a location if the target has no locations; otherwise nothing.
@@ -43,7 +52,7 @@ fn put_broken(out: &mut Vec<u8>, broken: &Broken) -> Result<(), NoMemory>
     put_message(out, broken)
 }
 
-/// Appends an `::error` command for a broken link, ended by LF.
+/// Appends an `::error` command for a broken link: the file, the line and the column, and the message.
 fn put_place(
     out: &mut Vec<u8>,
     folder: &str,
@@ -52,31 +61,34 @@ fn put_place(
 ) -> Result<(), NoMemory>
     ensures { OnOk result (out.new.items ≡ out.old.items ++ place_annotation folder.now broken.now place.now) }
 {
-    put_at(out, folder, place)?;
-    put(out, "::")?;
+    put_file_start(out, without_here(folder))?;
+    put_all(
+        out,
+        &[
+            Piece::Escaped(Escape::Property, place.file.as_str()),
+            Piece::Counted(",line=", place.line),
+            Piece::Counted(",col=", place.column),
+            Piece::Text("::"),
+        ],
+    )?;
     put_message(out, broken)
 }
 
-/// Appends `::error` with the file, line and column of a link, up to the `::` before the message.
-fn put_at(out: &mut Vec<u8>, folder: &str, place: &Place) -> Result<(), NoMemory>
-    ensures { OnOk result (out.new.items ≡ out.old.items ++ at_place folder.now place.now) }
-{
-    put(out, "::error file=")?;
-    put_front(out, without_here(folder))?;
-    put_escaped(out, Escape::Property, place.file.as_str())?;
-    put_counted(out, ",line=", place.line)?;
-    put_counted(out, ",col=", place.column)
-}
-
-/// Appends the folder and a slash, or nothing for the current folder.
-fn put_front(out: &mut Vec<u8>, folder: &str) -> Result<(), NoMemory>
-    ensures { OnOk result (out.new.items ≡ out.old.items ++ front_of folder.now) }
+/// Appends `::error file=` with the folder and a slash, or without them for the current folder.
+fn put_file_start(out: &mut Vec<u8>, folder: &str) -> Result<(), NoMemory>
+    ensures { OnOk result (out.new.items ≡ out.old.items ++ file_start folder.now) }
 {
     if folder == "." {
-        return Ok(());
+        return put(out, "::error file=");
     }
-    put_escaped(out, Escape::Property, folder)?;
-    put(out, slash_after(folder))
+    put_all(
+        out,
+        &[
+            Piece::Text("::error file="),
+            Piece::Escaped(Escape::Property, folder),
+            Piece::Text(slash_after(folder)),
+        ],
+    )
 }
 
 /// Appends an `::error` command without a location for a document that no sitemap lists; nothing for other names.
@@ -98,17 +110,29 @@ fn put_name(out: &mut Vec<u8>, section: Section, text: &str) -> Result<(), NoMem
 fn put_unlisted(out: &mut Vec<u8>, document: &str) -> Result<(), NoMemory>
     ensures { OnOk result (out.new.items ≡ out.old.items ++ unlisted_annotation document.now) }
 {
-    put(out, "::error::")?;
-    put_escaped(out, Escape::Data, document)?;
-    put(out, ": not in a sitemap\n")
+    put_all(
+        out,
+        &[
+            Piece::Text("::error::"),
+            Piece::Escaped(Escape::Data, document),
+            Piece::Text(": not in a sitemap\n"),
+        ],
+    )
 }
 
 /// Appends the target, what is wrong with it, and what is suggested, and ends the line.
 fn put_message(out: &mut Vec<u8>, broken: &Broken) -> Result<(), NoMemory>
     ensures { OnOk result (out.new.items ≡ out.old.items ++ message_line broken.now) }
 {
-    put_target_name(out, Escape::Data, broken)?;
-    put(out, ": ")?;
-    put_wrong_of(out, Escape::Data, broken)?;
-    put(out, "\n")
+    put_all(
+        out,
+        &[
+            Piece::Target(Escape::Data, broken),
+            Piece::Text(": "),
+            Piece::Text(message(broken.kind)),
+            Piece::SameName(Escape::Data, &broken.same_name),
+            Piece::Hint(Escape::Data, &broken.hint),
+            Piece::Text("\n"),
+        ],
+    )
 }

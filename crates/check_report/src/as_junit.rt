@@ -8,11 +8,12 @@ use crate::messages::{NOT_IN_SITEMAP, link_message, rule_id, target_message, unl
 use crate::names::{page_name, target_name};
 use crate::ordered::{Link, bare_targets, links_by_file, ordered_targets};
 use crate::paths::path_in;
+use crate::piece::{Piece, put_all};
 use crate::printing::if_listed;
-use crate::put::{NoMemory, put, put_counted};
+use crate::put::{NoMemory, put};
 use crate::value::{Broken, Contents, Findings, Place};
 use crate::view::Order;
-use crate::xml::{put_attribute, put_xml};
+use crate::xml::put_attribute;
 use itoa::Buffer;
 use std::alloc::Global;
 
@@ -146,11 +147,16 @@ fn put_file_suite(out: &mut Vec<u8>, folder: &str, links: &[Link<'_>]) -> Result
 fn put_suite_start(out: &mut Vec<u8>, name: &str, count: u64) -> Result<(), NoMemory>
     ensures { OnOk result (out.new.items ≡ out.old.items ++ suite_start name.now count) }
 {
-    put(out, "<testsuite")?;
-    put_attribute(out, "name", name)?;
-    put_counted(out, " tests=\"", count)?;
-    put_counted(out, "\" failures=\"", count)?;
-    put(out, "\" errors=\"0\">\n")
+    put_all(
+        out,
+        &[
+            Piece::Text("<testsuite"),
+            Piece::Attribute("name", name),
+            Piece::Counted(" tests=\"", count),
+            Piece::Counted("\" failures=\"", count),
+            Piece::Text("\" errors=\"0\">\n"),
+        ],
+    )
 }
 
 /// Appends the test cases of these links.
@@ -208,22 +214,29 @@ fn push_count(text: &mut String, count: u64) -> Result<(), NoMemory>
 fn put_case_start(out: &mut Vec<u8>, name: &str, class: &str) -> Result<(), NoMemory>
     ensures { OnOk result (out.new.items ≡ out.old.items ++ case_start name.now class.now) }
 {
-    put(out, "<testcase")?;
-    put_attribute(out, "name", name)?;
+    put_all(
+        out,
+        &[Piece::Text("<testcase"), Piece::Attribute("name", name)],
+    )?;
     put_attribute(out, "classname", class)
 }
 
 /// Appends what failed, and the end of the test case.
 #[tactic(auto, unfolding(crate::specs::Junit::failure))]
-fn put_failure(out: &mut Vec<u8>, rule: &str, message: &str) -> Result<(), NoMemory>
+fn put_failure(out: &mut Vec<u8>, rule: &'static str, message: &str) -> Result<(), NoMemory>
     ensures { OnOk result (out.new.items ≡ out.old.items ++ failure rule.now message.now) }
 {
-    put(out, "><failure")?;
-    put_attribute(out, "type", rule)?;
-    put_attribute(out, "message", message)?;
-    put(out, ">")?;
-    put_xml(out, message)?;
-    put(out, "</failure></testcase>\n")
+    put_all(
+        out,
+        &[
+            Piece::Text("><failure"),
+            Piece::Attribute("type", rule),
+            Piece::Attribute("message", message),
+            Piece::Text(">"),
+            Piece::Xml(message),
+            Piece::Text("</failure></testcase>\n"),
+        ],
+    )
 }
 
 /// Appends the suite of the targets without locations, if there are any.

@@ -1,13 +1,12 @@
 //! Prints a report as SARIF 2.1.0.
-ghost use Rattle.std.specs.Prelude.{◌≡◌, ◌++◌, ◌∷◌, [], IfOk, OnOk, codes, flat_map, map, string_bytes};
-ghost use Rattle.json.specs.Token.{begin_array, end_array, key};
+ghost use Rattle.std.specs.Prelude.{◌≡◌, ◌++◌, IfOk, OnOk, codes, flat_map, map, string_bytes, true};
 ghost use Rattle.json.specs.Print.{print};
-ghost use Rattle.json.specs.Tree.{json_tokens};
-ghost use Rattle.check_report.specs.Order.{link_of};
+ghost use Rattle.json.specs.Tree.{json_tokens, members_tokens};
+ghost use Rattle.check_report.specs.Order.{bare_targets, link_of, links_by_file};
 ghost use Rattle.check_report.specs.Printing.{printed_sarif};
-ghost use Rattle.check_report.specs.Sarif.{artifact, bare_result, base_object, bases, folder_file, link_result, location, physical, region, results, sarif_head, source_file, start_tokens, text_object, unlisted_result};
+ghost use Rattle.check_report.specs.Sarif.{artifact, bare_result, base_object, bases, folder_file, link_result, locations, results, sarif_head, source_file, start_tokens, unlisted_result};
 
-use crate::as_json::{put_count, put_text};
+use crate::mark::{Mark, put_marks};
 use crate::messages::{NOT_IN_SITEMAP, link_message, rule_id, target_message, unlisted_message};
 use crate::ordered::{Link, bare_targets, links_by_file, ordered_targets};
 use crate::paths::{base_url, path_in, path_uri};
@@ -81,22 +80,18 @@ fn with_base(out: Vec<u8>, source_url: &str) -> Result<Vec<u8>, NoMemory>
 {
     let url = base_url(*out.allocator(), source_url)?;
     let mut writer = Writer::new(out);
-    writer.begin_object()?;
-    writer.key("SOURCES")?;
-    put_text_object(&mut writer, "uri", url.as_str())?;
-    writer.end_object()?;
+    put_marks(
+        &mut writer,
+        &[
+            Mark::BeginObject,
+            Mark::Key("SOURCES"),
+            Mark::BeginObject,
+            Mark::Text("uri", url.as_str()),
+            Mark::EndObject,
+            Mark::EndObject,
+        ],
+    )?;
     Ok(writer.into_inner())
-}
-
-/// Writes an object with one member, a string.
-fn put_text_object(out: &mut Writer, name: &str, text: &str) -> Result<(), NoMemory>
-    ensures tokens { OnOk result (out.new.tokens ≡ out.old.tokens ++ json_tokens (text_object name.now text.now)) }
-    ensures before { out.new.before ≡ out.old.before }
-{
-    out.begin_object()?;
-    out.key(name)?;
-    out.string(text)?;
-    out.end_object()
 }
 
 /// Appends the array of the results.
@@ -125,17 +120,29 @@ fn put_results(
     ensures tokens { OnOk result (out.new.tokens ≡ out.old.tokens ++ json_tokens (results contents.entry (map (λ target. target.now) targets.now) unlisted.now)) }
     ensures before { out.new.before ≡ out.old.before }
 {
-    let links = links_by_file(alloc, targets, true)?;
-    let bare = bare_targets(alloc, targets)?;
     out.begin_array()?;
-    put_links(alloc, out, contents, links.as_slice())?;
-    put_bare(alloc, out, bare.as_slice())?;
+    put_links(alloc, out, contents, targets)?;
+    put_bare(alloc, out, targets)?;
     put_unlisted(alloc, out, unlisted)?;
     out.end_array()
 }
 
-/// Writes a result for each of these links.
+/// Writes a result for each link to these targets, by file.
 fn put_links(
+    alloc: Global,
+    out: &mut Writer,
+    contents: Contents<'_>,
+    targets: &[&Broken],
+) -> Result<(), NoMemory>
+    ensures tokens { OnOk result (out.new.tokens ≡ out.old.tokens ++ flat_map json_tokens (map (link_result contents.entry) (links_by_file true (map (λ target. target.now) targets.now)))) }
+    ensures before { out.new.before ≡ out.old.before }
+{
+    let links = links_by_file(alloc, targets, true)?;
+    put_link_results(alloc, out, contents, links.as_slice())
+}
+
+/// Writes a result for each of these links.
+fn put_link_results(
     alloc: Global,
     out: &mut Writer,
     contents: Contents<'_>,
@@ -164,81 +171,76 @@ fn put_link(
     let message = link_message(alloc, target, place)?;
     let text = shown(alloc, message.as_str())?;
     put_result_start(out, rule_id(target.kind), text.as_str())?;
-    put_locations(alloc, out, contents, place)?;
-    out.end_object()
+    put_result_end(alloc, out, contents, place)
 }
 
 /// Writes the start of a result: its rule, its level and its message.
-fn put_result_start(out: &mut Writer, rule: &str, text: &str) -> Result<(), NoMemory>
+fn put_result_start(out: &mut Writer, rule: &'static str, text: &str) -> Result<(), NoMemory>
     ensures tokens { OnOk result (out.new.tokens ≡ out.old.tokens ++ start_tokens rule.now text.now) }
     ensures before { out.new.before ≡ out.old.before }
 {
-    out.begin_object()?;
-    put_text(out, "ruleId", rule)?;
-    put_text(out, "level", "error")?;
-    out.key("message")?;
-    put_text_object(out, "text", text)
+    put_marks(
+        out,
+        &[
+            Mark::BeginObject,
+            Mark::Text("ruleId", rule),
+            Mark::Text("level", "error"),
+            Mark::Key("message"),
+            Mark::BeginObject,
+            Mark::Text("text", text),
+            Mark::EndObject,
+        ],
+    )
 }
 
-/// Writes the member with the location of a link.
-fn put_locations(
+/// Writes the member with the location of a link, and the end of its result.
+fn put_result_end(
     alloc: Global,
     out: &mut Writer,
     contents: Contents<'_>,
     place: &Place,
 ) -> Result<(), NoMemory>
-    ensures tokens { OnOk result (out.new.tokens ≡ out.old.tokens ++ key (codes "locations") ∷ begin_array ∷ (json_tokens (location contents.entry place.now) ++ end_array ∷ [])) }
+    ensures tokens { OnOk result (out.new.tokens ≡ out.old.tokens ++ members_tokens (locations contents.entry place.now)) }
     ensures before { out.new.before ≡ out.old.before }
 {
-    out.key("locations")?;
-    out.begin_array()?;
-    put_location(alloc, out, contents, place)?;
-    out.end_array()
-}
-
-/// Writes the location of a link.
-fn put_location(
-    alloc: Global,
-    out: &mut Writer,
-    contents: Contents<'_>,
-    place: &Place,
-) -> Result<(), NoMemory>
-    ensures tokens { OnOk result (out.new.tokens ≡ out.old.tokens ++ json_tokens (location contents.entry place.now)) }
-    ensures before { out.new.before ≡ out.old.before }
-{
-    out.begin_object()?;
-    out.key("physicalLocation")?;
-    put_physical(alloc, out, contents, place)?;
-    out.end_object()
-}
-
-/// Writes the object with the file, the line and the column of a link.
-fn put_physical(
-    alloc: Global,
-    out: &mut Writer,
-    contents: Contents<'_>,
-    place: &Place,
-) -> Result<(), NoMemory>
-    ensures tokens { OnOk result (out.new.tokens ≡ out.old.tokens ++ json_tokens (physical contents.entry place.now)) }
-    ensures before { out.new.before ≡ out.old.before }
-{
-    out.begin_object()?;
+    put_marks(
+        out,
+        &[
+            Mark::Key("locations"),
+            Mark::BeginArray,
+            Mark::BeginObject,
+            Mark::Key("physicalLocation"),
+            Mark::BeginObject,
+            Mark::Key("artifactLocation"),
+        ],
+    )?;
     put_artifact(alloc, out, contents, place.file.as_str())?;
-    put_region(out, place)?;
-    out.end_object()
+    put_marks(
+        out,
+        &[
+            Mark::Key("region"),
+            Mark::BeginObject,
+            Mark::Count("startLine", place.line),
+            Mark::Count("startColumn", place.column),
+            Mark::EndObject,
+            Mark::EndObject,
+            Mark::EndObject,
+            Mark::EndArray,
+            Mark::EndObject,
+        ],
+    )
 }
 
-/// Writes the member with the file of a location.
+/// Writes the object with the file of a location.
 fn put_artifact(
     alloc: Global,
     out: &mut Writer,
     contents: Contents<'_>,
     file: &str,
 ) -> Result<(), NoMemory>
-    ensures tokens { OnOk result (out.new.tokens ≡ out.old.tokens ++ key (codes "artifactLocation") ∷ json_tokens (artifact contents.entry file.now)) }
+    ensures tokens { OnOk result (out.new.tokens ≡ out.old.tokens ++ json_tokens (artifact contents.entry file.now)) }
     ensures before { out.new.before ≡ out.old.before }
 {
-    out.key("artifactLocation")?;
     if contents.source_url.is_empty() {
         put_folder_file(alloc, out, contents.folder, file)
     } else {
@@ -258,7 +260,14 @@ fn put_folder_file(
 {
     let path = path_in(alloc, folder, file)?;
     let uri = path_uri(alloc, path.as_str())?;
-    put_text_object(out, "uri", uri.as_str())
+    put_marks(
+        out,
+        &[
+            Mark::BeginObject,
+            Mark::Text("uri", uri.as_str()),
+            Mark::EndObject,
+        ],
+    )
 }
 
 /// Writes the object of a file of the sources.
@@ -267,26 +276,28 @@ fn put_source_file(alloc: Global, out: &mut Writer, file: &str) -> Result<(), No
     ensures before { out.new.before ≡ out.old.before }
 {
     let uri = path_uri(alloc, file)?;
-    out.begin_object()?;
-    put_text(out, "uri", uri.as_str())?;
-    put_text(out, "uriBaseId", "SOURCES")?;
-    out.end_object()
+    put_marks(
+        out,
+        &[
+            Mark::BeginObject,
+            Mark::Text("uri", uri.as_str()),
+            Mark::Text("uriBaseId", "SOURCES"),
+            Mark::EndObject,
+        ],
+    )
 }
 
-/// Writes the member with the line and the column of a location.
-fn put_region(out: &mut Writer, place: &Place) -> Result<(), NoMemory>
-    ensures tokens { OnOk result (out.new.tokens ≡ out.old.tokens ++ key (codes "region") ∷ json_tokens (region place.now)) }
+/// Writes a result for each of these targets that has no locations.
+fn put_bare(alloc: Global, out: &mut Writer, targets: &[&Broken]) -> Result<(), NoMemory>
+    ensures tokens { OnOk result (out.new.tokens ≡ out.old.tokens ++ flat_map json_tokens (map bare_result (bare_targets (map (λ target. target.now) targets.now)))) }
     ensures before { out.new.before ≡ out.old.before }
 {
-    out.key("region")?;
-    out.begin_object()?;
-    put_count(out, "startLine", place.line)?;
-    put_count(out, "startColumn", place.column)?;
-    out.end_object()
+    let bare = bare_targets(alloc, targets)?;
+    put_bare_results(alloc, out, bare.as_slice())
 }
 
 /// Writes a result for each of these targets, which have no locations.
-fn put_bare(alloc: Global, out: &mut Writer, targets: &[&Broken]) -> Result<(), NoMemory>
+fn put_bare_results(alloc: Global, out: &mut Writer, targets: &[&Broken]) -> Result<(), NoMemory>
     ensures tokens { OnOk result (out.new.tokens ≡ out.old.tokens ++ flat_map (λ target. json_tokens (bare_result target.now)) targets.now) }
     ensures before { out.new.before ≡ out.old.before }
 {

@@ -11,11 +11,14 @@ mod escape;
 mod form;
 /// Laws about escaped texts and about the natural order.
 pub mod laws;
+mod mark;
+mod member;
 mod messages;
 mod names;
 mod natural;
 mod ordered;
 mod paths;
+mod piece;
 mod printing;
 mod put;
 mod row;

@@ -85,7 +85,7 @@ pub fn page_name(alloc: Global, text: &str) -> Result<String, NoMemory>
 }
 
 /// Whether the text is a URL with a host.
-fn has_host(text: &str) -> bool
+pub fn has_host(text: &str) -> bool
     ensures { result ≡ has_host text.now }
 {
     text.as_bytes().starts_with(b"http://") || text.as_bytes().starts_with(b"https://")

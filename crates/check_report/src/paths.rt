@@ -24,7 +24,7 @@ pub fn without_here(folder: &str) -> &str
 }
 
 /// The slash to put after the folder, if it does not end with one.
-pub fn slash_after(folder: &str) -> &str
+pub fn slash_after(folder: &str) -> &'static str
     ensures { result.now ≡ slash_after (slice_get folder.now (length folder.now - 1)) }
 {
     match folder.as_bytes().last() {

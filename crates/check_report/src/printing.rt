@@ -1,12 +1,12 @@
 //! Prints a report.
-ghost use Rattle.std.specs.Prelude.{◌≡◌, ℕ, [], ◌∷◌, IfOk, flat_map, map, string_bytes};
+ghost use Rattle.std.specs.Prelude.{◌≡◌, ℕ, [], ◌∷◌, IfOk, OnOk, flat_map, map, string_bytes};
 ghost use Rattle.check_report.specs.Printing.{Adds, printed, printed_annotations, printed_json, printed_page, printed_text, text_order};
 ghost use Rattle.check_report.specs.Order.{link_of, ordered_places, shown_places};
 ghost use Rattle.check_report.specs.Rows as line;
-ghost use Rattle.check_report.specs.Rows.{line_of, bare_lines, broken_lines, broken_section, counts_of, edge, external_of, external_section, file_lines, hint_lines, if_listed, left_out, lines_in, link_line, listed, name_section, place_lines, redirect_section, rest_lines, target_lines, worst_section};
+ghost use Rattle.check_report.specs.Rows.{line_of, bare_lines, broken_lines, broken_section, counts_of, edge, external_of, external_section, file_lines, hint_lines, if_listed, left_out, lines_in, link_line, listed, name_section, place_lines, redirect_section, rest_lines, rows_of, target_lines, worst_section};
 
 use crate::as_annotations::put_annotation;
-use crate::as_json::with_json;
+use crate::as_json::put_json;
 use crate::as_page::put_page;
 use crate::as_text::put_text;
 use crate::form::Form;
@@ -99,7 +99,8 @@ pub fn print_annotations(
 }
 
 /// Prints a report as an HTML page that loads nothing from the network. It shows every row without scripts. With scripts it shows
-/// the broken links by target or by file, and can search them. Each location is a link if the URL of the sources is given.
+/// the broken links by target, by target's folder or by file, and can search them. Each location is a link if the URL of the sources is
+/// given.
 ///
 /// # Errors
 /// Out of memory.
@@ -119,8 +120,7 @@ pub fn print_page(
     )
 }
 
-/// Prints the report in this form: the totals, the hint at BASE, and then each section that has rows. The view says how broken links
-/// are listed.
+/// Prints the report in this form. The view says how broken links are listed.
 fn print(
     alloc: Global,
     findings: &Findings<'_>,
@@ -130,18 +130,32 @@ fn print(
 ) -> Result<Vec<u8>, NoMemory>
     ensures { IfOk result (λ text. text.items ≡ printed form.entry view contents.entry findings.now) }
 {
+    let mut out = Vec::new(alloc);
+    put_rows(&mut out, findings, contents, view, form)?;
+    Ok(out)
+}
+
+/// Appends the rows of the report: the totals, the hint at BASE, and then each section that has rows.
+fn put_rows(
+    out: &mut Vec<u8>,
+    findings: &Findings<'_>,
+    contents: Contents<'_>,
+    view: View,
+    form: Form<'_>,
+) -> Result<(), NoMemory>
+    ensures { OnOk result (Adds form.entry out.old.items out.new.items (rows_of view contents.entry findings.now)) }
+{
     let shown = listed(findings, contents.lists);
-    let begun = with(Vec::new(alloc), form, total_of(findings, contents))?;
-    let hinted = with_hint(begun, form, findings.base_hint)?;
-    let broken = with_broken(hinted, form, shown.broken, view)?;
-    let worst = with_worst(broken, form, shown.worst)?;
-    let redirects = with_redirects(worst, form, shown.redirects)?;
-    let unreached = with_names(redirects, form, Section::Unreached, shown.unreached)?;
-    let unlisted = with_names(unreached, form, Section::Unlisted, shown.unlisted)?;
-    let external = with_external(unlisted, form, external_of(contents))?;
-    let unused = with_names(external, form, Section::Unused, shown.unused_ignores)?;
-    let all = with(unused, form, Row::Last)?;
-    Ok(all)
+    put_row(out, form, total_of(findings, contents))?;
+    put_hint(out, form, findings.base_hint)?;
+    put_broken(out, form, shown.broken, view)?;
+    put_worst(out, form, shown.worst)?;
+    put_redirects(out, form, shown.redirects)?;
+    put_names(out, form, Section::Unreached, shown.unreached)?;
+    put_names(out, form, Section::Unlisted, shown.unlisted)?;
+    put_external(out, form, external_of(contents))?;
+    put_names(out, form, Section::Unused, shown.unused_ignores)?;
+    put_row(out, form, Row::Last)
 }
 
 /// The first row of a report: the name of the site, the totals, and the optional counts.
@@ -211,247 +225,233 @@ fn external_of(contents: Contents<'_>) -> &[External]
 }
 
 /// Appends a row.
-fn with(mut out: Vec<u8>, form: Form<'_>, row: Row<'_>) -> Result<Vec<u8>, NoMemory>
-    ensures { IfOk result (λ more. Adds form.entry out.items more.items (line_of row.entry ∷ [])) }
+fn put_row(out: &mut Vec<u8>, form: Form<'_>, row: Row<'_>) -> Result<(), NoMemory>
+    ensures { OnOk result (Adds form.entry out.old.items out.new.items (line_of row.entry ∷ [])) }
 {
     match form {
-        Form::Text(colour) => {
-            put_text(&mut out, row, colour)?;
-            Ok(out)
-        }
-        Form::Json => with_json(out, row),
-        Form::Annotations(folder) => {
-            put_annotation(&mut out, folder, row)?;
-            Ok(out)
-        }
-        Form::Page(source_url) => {
-            put_page(&mut out, source_url, row)?;
-            Ok(out)
-        }
+        Form::Text(colour) => put_text(out, row, colour),
+        Form::Json => put_json(out, row),
+        Form::Annotations(folder) => put_annotation(out, folder, row),
+        Form::Page(source_url) => put_page(out, source_url, row),
     }
 }
 
 /// Appends the start or the end of a section if the section has rows.
-fn with_edge(out: Vec<u8>, form: Form<'_>, row: Row<'_>, rows: usize) -> Result<Vec<u8>, NoMemory>
-    ensures { IfOk result (λ more. Adds form.entry out.items more.items (edge rows (line_of row.entry))) }
+fn put_edge(out: &mut Vec<u8>, form: Form<'_>, row: Row<'_>, rows: usize) -> Result<(), NoMemory>
+    ensures { OnOk result (Adds form.entry out.old.items out.new.items (edge rows (line_of row.entry))) }
 {
     if rows > 0 {
-        with(out, form, row)
+        put_row(out, form, row)
     } else {
-        Ok(out)
+        Ok(())
     }
 }
 
-/// Appends the hint at a missing BASE, if there is one.
+/// Appends the hint at BASE, if there is one.
 #[tactic(auto, using(crate::proofs::Adding::adds_none))]
-fn with_hint(out: Vec<u8>, form: Form<'_>, hint: Option<&BaseHint>) -> Result<Vec<u8>, NoMemory>
-    ensures { IfOk result (λ more. Adds form.entry out.items more.items (hint_lines hint.entry)) }
+fn put_hint(out: &mut Vec<u8>, form: Form<'_>, hint: Option<&BaseHint>) -> Result<(), NoMemory>
+    ensures { OnOk result (Adds form.entry out.old.items out.new.items (hint_lines hint.entry)) }
 {
     match hint {
-        Some(hint) => with(out, form, Row::Hint(hint)),
-        None => Ok(out),
+        Some(hint) => put_row(out, form, Row::Hint(hint)),
+        None => Ok(()),
     }
 }
 
 /// Appends the section of the broken links, if there are any.
 #[tactic(auto, using(crate::proofs::Adding::section_more))]
-fn with_broken(
-    out: Vec<u8>,
+fn put_broken(
+    out: &mut Vec<u8>,
     form: Form<'_>,
     targets: &[Broken],
     view: View,
-) -> Result<Vec<u8>, NoMemory>
-    ensures { IfOk result (λ more. Adds form.entry out.items more.items (broken_section view targets.now)) }
+) -> Result<(), NoMemory>
+    ensures { OnOk result (Adds form.entry out.old.items out.new.items (broken_section view targets.now)) }
 {
     let rows = targets.len();
-    let begun = with_edge(out, form, Row::Begin(Section::Broken), rows)?;
-    let listed = with_ordered(begun, form, targets, view)?;
-    with_edge(listed, form, Row::Finish(Section::Broken), rows)
+    put_edge(out, form, Row::Begin(Section::Broken), rows)?;
+    put_ordered(out, form, targets, view)?;
+    put_edge(out, form, Row::Finish(Section::Broken), rows)
 }
 
 /// Appends the rows of the broken links, by file or by target.
-fn with_ordered(
-    out: Vec<u8>,
+fn put_ordered(
+    out: &mut Vec<u8>,
     form: Form<'_>,
     targets: &[Broken],
     view: View,
-) -> Result<Vec<u8>, NoMemory>
-    ensures { IfOk result (λ more. Adds form.entry out.items more.items (broken_lines view targets.now)) }
+) -> Result<(), NoMemory>
+    ensures { OnOk result (Adds form.entry out.old.items out.new.items (broken_lines view targets.now)) }
 {
     let ordered = ordered_targets(*out.allocator(), targets, view.order)?;
-    with_lines(out, form, ordered.as_slice(), view)
+    put_lines(out, form, ordered.as_slice(), view)
 }
 
 /// Appends the rows of these targets, by file or one target after the other.
-fn with_lines(
-    out: Vec<u8>,
+fn put_lines(
+    out: &mut Vec<u8>,
     form: Form<'_>,
     targets: &[&Broken],
     view: View,
-) -> Result<Vec<u8>, NoMemory>
-    ensures { IfOk result (λ more. Adds form.entry out.items more.items (lines_in view.order view (map (λ target. target.now) targets.now))) }
+) -> Result<(), NoMemory>
+    ensures { OnOk result (Adds form.entry out.old.items out.new.items (lines_in view.order view (map (λ target. target.now) targets.now))) }
 {
     match view.order {
-        Order::File => with_files(out, form, targets, view.all),
-        Order::Given => with_targets(out, form, targets, view),
-        Order::Target => with_targets(out, form, targets, view),
+        Order::File => put_files(out, form, targets, view.all),
+        Order::Given => put_targets(out, form, targets, view),
+        Order::Target => put_targets(out, form, targets, view),
     }
 }
 
 // ---- by target
 
 /// Appends the rows of each target.
-#[tactic(auto, using(crate::proofs::Adding::adds_none, crate::proofs::Adding::rows_more, crate::proofs::Adding::rows_all))]
-fn with_targets(
-    mut out: Vec<u8>,
+#[tactic(auto, using(crate::proofs::Adding::adds_none))]
+fn put_targets(
+    out: &mut Vec<u8>,
     form: Form<'_>,
     targets: &[&Broken],
     view: View,
-) -> Result<Vec<u8>, NoMemory>
-    ensures { IfOk result (λ more. Adds form.entry out.items more.items (flat_map (λ target. target_lines view target.now) targets.now)) }
+) -> Result<(), NoMemory>
+    ensures { OnOk result (Adds form.entry out.old.items out.new.items (flat_map (λ target. target_lines view target.now) targets.now)) }
 {
     for target in targets {
-        out = with_target(out, form, *target, view)?;
+        put_target(out, form, *target, view)?;
     }
-    Ok(out)
+    Ok(())
 }
 
 /// Appends a target, its locations, and the number of locations that are not listed.
-#[tactic(auto, using(crate::proofs::Adding::then_more, crate::proofs::Adding::adds_both, crate::proofs::Adding::adds_same))]
-fn with_target(
-    out: Vec<u8>,
+#[tactic(auto, using(crate::proofs::Adding::target_more))]
+fn put_target(
+    out: &mut Vec<u8>,
     form: Form<'_>,
     target: &Broken,
     view: View,
-) -> Result<Vec<u8>, NoMemory>
-    ensures { IfOk result (λ more. Adds form.entry out.items more.items (target_lines view target.now)) }
+) -> Result<(), NoMemory>
+    ensures { OnOk result (Adds form.entry out.old.items out.new.items (target_lines view target.now)) }
 {
-    let begun = with(out, form, Row::Broken(target))?;
-    let listed = with_listed(begun, form, target, view)?;
-    with_left_out(listed, form, target.places.len(), view.all)
+    put_row(out, form, Row::Broken(target))?;
+    put_listed(out, form, target, view)?;
+    put_left_out(out, form, target.places.len(), view.all)
 }
 
 /// Appends a row for each location of the target that is listed.
-fn with_listed(
-    out: Vec<u8>,
+fn put_listed(
+    out: &mut Vec<u8>,
     form: Form<'_>,
     target: &Broken,
     view: View,
-) -> Result<Vec<u8>, NoMemory>
-    ensures { IfOk result (λ more. Adds form.entry out.items more.items (place_lines target.now (shown_places view.all (ordered_places view.order target.now.places.items)))) }
+) -> Result<(), NoMemory>
+    ensures { OnOk result (Adds form.entry out.old.items out.new.items (place_lines target.now (shown_places view.all (ordered_places view.order target.now.places.items)))) }
 {
     let places = ordered_places(*out.allocator(), target.places.as_slice(), view.order)?;
-    with_places(out, form, target, shown_places(places.as_slice(), view.all))
+    put_places(out, form, target, shown_places(places.as_slice(), view.all))
 }
 
 /// Appends a row for each of these locations of links to the target.
 #[tactic(auto, using(crate::proofs::Adding::adds_none, crate::proofs::Adding::row_more, crate::proofs::Adding::rows_all))]
-fn with_places(
-    mut out: Vec<u8>,
+fn put_places(
+    out: &mut Vec<u8>,
     form: Form<'_>,
     target: &Broken,
     places: &[&Place],
-) -> Result<Vec<u8>, NoMemory>
-    ensures { IfOk result (λ more. Adds form.entry out.items more.items (map (λ place. line.place target.now place.now) places.now)) }
+) -> Result<(), NoMemory>
+    ensures { OnOk result (Adds form.entry out.old.items out.new.items (map (λ place. line.place target.now place.now) places.now)) }
 {
     for place in places {
-        out = with(out, form, Row::Place(target, *place))?;
+        put_row(out, form, Row::Place(target, *place))?;
     }
-    Ok(out)
+    Ok(())
 }
 
 /// Appends the number of locations that are not listed, if there are any. `places` is the number of all locations.
-fn with_left_out(
-    out: Vec<u8>,
-    form: Form<'_>,
-    places: usize,
-    all: bool,
-) -> Result<Vec<u8>, NoMemory>
-    ensures { IfOk result (λ more. Adds form.entry out.items more.items (left_out all line.more places)) }
+fn put_left_out(out: &mut Vec<u8>, form: Form<'_>, places: usize, all: bool) -> Result<(), NoMemory>
+    ensures { OnOk result (Adds form.entry out.old.items out.new.items (left_out all line.more places)) }
 {
     if all || places <= PLACES_LIMIT {
-        Ok(out)
+        Ok(())
     } else {
-        with(out, form, Row::More(places - PLACES_LIMIT))
+        put_row(out, form, Row::More(places - PLACES_LIMIT))
     }
 }
 
 // ---- by file
 
 /// Appends the links to these targets by file, then the targets without locations, then those of which not all locations are listed.
-fn with_files(
-    out: Vec<u8>,
+fn put_files(
+    out: &mut Vec<u8>,
     form: Form<'_>,
     targets: &[&Broken],
     all: bool,
-) -> Result<Vec<u8>, NoMemory>
-    ensures { IfOk result (λ more. Adds form.entry out.items more.items (file_lines all (map (λ target. target.now) targets.now))) }
+) -> Result<(), NoMemory>
+    ensures { OnOk result (Adds form.entry out.old.items out.new.items (file_lines all (map (λ target. target.now) targets.now))) }
 {
     let links = links_by_file(*out.allocator(), targets, all)?;
-    let linked = with_links(out, form, links.as_slice())?;
-    let bare = with_bare(linked, form, targets)?;
-    with_rests(bare, form, targets, all)
+    put_links(out, form, links.as_slice())?;
+    put_bare(out, form, targets)?;
+    put_rests(out, form, targets, all)
 }
 
 /// Appends a row for each of these links.
 #[tactic(auto, using(crate::proofs::Adding::adds_none, crate::proofs::Adding::row_more, crate::proofs::Adding::rows_all))]
-fn with_links(mut out: Vec<u8>, form: Form<'_>, links: &[Link<'_>]) -> Result<Vec<u8>, NoMemory>
-    ensures { IfOk result (λ more. Adds form.entry out.items more.items (map (λ link. link_line (link_of link)) links.now)) }
+fn put_links(out: &mut Vec<u8>, form: Form<'_>, links: &[Link<'_>]) -> Result<(), NoMemory>
+    ensures { OnOk result (Adds form.entry out.old.items out.new.items (map (λ link. link_line (link_of link)) links.now)) }
 {
     for link in links {
-        out = with(out, form, Row::Place(link.target, link.place))?;
+        put_row(out, form, Row::Place(link.target, link.place))?;
     }
-    Ok(out)
+    Ok(())
 }
 
 /// Appends a row for each target without locations.
-#[tactic(auto, using(crate::proofs::Adding::adds_none, crate::proofs::Adding::rows_more, crate::proofs::Adding::rows_all))]
-fn with_bare(mut out: Vec<u8>, form: Form<'_>, targets: &[&Broken]) -> Result<Vec<u8>, NoMemory>
-    ensures { IfOk result (λ more. Adds form.entry out.items more.items (flat_map (λ target. bare_lines target.now) targets.now)) }
+#[tactic(auto, using(crate::proofs::Adding::adds_none))]
+fn put_bare(out: &mut Vec<u8>, form: Form<'_>, targets: &[&Broken]) -> Result<(), NoMemory>
+    ensures { OnOk result (Adds form.entry out.old.items out.new.items (flat_map (λ target. bare_lines target.now) targets.now)) }
 {
     for target in targets {
-        out = with_bare_target(out, form, *target)?;
+        put_bare_target(out, form, *target)?;
     }
-    Ok(out)
+    Ok(())
 }
 
 /// Appends a row for the target if it has no locations.
 #[tactic(auto, using(crate::proofs::Adding::adds_none))]
-fn with_bare_target(out: Vec<u8>, form: Form<'_>, target: &Broken) -> Result<Vec<u8>, NoMemory>
-    ensures { IfOk result (λ more. Adds form.entry out.items more.items (bare_lines target.now)) }
+fn put_bare_target(out: &mut Vec<u8>, form: Form<'_>, target: &Broken) -> Result<(), NoMemory>
+    ensures { OnOk result (Adds form.entry out.old.items out.new.items (bare_lines target.now)) }
 {
     if target.places.len() > 0 {
-        Ok(out)
+        Ok(())
     } else {
-        with(out, form, Row::Broken(target))
+        put_row(out, form, Row::Broken(target))
     }
 }
 
 /// Appends a row for each target of which not all locations are listed.
-#[tactic(auto, using(crate::proofs::Adding::adds_none, crate::proofs::Adding::rows_more, crate::proofs::Adding::rows_all))]
-fn with_rests(
-    mut out: Vec<u8>,
+#[tactic(auto, using(crate::proofs::Adding::adds_none))]
+fn put_rests(
+    out: &mut Vec<u8>,
     form: Form<'_>,
     targets: &[&Broken],
     all: bool,
-) -> Result<Vec<u8>, NoMemory>
-    ensures { IfOk result (λ more. Adds form.entry out.items more.items (flat_map (λ target. rest_lines all target.now) targets.now)) }
+) -> Result<(), NoMemory>
+    ensures { OnOk result (Adds form.entry out.old.items out.new.items (flat_map (λ target. rest_lines all target.now) targets.now)) }
 {
     for target in targets {
-        out = with_rest(out, form, *target, all)?;
+        put_rest(out, form, *target, all)?;
     }
-    Ok(out)
+    Ok(())
 }
 
 /// Appends a row for the target if not all of its locations are listed.
-fn with_rest(out: Vec<u8>, form: Form<'_>, target: &Broken, all: bool) -> Result<Vec<u8>, NoMemory>
-    ensures { IfOk result (λ more. Adds form.entry out.items more.items (rest_lines all target.now)) }
+fn put_rest(out: &mut Vec<u8>, form: Form<'_>, target: &Broken, all: bool) -> Result<(), NoMemory>
+    ensures { OnOk result (Adds form.entry out.old.items out.new.items (rest_lines all target.now)) }
 {
     let places = target.places.len();
     if all || places <= PLACES_LIMIT {
-        Ok(out)
+        Ok(())
     } else {
-        with(out, form, Row::Rest(target, places - PLACES_LIMIT))
+        put_row(out, form, Row::Rest(target, places - PLACES_LIMIT))
     }
 }
 
@@ -459,99 +459,99 @@ fn with_rest(out: Vec<u8>, form: Form<'_>, target: &Broken, all: bool) -> Result
 
 /// Appends the section of the files with the most broken links, if there are any.
 #[tactic(auto, using(crate::proofs::Adding::section_more))]
-fn with_worst(out: Vec<u8>, form: Form<'_>, counts: &[FileCount]) -> Result<Vec<u8>, NoMemory>
-    ensures { IfOk result (λ more. Adds form.entry out.items more.items (worst_section counts.now)) }
+fn put_worst(out: &mut Vec<u8>, form: Form<'_>, counts: &[FileCount]) -> Result<(), NoMemory>
+    ensures { OnOk result (Adds form.entry out.old.items out.new.items (worst_section counts.now)) }
 {
     let rows = counts.len();
-    let begun = with_edge(out, form, Row::Begin(Section::Worst), rows)?;
-    let listed = with_counts(begun, form, counts)?;
-    with_edge(listed, form, Row::Finish(Section::Worst), rows)
+    put_edge(out, form, Row::Begin(Section::Worst), rows)?;
+    put_counts(out, form, counts)?;
+    put_edge(out, form, Row::Finish(Section::Worst), rows)
 }
 
 /// Appends a row for each of these files.
-#[tactic(auto, using(crate::proofs::Adding::adds_none, crate::proofs::Adding::row_more, crate::proofs::Adding::rows_all))]
-fn with_counts(mut out: Vec<u8>, form: Form<'_>, counts: &[FileCount]) -> Result<Vec<u8>, NoMemory>
-    ensures { IfOk result (λ more. Adds form.entry out.items more.items (map line.worst counts.now)) }
+#[tactic(auto, using(crate::proofs::Adding::adds_none))]
+fn put_counts(out: &mut Vec<u8>, form: Form<'_>, counts: &[FileCount]) -> Result<(), NoMemory>
+    ensures { OnOk result (Adds form.entry out.old.items out.new.items (map line.worst counts.now)) }
 {
     for count in counts {
-        out = with(out, form, Row::Worst(count))?;
+        put_row(out, form, Row::Worst(count))?;
     }
-    Ok(out)
+    Ok(())
 }
 
 /// Appends the section of the redirects that pages link to, if there are any.
 #[tactic(auto, using(crate::proofs::Adding::section_more))]
-fn with_redirects(out: Vec<u8>, form: Form<'_>, pages: &[Redirect]) -> Result<Vec<u8>, NoMemory>
-    ensures { IfOk result (λ more. Adds form.entry out.items more.items (redirect_section pages.now)) }
+fn put_redirects(out: &mut Vec<u8>, form: Form<'_>, pages: &[Redirect]) -> Result<(), NoMemory>
+    ensures { OnOk result (Adds form.entry out.old.items out.new.items (redirect_section pages.now)) }
 {
     let rows = pages.len();
-    let begun = with_edge(out, form, Row::Begin(Section::Redirects), rows)?;
-    let listed = with_moved(begun, form, pages)?;
-    with_edge(listed, form, Row::Finish(Section::Redirects), rows)
+    put_edge(out, form, Row::Begin(Section::Redirects), rows)?;
+    put_moved(out, form, pages)?;
+    put_edge(out, form, Row::Finish(Section::Redirects), rows)
 }
 
 /// Appends a row for each of these redirects.
-#[tactic(auto, using(crate::proofs::Adding::adds_none, crate::proofs::Adding::row_more, crate::proofs::Adding::rows_all))]
-fn with_moved(mut out: Vec<u8>, form: Form<'_>, pages: &[Redirect]) -> Result<Vec<u8>, NoMemory>
-    ensures { IfOk result (λ more. Adds form.entry out.items more.items (map line.redirect pages.now)) }
+#[tactic(auto, using(crate::proofs::Adding::adds_none))]
+fn put_moved(out: &mut Vec<u8>, form: Form<'_>, pages: &[Redirect]) -> Result<(), NoMemory>
+    ensures { OnOk result (Adds form.entry out.old.items out.new.items (map line.redirect pages.now)) }
 {
     for page in pages {
-        out = with(out, form, Row::Redirect(page))?;
+        put_row(out, form, Row::Redirect(page))?;
     }
-    Ok(out)
+    Ok(())
 }
 
 /// Appends the section of the external URLs, if there are any.
 #[tactic(auto, using(crate::proofs::Adding::section_more))]
-fn with_external(out: Vec<u8>, form: Form<'_>, urls: &[External]) -> Result<Vec<u8>, NoMemory>
-    ensures { IfOk result (λ more. Adds form.entry out.items more.items (external_section urls.now)) }
+fn put_external(out: &mut Vec<u8>, form: Form<'_>, urls: &[External]) -> Result<(), NoMemory>
+    ensures { OnOk result (Adds form.entry out.old.items out.new.items (external_section urls.now)) }
 {
     let rows = urls.len();
-    let begun = with_edge(out, form, Row::Begin(Section::External), rows)?;
-    let listed = with_urls(begun, form, urls)?;
-    with_edge(listed, form, Row::Finish(Section::External), rows)
+    put_edge(out, form, Row::Begin(Section::External), rows)?;
+    put_urls(out, form, urls)?;
+    put_edge(out, form, Row::Finish(Section::External), rows)
 }
 
 /// Appends a row for each of these external URLs.
-#[tactic(auto, using(crate::proofs::Adding::adds_none, crate::proofs::Adding::row_more, crate::proofs::Adding::rows_all))]
-fn with_urls(mut out: Vec<u8>, form: Form<'_>, urls: &[External]) -> Result<Vec<u8>, NoMemory>
-    ensures { IfOk result (λ more. Adds form.entry out.items more.items (map line.external urls.now)) }
+#[tactic(auto, using(crate::proofs::Adding::adds_none))]
+fn put_urls(out: &mut Vec<u8>, form: Form<'_>, urls: &[External]) -> Result<(), NoMemory>
+    ensures { OnOk result (Adds form.entry out.old.items out.new.items (map line.external urls.now)) }
 {
     for url in urls {
-        out = with(out, form, Row::External(url))?;
+        put_row(out, form, Row::External(url))?;
     }
-    Ok(out)
+    Ok(())
 }
 
 /// Appends a section of names, if there are any: the unreached files, the documents that no sitemap lists, or the unused entries of
 /// the ignore list.
 #[tactic(auto, using(crate::proofs::Adding::section_more))]
-fn with_names(
-    out: Vec<u8>,
+fn put_names(
+    out: &mut Vec<u8>,
     form: Form<'_>,
     section: Section,
     texts: &[String],
-) -> Result<Vec<u8>, NoMemory>
-    ensures { IfOk result (λ more. Adds form.entry out.items more.items (name_section section texts.now)) }
+) -> Result<(), NoMemory>
+    ensures { OnOk result (Adds form.entry out.old.items out.new.items (name_section section texts.now)) }
 {
     let rows = texts.len();
-    let begun = with_edge(out, form, Row::Begin(section), rows)?;
-    let listed = with_texts(begun, form, section, texts)?;
-    with_edge(listed, form, Row::Finish(section), rows)
+    put_edge(out, form, Row::Begin(section), rows)?;
+    put_texts(out, form, section, texts)?;
+    put_edge(out, form, Row::Finish(section), rows)
 }
 
 /// Appends a row for each of these names.
 #[tactic(auto, using(crate::proofs::Adding::adds_none, crate::proofs::Adding::row_more, crate::proofs::Adding::adds_same, crate::proofs::Adding::rows_all))]
-fn with_texts(
-    mut out: Vec<u8>,
+fn put_texts(
+    out: &mut Vec<u8>,
     form: Form<'_>,
     section: Section,
     texts: &[String],
-) -> Result<Vec<u8>, NoMemory>
-    ensures { IfOk result (λ more. Adds form.entry out.items more.items (map (λ text. line.name section (string_bytes text)) texts.now)) }
+) -> Result<(), NoMemory>
+    ensures { OnOk result (Adds form.entry out.old.items out.new.items (map (λ text. line.name section (string_bytes text)) texts.now)) }
 {
     for text in texts {
-        out = with(out, form, Row::Name(section, text.as_str()))?;
+        put_row(out, form, Row::Name(section, text.as_str()))?;
     }
-    Ok(out)
+    Ok(())
 }

@@ -1,6 +1,6 @@
 //! Appends texts and numbers.
 ghost use Rattle.std.specs.Prelude.{◌≡◌, ◌++◌, OnOk, decimal};
-ghost use Rattle.check_report.specs.Text.{code, counted, counted_if, counted_some};
+ghost use Rattle.check_report.specs.Text.{code, counted, counted_if, counted_some, noun};
 
 use itoa::Buffer;
 use std::alloc::AllocError;
@@ -16,7 +16,7 @@ pub fn put(out: &mut Vec<u8>, text: &str) -> Result<(), NoMemory>
 }
 
 /// Appends a count in decimal digits.
-pub fn put_count(out: &mut Vec<u8>, count: u64) -> Result<(), NoMemory>
+fn put_count(out: &mut Vec<u8>, count: u64) -> Result<(), NoMemory>
     ensures { OnOk result (out.new.items ≡ out.old.items ++ decimal count) }
 {
     let mut buffer = Buffer::new();
@@ -57,4 +57,11 @@ pub fn put_code(out: &mut Vec<u8>, colour: bool, text: &str) -> Result<(), NoMem
     ensures { OnOk result (out.new.items ≡ out.old.items ++ code colour text.now) }
 {
     if colour { put(out, text) } else { Ok(()) }
+}
+
+/// The singular after the count 1, otherwise the plural.
+pub fn noun(count: u64, one: &'static str, many: &'static str) -> &'static str
+    ensures { result.now ≡ noun count one.now many.now }
+{
+    if count == 1 { one } else { many }
 }

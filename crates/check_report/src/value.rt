@@ -20,7 +20,7 @@ pub struct Findings<'a> {
     pub unlisted: &'a [String],
     /// The entries of the ignore list that match nothing.
     pub unused_ignores: &'a [String],
-    /// A hint at a missing BASE.
+    /// A hint at a missing or wrong BASE.
     pub base_hint: Option<&'a BaseHint>,
 }
 
@@ -138,14 +138,15 @@ pub struct Place {
     pub written: Option<String>,
 }
 
-/// A folder with which many links to missing pages begin, and which is not in the site.
+/// The start that many links share, if it shows that BASE is missing or wrong: a folder that is not in the site, or a whole URL.
 #[derive(Drop)]
 pub struct BaseHint {
-    /// The start of the paths: a slash, the name of the folder, and a slash.
+    /// A slash, the name of the folder, and a slash; or a URL that begins with `http://` or `https://`.
     pub folder: String,
-    /// The number of locations of links to missing pages whose path begins with the folder.
+    /// The number of locations of links to missing pages whose path begins with the folder; or the number of links that begin with the
+    /// URL.
     pub paths: u64,
-    /// The number of locations of links to missing pages that are a path from the root.
+    /// The number of locations of links to missing pages that are a path from the root; or the number of links.
     pub of: u64,
 }
 

@@ -6,4 +6,5 @@ mod keys;
 mod machine;
 mod rebuilding;
 mod sessions;
+mod shown_texts;
 mod start_tags;

@@ -4,7 +4,5 @@
 mod escape;
 /// Laws about shown texts.
 pub mod laws;
-#[cfg(test)]
-mod tests;
 
 pub use escape::{put_shown, put_shown_char, shown, shown_lines};

@@ -9,7 +9,7 @@ pub static HEAD: &str = r#"<!doctype html>
 <meta name=color-scheme content="light dark">
 <meta name=format-detection content="telephone=no">
 <meta name=referrer content=no-referrer>
-<meta http-equiv=Content-Security-Policy content="default-src 'none'; style-src 'unsafe-inline'; script-src 'sha256-AzQxg9zD2d843T7JXx+EW0eFK2ZZxE0ks+RTrH0tKx8='; base-uri 'none'; form-action 'none'">
+<meta http-equiv=Content-Security-Policy content="default-src 'none'; style-src 'unsafe-inline'; script-src 'sha256-qSS4QjvYXRNfJI2v+DK7HJoWJuz8PrqfemGtbSqja5U='; base-uri 'none'; form-action 'none'">
 <title>"#;
 
 /// The text from the title to the script.
@@ -63,7 +63,7 @@ summary { cursor: pointer; }
 
 /// The script, and the text up to the site's name.
 pub static SCRIPT: &str = r#"<script>
-// Reads the plain lists once and shows them as tables, by target or by file. Text of the site only enters the page as text nodes.
+// Reads the plain lists once and shows them as tables, by target, by its folder or by file. Text of the site only enters the page as text nodes.
 (() => {
 'use strict';
 const root = document.documentElement;
@@ -111,15 +111,29 @@ for (const line of section.querySelector('pre').textContent.split('\n')) {
     const target = targets[targets.length - 1], source = sources[place++];
     const href = source && source.href, aside = written ? ' ' + written : '';
     target.list.push({ text: location + aside, href });
-    if (!files.has(file)) files.set(file, { name: file, note: '', list: [] });
+    target.links++;
+    if (!files.has(file)) files.set(file, { name: file, note: '', links: 0, list: [] });
     files.get(file).list.push({ text: target.name + ' at ' + location.slice(file.length + 1) + ': ' + target.note + aside, href });
+    files.get(file).links++;
   } else if (line) {
     const [name, note] = line.split('\t');
-    targets.push({ name, note, list: [] });
+    targets.push({ name, note, links: 0, list: [] });
   }
 }
-const views = { target: targets, file: [...files.values()] };
-const most = (rows) => rows.slice().sort((a, b) => b.list.length - a.list.length);
+// Targets that are alike are one row: anchors by their page, other targets by the text up to the last slash.
+const folders = new Map();
+for (const { name, note, links, list } of targets) {
+  const folder = (/^[^#]*(?=#)/.exec(name) || /^.*\//.exec(name) || ['./'])[0];
+  if (!folders.has(folder)) folders.set(folder, { name: folder, targets: 0, links: 0, list: [] });
+  const row = folders.get(folder);
+  row.targets++;
+  row.note = row.targets + (row.targets === 1 ? ' target' : ' targets');
+  row.links += links;
+  if (!links) row.list.push({ text: name + ': ' + note });
+  for (const { text, href } of list) row.list.push({ text: name + ' at ' + text + ': ' + note, href });
+}
+const views = { target: targets, folder: [...folders.values()], file: [...files.values()] };
+const most = (rows) => rows.slice().sort((a, b) => b.links - a.links);
 const lows = new Map(); // the lower-case texts that a search looks in, by view
 function low(by) {
   if (!lows.has(by)) lows.set(by, views[by].map((row) => [row.name, row.note, ...row.list.map((one) => one.text)].join('\n').toLowerCase()));
@@ -146,7 +160,7 @@ function draw() {
   for (; drawn < end; drawn++) {
     const row = rows[drawn], head = make('th', { scope: 'row' }, text(row.name));
     if (row.note) head.append(make('div', { className: 'aside' }, row.note));
-    some.append(make('tr', {}, make('td', { className: 'n' }, row.list.length), head, cell(row.list)));
+    some.append(make('tr', {}, make('td', { className: 'n' }, row.links), head, cell(row.list)));
   }
   body.append(some);
   more.hidden = drawn === rows.length;
@@ -157,8 +171,8 @@ function search() {
   const words = $('q').value.toLowerCase().split(/\s+/).filter(Boolean);
   rows = words.length ? all.filter((_, k) => words.every((word) => searched[k].includes(word))) : all;
   if ($('order').value === 'most') rows = most(rows);
-  headA.textContent = by === 'file' ? 'File' : 'Target';
-  headB.textContent = by === 'file' ? 'Broken links' : 'Locations';
+  headA.textContent = { target: 'Target', folder: 'Folder of the targets', file: 'File' }[by];
+  headB.textContent = by === 'target' ? 'Locations' : 'Broken links';
   body.textContent = '';
   drawn = 0;
   draw();
@@ -190,7 +204,7 @@ pub static TOOLS: &str = r#"</ul>
 <main id=main>
 <form id=tools role=search hidden>
 <input type=search id=q aria-label="Search broken links" placeholder="Search (all words must match)">
-<select id=by aria-label="Group by"><option value=target>by target</option><option value=file>by file</option></select>
+<select id=by aria-label="Group by"><option value=target>by target</option><option value=folder>by target's folder</option><option value=file>by file</option></select>
 <select id=order aria-label="Order"><option value=given>in report order</option><option value=most>most links first</option></select>
 <span id=said role=status></span>
 </form>

@@ -164,7 +164,8 @@ const JSON: &str =
 ";
 
 const ANNOTATIONS: &str =
-    "::error file=s%3Ate/a.html,line=41,col=12::down.html: no such page (did you mean lib/down.html?)
+    "::notice::hint: 3 of 4 paths from the root begin with /d&/, which is not in the folder: pass BASE, such as https://HOST/d&/
+::error file=s%3Ate/a.html,line=41,col=12::down.html: no such page (did you mean lib/down.html?)
 ::error file=s%3Ate/b.html,line=3,col=1::down.html: no such page (did you mean lib/down.html?)
 ::error file=s%3Ate/b.html,line=4,col=1::down.html: no such page (did you mean lib/down.html?)
 ::error file=s%3Ate/c.html,line=5,col=6::down.html: no such page (did you mean lib/down.html?)
@@ -296,9 +297,10 @@ http://a.test/
 </html>
 ";
 
-/// The text of a report without rows, with colour: only the totals.
-const NOTHING: &str = "pages 4, other files 1, links 20, redirects 2, aliases 3
+/// The text of a report without sections, with colour: only the totals and the hint.
+const NO_SECTION: &str = "pages 4, other files 1, links 20, redirects 2, aliases 3
 \x1b[31mbroken links 5\x1b[0m, missing pages 2, missing anchors 1, invalid links 4, leaving links 3
+hint: 2 of 3 links begin with https://s.test/d\\u{a}/: pass it as BASE
 ";
 
 /// A link in the file `a.html` of a folder.
@@ -595,18 +597,34 @@ fn printed(alloc: Global) -> Option<[bool; 7]> {
 }
 
 /// Optional lists that are not chosen are neither counted nor printed.
-fn nothing(alloc: Global) -> Option<bool> {
+fn has_no_section(alloc: Global) -> Option<bool> {
     let unreached = [text(alloc, "x.html")?];
+    let folder = text(alloc, "https://s.test/d\n/")?;
+    let hint = BaseHint {
+        folder,
+        paths: 2,
+        of: 3,
+    };
+    let text = without_lists(alloc, &unreached, &hint)?;
+    Some(text.as_slice() == NO_SECTION.as_bytes())
+}
+
+/// The text of a report with these files and this hint, of which no list is chosen.
+fn without_lists<'a>(
+    alloc: Global,
+    unreached: &'a [String],
+    hint: &'a BaseHint,
+) -> Option<Vec<u8>> {
     let findings = Findings {
         base: "",
         totals: TOTALS,
         broken: &[],
         worst: &[],
         redirects: &[],
-        unreached: &unreached,
-        unlisted: &unreached,
+        unreached,
+        unlisted: unreached,
         unused_ignores: &[],
-        base_hint: None,
+        base_hint: Some(hint),
     };
     let contents = Contents {
         lists: Lists::default(),
@@ -614,8 +632,7 @@ fn nothing(alloc: Global) -> Option<bool> {
         folder: "",
         source_url: "",
     };
-    let text = print_text(alloc, &findings, contents, true).ok()?;
-    Some(text.as_slice() == NOTHING.as_bytes())
+    print_text(alloc, &findings, contents, true).ok()
 }
 
 fn annotated(alloc: Global, folder: &str) -> Option<Vec<u8>> {
@@ -931,6 +948,6 @@ fn prints_each_form(rt: HostRuntime) {
 }
 
 #[test]
-fn prints_totals_alone(rt: HostRuntime) {
-    assert!(rt; nothing(rt.alloc()) == Some(true));
+fn prints_only_totals_and_the_hint(rt: HostRuntime) {
+    assert!(rt; has_no_section(rt.alloc()) == Some(true));
 }

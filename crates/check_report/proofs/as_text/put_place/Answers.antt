@@ -1,0 +1,17 @@
+use Rattle.check_report.proofs.Prelude.{codes, option_map, string_bytes, ◌++◌}
+use Rattle.check_report.specs.Text.{advised, place_head, target_start, written_text}
+use Rattle.check_report.specs.declared.escape.Escape.TheVariants as escape
+use Rattle.check_report.proofs.Adding.{joined, last_joined}
+use Rattle.check_report.proofs.as_text.put_place.Goals as goal
+
+pub returns : goal.returns
+returns c =
+    let broken = c.args.broken.now in
+    let place = c.args.place.now in
+    let old = c.args.out.now.items in
+    let placed = c.put_place_head.new.out.items in
+    let begun = c.put_target_start.new.out.items in
+    let head = place_head c.args.colour place in
+    let start = target_start c.args.colour broken in
+    let rest = advised escape.Shown broken (written_text escape.Shown (codes " (written as ") broken (option_map string_bytes place.written)) ++ codes "\n" in
+    last_joined c.put_all.result old begun c.put_all.new.out.items (head ++ start) rest (joined old placed begun head start c.in_ok-put_place_head.ensures c.in_ok-put_target_start.ensures) c.put_all.ensures
