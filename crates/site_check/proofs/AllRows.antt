@@ -65,11 +65,11 @@ other_hint front entries files url page other = grind (arith, common_steps, case
 no_text : (front url : List ℕ) (page : Page) → is_found page ≡ true → text_at front (record { url = url; page = page }) ≡ []
 no_text front url page found = grind (arith, common_steps)
 
-results_at : (all : List code.Linked) → map result_at all ≡ map (λ (l : Linked). l.result) (map linked_at all)
+pub results_at : (all : List code.Linked) → map result_at all ≡ map (λ (l : Linked). l.result) (map linked_at all)
 results_at [] = refl
 results_at (l ∷ all) = ap (λ rs. l.result.now ∷ rs) (results_at all)
 
-results_back : (results rs : List PageResult) → map (λ (l : Linked). l.result) (map (linked results) rs) ≡ rs
+pub results_back : (results rs : List PageResult) → map (λ (l : Linked). l.result) (map (linked results) rs) ≡ rs
 results_back results [] = refl
 results_back results (r ∷ rs) = ap (λ l. r ∷ l) (results_back results rs)
 

@@ -2,7 +2,7 @@
 use Rattle.site_check.proofs.Prelude.{common_steps, ◌≡◌, ◌∙◌, ℕ, Bool, true, ◌||◌, List, [], ◌∷◌, ◌++◌, length, take, drop, cond, refl, sym, ap, inl, inr, arith, cases_Bool, cond-true, cond-false, take-append-drop, bytes_eq-Decides, Bor, list_any, pointed, begins}
 use Rattle.std.proofs.Math.Seq.{take-append_seam}
 
-begins_with : (front url rest : List ℕ) → url ≡ front ++ rest → begins front url ≡ true
+pub begins_with : (front url rest : List ℕ) → url ≡ front ++ rest → begins front url ≡ true
 begins_with front url rest e = grind (arith, common_steps, bytes_eq-Decides, take-append_seam)
 
 pub cut_front : (front url rest : List ℕ) (n : ℕ) → n ≡ length front → url ≡ front ++ drop n url → rest ≡ drop n url →

@@ -6,12 +6,17 @@ pub mod FileEntries
 pub mod FileNames
 pub mod Fronts
 pub mod LeadsFound
+pub mod LeadTargets
 pub mod LeavingRows
+pub mod LinkFolders
 pub mod Listed
+pub mod LocatedRows
 pub mod Marks
 pub mod Namesakes
+pub mod Orders
 pub mod Outsides
 pub mod Patterns
+pub mod Placed
 pub mod Retained
 pub mod RootFolders
 pub mod RowsLeft

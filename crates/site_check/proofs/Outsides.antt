@@ -48,9 +48,9 @@ numbers_behind entries n (x ∷ xs) ys =
     ∙ ap (λ k. (here ++ outside_targets entries (n + 1) xs) ++ outside_targets entries k ys) place
 
 -- one URL more
-pub outside_more : (entries : List (List ℕ)) (n : ℕ) (outside : List Outside) (i : ℕ) (one : Outside) → i < length outside → one ≡ get_or outside i one →
-    outside_targets entries n (take (i + 1) outside) ≡ outside_targets entries n (take i outside) ++ to_number one.linked.result.now.url (outside_number entries (n + i) one)
-outside_more entries n outside i one below is = grind (arith, common_steps, length-take-le, take_more, numbers_behind, no_more)
+pub outside_more : (entries : List (List ℕ)) (outside : List Outside) (i : ℕ) (one : Outside) → i < length outside → one ≡ get_or outside i one →
+    outside_targets entries 0 (take (i + 1) outside) ≡ outside_targets entries 0 (take i outside) ++ to_number one.linked.result.now.url (outside_number entries i one)
+outside_more entries outside i one below is = grind (arith, common_steps, length-take-le, take_more, numbers_behind, no_more)
 
 -- ---- paths
 

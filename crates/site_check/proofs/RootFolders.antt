@@ -124,9 +124,8 @@ count_fits counts folder more folders small are =
     omega (arith, small, all, one, most, same, path_more folder more folder.now)
 
 -- what is left from an index on
-pub cut_here : (folders : List (Bor (List ℕ))) (i : ℕ) (folder : Bor (List ℕ)) → i < length folders → folder ≡ get_or folders i folder → drop i folders ≡ folder ∷ drop (i + 1) folders
-cut_here folders i folder below is =
-    drop-cons folders i folder below ∙ ap (λ x. x ∷ drop (suc i) folders) (sym is) ∙ ap (λ n. folder ∷ drop n folders) (sym (add-one i))
+pub cut_here : {X : Type 0} (xs : List X) (i : ℕ) (x : X) → i < length xs → x ≡ get_or xs i x → drop i xs ≡ x ∷ drop (i + 1) xs
+cut_here xs i x below is = drop-cons xs i x below ∙ ap (λ y. y ∷ drop (suc i) xs) (sym is) ∙ ap (λ n. x ∷ drop n xs) (sym (add-one i))
 
 pub counts_more : (old new : Counts) (folders : List (Bor (List ℕ))) (i : ℕ) (folder : Bor (List ℕ)) → i < length folders → folder ≡ get_or folders i folder → length folders < 2 ^ 64 →
     AreCounts old (drop i folders) folders → (count_at old folder.now + 1 < 2 ^ 64 → (other : List ℕ) → count_at new other ≡ one_if (bytes_eq folder.now other) + count_at old other) →

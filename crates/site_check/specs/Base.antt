@@ -106,8 +106,8 @@ abbrev pub hint_among : SiteFiles → List (List ℕ) → Option Hint
 hint_among files folders = option_and_then (hint_for files folders) (often_first (length folders) (path_count folders) folders)
 
 -- only if the URL of the site is not known
-abbrev pub base_hint_of : Bool → SiteFiles → List Broken → Option Hint
-base_hint_of rooted files rows = if rooted then hint_among files (flat_map row_folders rows) else None
+abbrev pub root_hint_of : Bool → SiteFiles → List Broken → Option Hint
+root_hint_of rooted files rows = if rooted then hint_among files (flat_map row_folders rows) else None
 
 -- ---- the counts
 

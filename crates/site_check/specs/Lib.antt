@@ -7,6 +7,9 @@ pub mod Ignored
 pub mod Invalid
 pub mod Leads
 pub mod Leaving
+pub mod LinkBase
+pub mod Located
+pub mod Locations
 pub mod Maps
 pub mod Names
 pub mod Reported

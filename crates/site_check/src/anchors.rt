@@ -1,16 +1,20 @@
 //! Links to anchors that documents do not have.
 ghost use Rattle.std.specs.Prelude.{◌≡◌, ◌∷◌, ◌++◌, ℕ, List, [], OnOk, map, string_bytes};
 ghost use Rattle.site_files.specs.declared.files.SiteFiles.{SiteFiles};
+ghost use Rattle.check_report.specs.declared.value.Kind.TheVariants.{NoAnchor};
+ghost use Rattle.site_check.specs.Broken.{is_ignored};
 ghost use Rattle.site_check.specs.Hints.{hints_in};
 ghost use Rattle.site_check.specs.Ignored.{not_ignored, anchors_in};
 ghost use Rattle.site_check.specs.Invalid.{invalid_rows_in};
 ghost use Rattle.site_check.specs.Leaving.{leaving_in};
+ghost use Rattle.site_check.specs.Located.{KeepsRows, located_row, placed_at, row_unless};
+ghost use Rattle.site_check.specs.Locations.{location_of};
 ghost use Rattle.site_check.specs.Names.{AreNamed};
 ghost use Rattle.site_check.specs.Anchors.{anchor_text};
 ghost use Rattle.site_check.specs.Told.{rows_in};
 
 use crate::ignored::is_ignored;
-use crate::located::take_places;
+use crate::located::{ANCHORS, TargetPlace, row_places};
 use crate::missing_anchors::{Anchor, MissingAnchor, MissingAnchorLink, sort_by_anchor};
 use crate::site_pages::{DocumentUrl, Pages};
 use check_report::{Broken, Kind, Place};
@@ -123,14 +127,14 @@ fn push_link<'a>(
     Ok(())
 }
 
-/// Appends the rows of these anchors, in order, without those that an entry matches. `found` has the locations of the links to each,
-/// after those of `before` other targets.
+/// Appends the rows of these anchors, in order, without those that an entry matches. `places` are the locations of links, sorted by their
+/// targets.
+#[tactic(auto, using(crate::proofs::LocatedRows::keeps_none))]
 pub(crate) fn push_anchors(
     alloc: Global,
     ignores: &[String],
     anchors: &[MissingAnchor],
-    before: usize,
-    found: &mut [Vec<Place>],
+    places: &[TargetPlace],
     all: &mut Vec<Broken>,
 ) -> Result<(), NoMemory>
     ensures rows { OnOk result (rows_in all.new.items ≡ rows_in all.old.items) }
@@ -139,11 +143,11 @@ pub(crate) fn push_anchors(
     ensures invalid { OnOk result (invalid_rows_in all.new.items ≡ invalid_rows_in all.old.items) }
     ensures leaving { OnOk result (leaving_in all.new.items ≡ leaving_in all.old.items) }
     ensures hints { OnOk result (hints_in all.new.items ≡ hints_in all.old.items) }
+    ensures located { OnOk result (KeepsRows (map placed_at places.now) 1 (map anchor_text anchors.now) (map located_row all.old.items) (map located_row all.new.items)) }
 {
     for (index, anchor) in anchors.iter().enumerate() {
-        let number = before.saturating_add(index);
-        let places = take_places(alloc, found, number, anchor.text.as_str());
-        push_anchor(ignores, anchor, places, all)?;
+        let own = row_places(alloc, places, ANCHORS, index, anchor.text.as_str())?;
+        push_anchor(ignores, anchor, own, all)?;
     }
     Ok(())
 }
@@ -161,6 +165,7 @@ fn push_anchor(
     ensures invalid { OnOk result (invalid_rows_in all.new.items ≡ invalid_rows_in all.old.items) }
     ensures leaving { OnOk result (leaving_in all.new.items ≡ leaving_in all.old.items) }
     ensures hints { OnOk result (hints_in all.new.items ≡ hints_in all.old.items) }
+    ensures located { OnOk result (map located_row all.new.items ≡ map located_row all.old.items ++ row_unless (is_ignored (map string_bytes ignores.now) (anchor_text anchor.now)) NoAnchor (anchor_text anchor.now) (map location_of places.items)) }
 {
     if is_ignored(ignores, anchor.text.as_str()) {
         return Ok(());

@@ -1,9 +1,9 @@
-//! The hint at a missing BASE.
+//! The hint at a missing BASE, by the links to missing pages.
 ghost use Rattle.std.specs.Prelude.{◌≡◌, ◌<◌, ◌+◌, ◌^◌, ◌&&◌, ◌∷◌, ◌++◌, ℕ, List, [], IfOk, OnOk, Some, bytes_eq, not, option_map, slice_get, string_bytes};
 ghost use Rattle.std.specs.List.{flat_map, list_any};
 ghost use Rattle.crawl_sources.specs.Tallies.{pointed};
 ghost use Rattle.site_files.specs.Files.{PageFile, pages_of};
-ghost use Rattle.site_check.specs.Base.{base_hint_of, begins_name, count_at, has_folder, hint_among, hint_at, hint_with, is_in_folder, is_mark, is_often, is_plain, is_special, named_folder, often_first, one_if, path_count, place_folder, root_folder, row_folders, to_slash, written_folder};
+ghost use Rattle.site_check.specs.Base.{begins_name, count_at, has_folder, hint_among, hint_at, hint_with, is_in_folder, is_mark, is_often, is_plain, is_special, named_folder, often_first, one_if, path_count, place_folder, root_folder, root_hint_of, row_folders, to_slash, written_folder};
 
 use crate::names::split_byte;
 use crate::shown::{is_below, shown};
@@ -16,13 +16,13 @@ use std::collections::BTreeMap;
 
 /// The folder that BASE would name, if the URL of the site is not known: many links to missing pages are written as paths from the root
 /// that begin with it, and the site does not have it.
-pub(crate) fn base_hint(
+pub(crate) fn root_hint(
     alloc: Global,
     rooted: bool,
     files: &SiteFiles<'_>,
     rows: &[Broken],
 ) -> Result<Option<BaseHint>, NoMemory>
-    ensures { IfOk result (λ hint. option_map hint_at hint ≡ base_hint_of rooted files.now rows.now) }
+    ensures { IfOk result (λ hint. option_map hint_at hint ≡ root_hint_of rooted files.now rows.now) }
 {
     if !rooted {
         return Ok(None);
@@ -217,7 +217,11 @@ pub(crate) fn count_at<'a>(counts: &PathCounts<'a>, folder: &'a str) -> u64
 
 /// The first folder that at least half and at least two of the paths have.
 #[tactic(auto, using(crate::proofs::RootFolders::often_here, crate::proofs::RootFolders::often_skip, crate::proofs::RootFolders::often_none))]
-fn often_first<'a>(of: u64, counts: &PathCounts<'a>, folders: &[&'a str]) -> Option<&'a str>
+pub(crate) fn often_first<'a>(
+    of: u64,
+    counts: &PathCounts<'a>,
+    folders: &[&'a str],
+) -> Option<&'a str>
     ensures { option_map (λ folder. folder.now) result ≡ often_first of (count_at counts.now) (pointed folders.now) }
 {
     for folder in folders {

@@ -1,15 +1,18 @@
 //! Checks the results of a crawl of a site's saved web.
-ghost use Rattle.std.specs.Prelude.{◌≡◌, ◌==◌, ◌++◌, ℕ, List, [], true, IfOk, OnOk, map, not, string_bytes, length, flat_map, option_map};
+ghost use Rattle.std.specs.Prelude.{◌≡◌, ◌==◌, ◌++◌, ℕ, List, [], true, All, IfOk, IsPermutation, OnOk, map, not, string_bytes, length, flat_map, option_map};
 ghost use Rattle.check_report.specs.Text.{is_broken};
 ghost use Rattle.crawl_sources.specs.Tallies.{pointed};
 ghost use Rattle.site_files.specs.declared.files.SiteFiles.{SiteFiles};
-ghost use Rattle.site_check.specs.Base.{base_hint_of, hint_at};
+ghost use Rattle.site_check.specs.Base.{hint_at};
 ghost use Rattle.site_check.specs.Broken.{linked_at, redirects_of, result_at, rows_with, ways_with};
 ghost use Rattle.site_check.specs.Hints.{hints_at, hints_in};
 ghost use Rattle.site_check.specs.Ignored.{not_ignored, anchors_in, text_at, unused};
 ghost use Rattle.site_check.specs.Invalid.{AreTexts, invalid_rows_in, row_of, text_of, texts_if};
 ghost use Rattle.site_check.specs.Leads.{indices_in, leads_from, number_in, targets_of};
 ghost use Rattle.site_check.specs.Leaving.{leaving_in, outside_at, outside_linked, row_at, shown_at};
+ghost use Rattle.site_check.specs.LinkBase.{base_hint_of};
+ghost use Rattle.site_check.specs.Located.{AddsListed, IsListed, IsLocatedRow, KeepsRows, listed, located_row, page_text, placed_at, target_texts};
+ghost use Rattle.site_check.specs.Locations.{IsLocated};
 ghost use Rattle.site_check.specs.Names.{AreNamed};
 ghost use Rattle.site_check.specs.Reported.{AreReported, AreRows};
 ghost use Rattle.site_check.specs.Anchors.{anchor_text};
@@ -20,16 +23,16 @@ ghost use Rattle.site_check.specs.Unreached.{unreached_in};
 ghost use Rattle.site_check.specs.Worst.{file_links, worst_of};
 
 use crate::anchors::push_anchors;
-use crate::base::base_hint;
 use crate::file_entries::leave_out;
 use crate::ignored::unused;
 use crate::input::CheckInput;
 use crate::invalid::{InvalidText, invalid_texts, push_texts};
 use crate::leads::{Lead, Maps, link_indices, targets};
 use crate::leaving::{outside_leads, outside_urls, push_outside};
+use crate::link_base::base_hint;
 use crate::linked::{Linked, linked_results};
-use crate::located::{TargetPlace, by_number};
-use crate::missing_anchors::{MissingAnchor, missing_anchors, sort_by_anchor};
+use crate::located::{ANCHORS, ListedLead, PAGES, TEXTS, TargetPlace, URLS};
+use crate::missing_anchors::{MissingAnchor, MissingAnchorLink, missing_anchors, sort_by_anchor};
 use crate::names::{Named, names_of};
 use crate::outside::Outside;
 use crate::rows::{broken_rows, redirect_rows};
@@ -40,7 +43,7 @@ use crate::totals::totals_of;
 use crate::unlisted::unlisted;
 use crate::unreached::unreached;
 use crate::worst::worst;
-use check_report::{BaseHint, Broken, FileCount, Findings, Place, Redirect, Totals, is_broken};
+use check_report::{BaseHint, Broken, FileCount, Findings, Redirect, Totals, is_broken};
 use crawl_pages::{NoMemory, PageResult};
 use site_files::{FileBytes, SiteFiles};
 use std::alloc::Global;
@@ -114,6 +117,9 @@ pub fn check_site<'f, R: Threads + Sync, B: FileBytes + Sync>(
     // to the missing page is in the file of that page, and the hint at what a server with other rules finds. The unused entries are those
     // that match none of these and no location.
     ensures rows { IfOk result (λ checked. AreReported input.entry.front.now (map string_bytes input.entry.ignores.now) (texts_if input.entry.invalid input.entry.places.now results.now) input.entry.rooted input.entry.maps.now files.now results.now input.entry.found.now checked.broken.items (map string_bytes checked.unused_ignores.items)) }
+    // Each location of a row is that of a link in what was read of the file of a page. If the row reports a missing page, the link leads to
+    // it, directly or by a redirect.
+    ensures places { IfOk result (λ checked. All (IsLocated input.entry.front.now input.entry.places.now files.now results.now (B.reads bytes.now)) checked.broken.items) }
     // The rows of redirects are the moved results that are linked to.
     ensures redirects { IfOk result (λ checked. map way_of checked.redirects.items ≡ redirects_of input.entry.front.now results.now) }
     // The unreached files are those of which a search from the starts found no page, by the first URL of each, in order, if they are listed.
@@ -123,8 +129,9 @@ pub fn check_site<'f, R: Threads + Sync, B: FileBytes + Sync>(
     // The unlisted documents are those of which no sitemap lists the own URL or an alias, in order, without `404.html`, if they are listed.
     ensures unlisted { IfOk result (λ checked. map string_bytes checked.unlisted.items ≡ unlisted_in input.entry.front.now input.entry.aliases.now input.entry.documents.now input.entry.listed) }
     // The hint of BASE is the first folder that at least half and at least two of the paths from the root in the rows of missing pages
-    // begin with, if the site has no file in it and its URL is not known.
-    ensures base_hint { IfOk result (λ checked. option_map hint_at checked.base_hint ≡ base_hint_of input.entry.rooted files.now checked.broken.items) }
+    // begin with, if the site has no file in it and its URL is not known. Otherwise it is the first URL with which at least half and at
+    // least two of the links begin, if fewer than half begin with the top and the folder has files for at least half of those links.
+    ensures base_hint { IfOk result (λ checked. option_map hint_at checked.base_hint ≡ base_hint_of input.entry.rooted files.now results.now checked.broken.items) }
     // The totals count the documents and the other files at their own URLs, their links, the pages at aliases, and the rows.
     ensures totals { IfOk result (λ checked. checked.totals ≡ totals_of input.entry.aliases.now input.entry.documents.now results.now checked.broken.items checked.redirects.items) }
     // By the totals something is broken if and only if there is a row.
@@ -136,7 +143,7 @@ pub fn check_site<'f, R: Threads + Sync, B: FileBytes + Sync>(
     let all = linked.as_slice();
     let sought = sought_by(rt, alloc, input, site, all)?;
     let places = locate_by(rt, alloc, site, sought.leads.as_slice(), bytes)?;
-    results_of(alloc, input, site, all, &sought, places)
+    results_of(alloc, input, site, all, &sought, places.as_slice())
 }
 
 /// Puts together what the threads of a check read: the results, the anchors and aliases, and the files of the site.
@@ -168,10 +175,11 @@ struct BrokenLinks<'p> {
     outside: Vec<Outside<'p>>,
     /// The links to missing pages and missing anchors, the invalid links, and the links that lead out of the site, page by page, in the
     /// order of a page's text. Those that an entry of the ignore list matches are left out.
-    leads: Vec<Lead>,
+    leads: Vec<ListedLead>,
 }
 
 /// Finds the links to missing pages and missing anchors, the invalid links, and the links that lead out of the site.
+#[tactic(auto, using(crate::proofs::LeadTargets::all_listed))]
 fn sought_by<'p, R: Threads + Sync>(
     rt: &R,
     alloc: Global,
@@ -181,31 +189,94 @@ fn sought_by<'p, R: Threads + Sync>(
 ) -> Result<BrokenLinks<'p>, NoMemory>
     ensures invalid { IfOk result (λ sought. AreTexts (texts_if input.entry.invalid input.entry.places.now site.entry.pages.results.now) (map text_of sought.invalid.items)) }
     ensures outside { IfOk result (λ sought. map outside_at sought.outside.items ≡ outside_linked input.entry.rooted input.entry.maps.now site.entry.files.now site.entry.pages.results.now input.entry.found.now) }
+    ensures leads { IfOk result (λ sought. All (IsListed (leads_from (number_in (targets_of input.entry.front.now (map string_bytes input.entry.ignores.now) (map result_at linked.now))) (indices_in input.entry.places.now) 0 site.entry.pages.results.now)) sought.leads.items) }
 {
     let threads = site.files.threads().max(1);
-    let (leads, lacked) = join(
-        rt,
-        move || page_leads(rt, alloc, input, site, linked),
-        move || lacked_by(rt, alloc, site, threads),
-    );
+    let of_pages = move || -> Result<Vec<ListedLead>, NoMemory>
+        ensures { IfOk result (λ all. all.items ≡ map (listed 0) (leads_from (number_in (targets_of input.entry.front.now (map string_bytes input.entry.ignores.now) (map result_at linked.entry.now))) (indices_in input.entry.places.now) 0 site.entry.pages.results.now)) }
+    { listed_leads(rt, alloc, input, site, linked) };
+    let (leads, lacked) = join(rt, of_pages, move || lacked_by(rt, alloc, site, threads));
     let mut leads = leads?;
     let mut lacked = lacked?;
     sort_by_anchor(&mut lacked)?;
-    let before = linked.len();
-    let anchors = missing_anchors(alloc, input, lacked.as_slice(), before, &mut leads)?;
-    let before = before.saturating_add(anchors.len());
-    let invalid = invalid_texts(alloc, input, site.pages.results, before, &mut leads)?;
-    let before = before.saturating_add(invalid.len());
+    let anchors = lacked_anchors(alloc, input, lacked.as_slice(), &mut leads)?;
+    let invalid = found_texts(alloc, input, site.pages.results, &mut leads)?;
     let outside = outside_urls(rt, alloc, input, site)?;
-    let mut leaving = outside_leads(rt, alloc, input, site, outside.as_slice(), before)?;
-    leads.append(&mut leaving)?;
-    leads.sort_by(|a: &Lead, b: &Lead| (a.source, a.index).cmp(&(b.source, b.index)))?;
+    let leaving = outside_leads(rt, alloc, input, site, outside.as_slice())?;
+    push_listed(URLS, leaving.as_slice(), &mut leads)?;
+    sort_by_page(&mut leads)?;
     Ok(BrokenLinks {
         anchors,
         invalid,
         outside,
         leads,
     })
+}
+
+/// Sorts links by the results that have them, and those of a result by their indices.
+fn sort_by_page(leads: &mut Vec<ListedLead>) -> Result<(), NoMemory>
+    ensures { IsPermutation leads.old.items leads.new.items }
+{
+    leads.sort_by(|a: &ListedLead, b: &ListedLead| {
+        (a.lead.source, a.lead.index).cmp(&(b.lead.source, b.lead.index))
+    })
+}
+
+/// The links to missing pages that are not ignored, directly or by a redirect, as links to targets of their list.
+fn listed_leads<'p, R: Threads + Sync>(
+    rt: &R,
+    alloc: Global,
+    input: CheckInput<'p>,
+    site: Site<'p, '_>,
+    linked: &[Linked<'p>],
+) -> Result<Vec<ListedLead>, NoMemory>
+    ensures { IfOk result (λ all. all.items ≡ map (listed 0) (leads_from (number_in (targets_of input.entry.front.now (map string_bytes input.entry.ignores.now) (map result_at linked.now))) (indices_in input.entry.places.now) 0 site.entry.pages.results.now)) }
+{
+    let leads = page_leads(rt, alloc, input, site, linked)?;
+    let mut all = Vec::new(alloc);
+    push_listed(PAGES, leads.as_slice(), &mut all)?;
+    Ok(all)
+}
+
+/// The anchors of these links, which are sorted by them. Appends the links to anchors that no entry matches.
+fn lacked_anchors(
+    alloc: Global,
+    input: CheckInput<'_>,
+    links: &[MissingAnchorLink<'_>],
+    all: &mut Vec<ListedLead>,
+) -> Result<Vec<MissingAnchor>, NoMemory>
+    ensures { OnOk result (AddsListed 1 all.old.items all.new.items) }
+{
+    let mut leads = Vec::new(alloc);
+    let anchors = missing_anchors(alloc, input, links, &mut leads)?;
+    push_listed(ANCHORS, leads.as_slice(), all)?;
+    Ok(anchors)
+}
+
+/// The texts of the invalid links in found pages, if the check lists them. Appends the links with a text that no entry matches.
+fn found_texts<'a>(
+    alloc: Global,
+    input: CheckInput<'a>,
+    results: &'a [PageResult],
+    all: &mut Vec<ListedLead>,
+) -> Result<Vec<InvalidText<'a>>, NoMemory>
+    ensures texts { IfOk result (λ texts. AreTexts (texts_if input.entry.invalid input.entry.places.now results.now) (map text_of texts.items)) }
+    ensures leads { OnOk result (AddsListed 2 all.old.items all.new.items) }
+{
+    let mut leads = Vec::new(alloc);
+    let texts = invalid_texts(alloc, input, results, &mut leads)?;
+    push_listed(TEXTS, leads.as_slice(), all)?;
+    Ok(texts)
+}
+
+/// Appends these links as links to targets of the list with this number.
+fn push_listed(list: usize, leads: &[Lead], all: &mut Vec<ListedLead>) -> Result<(), NoMemory>
+    ensures { OnOk result (all.new.items ≡ all.old.items ++ map (listed list) leads.now) }
+{
+    for lead in leads {
+        all.push(ListedLead { list, lead: *lead })?;
+    }
+    Ok(())
 }
 
 /// The links to missing pages that are not ignored, directly or by a redirect.
@@ -238,14 +309,15 @@ fn results_of(
     site: Site<'_, '_>,
     linked: &[Linked<'_>],
     sought: &BrokenLinks<'_>,
-    places: Vec<TargetPlace>,
+    places: &[TargetPlace],
 ) -> Result<Checked, NoMemory>
     ensures rows { IfOk result (λ checked. AreRows input.entry.front.now (map string_bytes input.entry.ignores.now) site.entry.files.now linked.now sought.now.anchors.items sought.now.invalid.items sought.now.outside.items checked.broken.items (map string_bytes checked.unused_ignores.items)) }
+    ensures located { IfOk result (λ checked. All (IsLocatedRow (map placed_at places.now) (target_texts input.entry.front.now linked.now sought.now.anchors.items sought.now.invalid.items sought.now.outside.items)) (map located_row checked.broken.items)) }
     ensures redirects { IfOk result (λ checked. map way_of checked.redirects.items ≡ flat_map (ways_with input.entry.front.now) (map linked_at linked.now)) }
     ensures worst { IfOk result (λ checked. map file_links checked.worst.items ≡ worst_of checked.broken.items) }
     ensures unreached { IfOk result (λ checked. map string_bytes checked.unreached.items ≡ unreached_in input.entry.front.now site.entry.files.now input.entry.reached) }
     ensures unlisted { IfOk result (λ checked. map string_bytes checked.unlisted.items ≡ unlisted_in input.entry.front.now input.entry.aliases.now input.entry.documents.now input.entry.listed) }
-    ensures base_hint { IfOk result (λ checked. option_map hint_at checked.base_hint ≡ base_hint_of input.entry.rooted site.entry.files.now checked.broken.items) }
+    ensures base_hint { IfOk result (λ checked. option_map hint_at checked.base_hint ≡ base_hint_of input.entry.rooted site.entry.files.now site.entry.pages.results.now checked.broken.items) }
     ensures totals { IfOk result (λ checked. checked.totals ≡ totals_of input.entry.aliases.now input.entry.documents.now site.entry.pages.results.now checked.broken.items checked.redirects.items) }
 {
     let others = Others {
@@ -298,9 +370,10 @@ fn rows_of(
     site: Site<'_, '_>,
     linked: &[Linked<'_>],
     others: Others<'_>,
-    places: Vec<TargetPlace>,
+    places: &[TargetPlace],
 ) -> Result<Rows, NoMemory>
-    ensures { IfOk result (λ rows. AreRows input.entry.front.now (map string_bytes input.entry.ignores.now) site.entry.files.now linked.now others.entry.anchors.now others.entry.invalid.now others.entry.outside.now rows.broken.items (map string_bytes rows.unused_ignores.items)) }
+    ensures rows { IfOk result (λ rows. AreRows input.entry.front.now (map string_bytes input.entry.ignores.now) site.entry.files.now linked.now others.entry.anchors.now others.entry.invalid.now others.entry.outside.now rows.broken.items (map string_bytes rows.unused_ignores.items)) }
+    ensures located { IfOk result (λ rows. All (IsLocatedRow (map placed_at places.now) (target_texts input.entry.front.now linked.now others.entry.anchors.now others.entry.invalid.now others.entry.outside.now)) (map located_row rows.broken.items)) }
 {
     let mut broken = broken_all(alloc, input, site, linked, others, places)?;
     let unused_ignores = unused_entries(alloc, input, linked, others, broken.as_slice())?;
@@ -328,11 +401,11 @@ fn lists_of(
 ) -> Result<Lists, NoMemory>
     ensures unreached { IfOk result (λ lists. map string_bytes lists.unreached.items ≡ unreached_in input.entry.front.now site.entry.files.now input.entry.reached) }
     ensures unlisted { IfOk result (λ lists. map string_bytes lists.unlisted.items ≡ unlisted_in input.entry.front.now input.entry.aliases.now input.entry.documents.now input.entry.listed) }
-    ensures base_hint { IfOk result (λ lists. option_map hint_at lists.base_hint ≡ base_hint_of input.entry.rooted site.entry.files.now broken.now) }
+    ensures base_hint { IfOk result (λ lists. option_map hint_at lists.base_hint ≡ base_hint_of input.entry.rooted site.entry.files.now site.entry.pages.results.now broken.now) }
 {
     let unreached = unreached(alloc, input, site.files)?;
     let unlisted = unlisted(alloc, input)?;
-    let base_hint = base_hint(alloc, input.rooted, site.files, broken)?;
+    let base_hint = base_hint(alloc, input.rooted, site.files, site.pages.results, broken)?;
     Ok(Lists {
         unreached,
         unlisted,
@@ -355,7 +428,7 @@ fn broken_all(
     site: Site<'_, '_>,
     linked: &[Linked<'_>],
     others: Others<'_>,
-    places: Vec<TargetPlace>,
+    places: &[TargetPlace],
 ) -> Result<Vec<Broken>, NoMemory>
     ensures rows { IfOk result (λ all. rows_in all.items ≡ flat_map (rows_with input.entry.front.now (map string_bytes input.entry.ignores.now)) (map linked_at linked.now)) }
     ensures names { IfOk result (λ all. AreNamed input.entry.front.now site.entry.files.now all.items) }
@@ -363,40 +436,23 @@ fn broken_all(
     ensures anchors { IfOk result (λ all. anchors_in all.items ≡ not_ignored (map string_bytes input.entry.ignores.now) (map anchor_text others.entry.anchors.now)) }
     ensures invalid { IfOk result (λ all. invalid_rows_in all.items ≡ map row_of (not_ignored (map string_bytes input.entry.ignores.now) (map text_of others.entry.invalid.now))) }
     ensures leaving { IfOk result (λ all. leaving_in all.items ≡ flat_map (row_at (map string_bytes input.entry.ignores.now)) (map outside_at others.entry.outside.now)) }
+    ensures located { IfOk result (λ all. All (IsLocatedRow (map placed_at places.now) (target_texts input.entry.front.now linked.now others.entry.anchors.now others.entry.invalid.now others.entry.outside.now)) (map located_row all.items)) }
 {
-    let pages = linked.len();
-    let anchors = pages.saturating_add(others.anchors.len());
-    let invalid = anchors.saturating_add(others.invalid.len());
-    let mut found = by_number(alloc, places, invalid.saturating_add(others.outside.len()))?;
-    let found = found.as_mut_slice();
-    let mut all = missing_rows(alloc, input, site, linked, found)?;
-    push_anchors(alloc, input.ignores, others.anchors, pages, found, &mut all)?;
-    push_texts(
-        alloc,
-        input.ignores,
-        others.invalid,
-        anchors,
-        found,
-        &mut all,
-    )?;
-    push_outside(
-        alloc,
-        input.ignores,
-        others.outside,
-        invalid,
-        found,
-        &mut all,
-    )?;
+    let mut all = missing_rows(alloc, input, site, linked, places)?;
+    push_anchors(alloc, input.ignores, others.anchors, places, &mut all)?;
+    push_texts(alloc, input.ignores, others.invalid, places, &mut all)?;
+    push_outside(alloc, input.ignores, others.outside, places, &mut all)?;
     Ok(all)
 }
 
 /// The rows of the missing pages. Which pages have a file name is only looked up if a page is missing.
+#[tactic(auto, using(crate::proofs::LocatedRows::keeps_none))]
 fn missing_rows(
     alloc: Global,
     input: CheckInput<'_>,
     site: Site<'_, '_>,
     linked: &[Linked<'_>],
-    found: &mut [Vec<Place>],
+    places: &[TargetPlace],
 ) -> Result<Vec<Broken>, NoMemory>
     ensures rows { IfOk result (λ all. rows_in all.items ≡ flat_map (rows_with input.entry.front.now (map string_bytes input.entry.ignores.now)) (map linked_at linked.now)) }
     ensures names { IfOk result (λ all. AreNamed input.entry.front.now site.entry.files.now all.items) }
@@ -404,6 +460,7 @@ fn missing_rows(
     ensures anchors { IfOk result (λ all. anchors_in all.items ≡ []) }
     ensures invalid { IfOk result (λ all. invalid_rows_in all.items ≡ []) }
     ensures leaving { IfOk result (λ all. leaving_in all.items ≡ []) }
+    ensures located { IfOk result (λ all. KeepsRows (map placed_at places.now) 0 (map (page_text input.entry.front.now) linked.now) [] (map located_row all.items)) }
 {
     if has_none(linked) {
         return Ok(Vec::new(alloc));
@@ -413,7 +470,7 @@ fn missing_rows(
         files: site.files,
         names: &names,
     };
-    broken_rows(alloc, input, named, linked, found)
+    broken_rows(alloc, input, named, linked, places)
 }
 
 /// Whether none of the results is that of a missing page, so that there is no row and no hint.

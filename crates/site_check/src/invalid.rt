@@ -4,17 +4,20 @@ ghost use Rattle.std.specs.Cmp.Lexicographic.{slice_cmp};
 ghost use Rattle.std.specs.List.{list_any};
 ghost use Rattle.std.specs.Ordering.{nat_cmp};
 ghost use Rattle.site_files.specs.declared.files.SiteFiles.{SiteFiles};
+ghost use Rattle.site_check.specs.Broken.{is_ignored};
 ghost use Rattle.site_check.specs.Hints.{hints_in};
 ghost use Rattle.site_check.specs.Ignored.{not_ignored, anchors_in};
 ghost use Rattle.site_check.specs.Invalid.{AreTexts, invalid_at, invalid_in, invalid_rows_in, invalid_with, link_text, link_texts, next_text, once, rises, row_kind, row_of, text_of, texts_if, texts_in};
 ghost use Rattle.site_check.specs.Leaving.{leaving_in};
+ghost use Rattle.site_check.specs.Located.{KeepsRows, located_row, placed_at, row_unless};
+ghost use Rattle.site_check.specs.Locations.{location_of};
 ghost use Rattle.site_check.specs.Names.{AreNamed};
 ghost use Rattle.site_check.specs.Told.{rows_in};
 
 use crate::ignored::is_ignored;
 use crate::input::CheckInput;
 use crate::leads::Lead;
-use crate::located::take_places;
+use crate::located::{TEXTS, TargetPlace, row_places};
 use check_report::{Broken, Kind, Place};
 use crawl_keys::CanonUrl;
 use crawl_pages::{NoMemory, PageResult};
@@ -55,7 +58,7 @@ impl<'a> PageLink<'a> {
         self.text().cmp(other.text())
     }
 
-    /// The link as one that leads to the target with this number.
+    /// The link as one that leads to the text with this number.
     fn lead_to(&self, number: usize) -> Lead {
         Lead {
             source: self.source,
@@ -78,13 +81,12 @@ impl<'a> InvalidText<'a> {
 type InvalidLinks<'a> = BTreeMap<HashedText<'a>, &'a [InvalidLink]>;
 
 /// The texts of the invalid links in found pages, each once and in ascending order, if the check lists invalid links. Appends
-/// those with a text that no entry matches to `leads`; the first text has the number `before`.
+/// the links with a text that no entry matches to `leads`.
 #[tactic(auto, using(crate::proofs::TextsOnce::no_texts))]
 pub(crate) fn invalid_texts<'a>(
     alloc: Global,
     input: CheckInput<'a>,
     results: &'a [PageResult],
-    before: usize,
     leads: &mut Vec<Lead>,
 ) -> Result<Vec<InvalidText<'a>>, NoMemory>
     ensures { IfOk result (λ texts. AreTexts (texts_if input.entry.invalid input.entry.places.now results.now) (map text_of texts.items)) }
@@ -93,7 +95,7 @@ pub(crate) fn invalid_texts<'a>(
         return Ok(Vec::new(alloc));
     }
     let links = sorted_links(alloc, input.places, results)?;
-    let texts = distinct_texts(alloc, input.ignores, links.as_slice(), before, leads)?;
+    let texts = distinct_texts(alloc, input.ignores, links.as_slice(), leads)?;
     Ok(texts)
 }
 
@@ -179,14 +181,12 @@ fn push_links<'a>(
     Ok(())
 }
 
-/// The texts of these links, which are sorted by them, each once. Appends the links with a text that no entry matches to `leads`; the
-/// first text has the number `before`.
+/// The texts of these links, which are sorted by them, each once. Appends the links with a text that no entry matches to `leads`.
 #[tactic(auto, using(crate::proofs::TextsOnce::link_end))]
 fn distinct_texts<'a>(
     alloc: Global,
     ignores: &[String],
     links: &[PageLink<'a>],
-    before: usize,
     leads: &mut Vec<Lead>,
 ) -> Result<Vec<InvalidText<'a>>, NoMemory>
     ensures { IfOk result (λ texts. map text_of texts.items ≡ once (map link_text links.now)) }
@@ -196,14 +196,13 @@ fn distinct_texts<'a>(
     for (index, link) in links.iter().enumerate() {
         let behind = links.get(index..).unwrap_or(&[]);
         add_text(*link, last, behind, &mut texts)?;
-        let number = before.saturating_add(texts.len().saturating_sub(1));
-        push_lead(ignores, *link, number, leads)?;
+        push_lead(ignores, *link, texts.len().saturating_sub(1), leads)?;
         last = Some(*link);
     }
     Ok(texts)
 }
 
-/// Appends a link as one to the target with this number, unless an entry matches its text.
+/// Appends a link as one to the text with this number, unless an entry matches the text.
 fn push_lead(
     ignores: &[String],
     link: PageLink<'_>,
@@ -252,14 +251,14 @@ fn page_count(links: &[PageLink<'_>]) -> u64 {
     count
 }
 
-/// Appends the rows of these texts, in order, without those that an entry matches. `found` has the locations of the links with each,
-/// after those of `before` other targets.
+/// Appends the rows of these texts, in order, without those that an entry matches. `places` are the locations of links, sorted by their
+/// targets.
+#[tactic(auto, using(crate::proofs::LocatedRows::keeps_none))]
 pub(crate) fn push_texts(
     alloc: Global,
     ignores: &[String],
     texts: &[InvalidText<'_>],
-    before: usize,
-    found: &mut [Vec<Place>],
+    places: &[TargetPlace],
     all: &mut Vec<Broken>,
 ) -> Result<(), NoMemory>
     ensures rows { OnOk result (rows_in all.new.items ≡ rows_in all.old.items) }
@@ -268,11 +267,11 @@ pub(crate) fn push_texts(
     ensures invalid { OnOk result (invalid_rows_in all.new.items ≡ invalid_rows_in all.old.items ++ map row_of (not_ignored (map string_bytes ignores.now) (map text_of texts.now))) }
     ensures leaving { OnOk result (leaving_in all.new.items ≡ leaving_in all.old.items) }
     ensures hints { OnOk result (hints_in all.new.items ≡ hints_in all.old.items) }
+    ensures located { OnOk result (KeepsRows (map placed_at places.now) 2 (map text_of texts.now) (map located_row all.old.items) (map located_row all.new.items)) }
 {
     for (index, text) in texts.iter().enumerate() {
-        let number = before.saturating_add(index);
-        let places = take_places(alloc, found, number, text.text());
-        push_row(ignores, *text, places, all)?;
+        let own = row_places(alloc, places, TEXTS, index, text.text())?;
+        push_row(ignores, *text, own, all)?;
     }
     Ok(())
 }
@@ -290,6 +289,7 @@ fn push_row(
     ensures invalid { OnOk result (invalid_rows_in all.new.items ≡ invalid_rows_in all.old.items ++ map row_of (not_ignored (map string_bytes ignores.now) (text_of text.entry ∷ []))) }
     ensures leaving { OnOk result (leaving_in all.new.items ≡ leaving_in all.old.items) }
     ensures hints { OnOk result (hints_in all.new.items ≡ hints_in all.old.items) }
+    ensures located { OnOk result (map located_row all.new.items ≡ map located_row all.old.items ++ row_unless (is_ignored (map string_bytes ignores.now) (text_of text.entry)) (row_kind text.entry.link.now.kind) (text_of text.entry) (map location_of places.items)) }
 {
     let link = text.link;
     if is_ignored(ignores, link.text.as_str()) {

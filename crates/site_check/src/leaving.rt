@@ -1,14 +1,16 @@
 //! Links that lead out of the site: to URLs on its host that are not below its top.
-ghost use Rattle.std.specs.Prelude.{◌≡◌, ◌++◌, ◌+◌, ◌<◌, ◌^◌, ℕ, List, true, IfOk, MatchOption, OnOk, length, map, option_map, string_bytes};
+ghost use Rattle.std.specs.Prelude.{◌≡◌, ◌++◌, ◌<◌, ℕ, List, true, IfOk, MatchOption, OnOk, length, map, option_map, string_bytes};
 ghost use Rattle.std.specs.List.{flat_map};
 ghost use Rattle.crawl_sources.specs.Tallies.{pointed};
 ghost use Rattle.site_files.specs.declared.files.SiteFiles.{SiteFiles};
-ghost use Rattle.site_check.specs.Broken.{linked_at};
+ghost use Rattle.site_check.specs.Broken.{is_ignored, linked_at};
 ghost use Rattle.site_check.specs.Hints.{hints_in};
 ghost use Rattle.site_check.specs.Ignored.{anchors_in};
 ghost use Rattle.site_check.specs.Invalid.{invalid_rows_in};
 ghost use Rattle.site_check.specs.Leads.{indices_in, leads_from, number_at, number_in, target_at};
-ghost use Rattle.site_check.specs.Leaving.{is_left, is_outside, leaving_in, leaving_kind, outside_at, outside_linked, outside_number, outside_of, outside_row, outside_targets, outside_text, path_from, row_at, steps_up};
+ghost use Rattle.site_check.specs.Leaving.{is_left, is_outside, leaving_in, leaving_kind, outside_at, outside_linked, outside_number, outside_of, outside_row, outside_targets, outside_text, path_from, row_at, shown_at, steps_up};
+ghost use Rattle.site_check.specs.Located.{KeepsRows, located_row, placed_at, row_unless};
+ghost use Rattle.site_check.specs.Locations.{location_of};
 ghost use Rattle.site_check.specs.Names.{AreNamed};
 ghost use Rattle.site_check.specs.Told.{rows_in};
 ghost use Rattle.site_check.specs.Totals.{is_leaving};
@@ -17,7 +19,7 @@ use crate::ignored::is_ignored;
 use crate::input::CheckInput;
 use crate::leads::{Lead, Maps, Target, TargetNumbers, insert_all, link_indices, push_target};
 use crate::linked::{Linked, linked_among};
-use crate::located::take_places;
+use crate::located::{TargetPlace, URLS, row_places};
 use crate::maps::folder_of;
 use crate::outside::Outside;
 use crate::shown::{begins, is_below};
@@ -190,18 +192,17 @@ fn steps_up(alloc: Global, folders: &[u8]) -> Result<String, NoMemory>
     Ok(text)
 }
 
-/// The links of the site's pages to these URLs, without those to URLs that an entry matches. The first URL has the number `before`.
+/// The links of the site's pages to these URLs, without those to URLs that an entry matches.
 pub(crate) fn outside_leads<'a, R: Threads + Sync>(
     rt: &R,
     alloc: Global,
     input: CheckInput<'a>,
     site: Site<'a, '_>,
     outside: &'a [Outside<'a>],
-    before: usize,
 ) -> Result<Vec<Lead>, NoMemory>
-    ensures { before + length outside.now < 2 ^ 64 → IfOk result (λ all. all.items ≡ leads_from (number_in (outside_targets (map string_bytes input.entry.ignores.now) before outside.now)) (indices_in input.entry.places.now) 0 site.entry.pages.results.now) }
+    ensures { IfOk result (λ all. all.items ≡ leads_from (number_in (outside_targets (map string_bytes input.entry.ignores.now) 0 outside.now)) (indices_in input.entry.places.now) 0 site.entry.pages.results.now) }
 {
-    let numbers = outside_numbers(alloc, input.ignores, outside, before)?;
+    let numbers = outside_numbers(alloc, input.ignores, outside)?;
     if numbers.is_empty() {
         return Ok(Vec::new(alloc));
     }
@@ -213,34 +214,32 @@ pub(crate) fn outside_leads<'a, R: Threads + Sync>(
     leads_by(rt, alloc, maps, site.pages.results, site.files.threads())
 }
 
-/// The numbers of these URLs, from `before` on, without those that an entry matches.
+/// The numbers of these URLs, without those that an entry matches.
 fn outside_numbers<'a>(
     alloc: Global,
     ignores: &[String],
     outside: &'a [Outside<'a>],
-    before: usize,
 ) -> Result<TargetNumbers<'a>, NoMemory>
-    ensures { before + length outside.now < 2 ^ 64 → IfOk result (λ numbers. (url : List ℕ) → number_at numbers url ≡ number_in (outside_targets (map string_bytes ignores.now) before outside.now) url) }
+    ensures { IfOk result (λ numbers. (url : List ℕ) → number_at numbers url ≡ number_in (outside_targets (map string_bytes ignores.now) 0 outside.now) url) }
 {
-    let targets = outside_targets(alloc, ignores, outside, before)?;
+    let targets = outside_targets(alloc, ignores, outside)?;
     let mut numbers = BTreeMap::new(alloc);
     insert_all(&mut numbers, targets.as_slice())?;
     Ok(numbers)
 }
 
-/// These URLs with their numbers, from `before` on, without those that an entry matches.
+/// These URLs with their numbers, without those that an entry matches.
 #[tactic(auto, using(crate::proofs::Outsides::outside_more))]
 fn outside_targets<'a>(
     alloc: Global,
     ignores: &[String],
     outside: &'a [Outside<'a>],
-    before: usize,
 ) -> Result<Vec<Target<'a>>, NoMemory>
-    ensures { before + length outside.now < 2 ^ 64 → IfOk result (λ all. map target_at all.items ≡ outside_targets (map string_bytes ignores.now) before outside.now) }
+    ensures { IfOk result (λ all. map target_at all.items ≡ outside_targets (map string_bytes ignores.now) 0 outside.now) }
 {
     let mut all = Vec::new(alloc);
     for (index, one) in outside.iter().enumerate() {
-        let number = outside_number(ignores, before.saturating_add(index), one);
+        let number = outside_number(ignores, index, one);
         push_target(&one.linked.result.url, number, &mut all)?;
     }
     Ok(all)
@@ -258,14 +257,14 @@ fn outside_number(ignores: &[String], number: usize, one: &Outside<'_>) -> Optio
     }
 }
 
-/// Appends the rows of these URLs, in order, without those that an entry matches. `found` has the locations of the links to each, after
-/// those of `before` other targets.
+/// Appends the rows of these URLs, in order, without those that an entry matches. `places` are the locations of links, sorted by their
+/// targets.
+#[tactic(auto, using(crate::proofs::LocatedRows::keeps_none))]
 pub(crate) fn push_outside(
     alloc: Global,
     ignores: &[String],
     outside: &[Outside<'_>],
-    before: usize,
-    found: &mut [Vec<Place>],
+    places: &[TargetPlace],
     all: &mut Vec<Broken>,
 ) -> Result<(), NoMemory>
     ensures rows { OnOk result (rows_in all.new.items ≡ rows_in all.old.items) }
@@ -274,11 +273,11 @@ pub(crate) fn push_outside(
     ensures invalid { OnOk result (invalid_rows_in all.new.items ≡ invalid_rows_in all.old.items) }
     ensures leaving { OnOk result (leaving_in all.new.items ≡ leaving_in all.old.items ++ flat_map (row_at (map string_bytes ignores.now)) (map outside_at outside.now)) }
     ensures hints { OnOk result (hints_in all.new.items ≡ hints_in all.old.items) }
+    ensures located { OnOk result (KeepsRows (map placed_at places.now) 3 (map shown_at outside.now) (map located_row all.old.items) (map located_row all.new.items)) }
 {
     for (index, one) in outside.iter().enumerate() {
-        let number = before.saturating_add(index);
-        let places = take_places(alloc, found, number, one.text.as_str());
-        push_row(alloc, ignores, one, places, all)?;
+        let own = row_places(alloc, places, URLS, index, one.text.as_str())?;
+        push_row(alloc, ignores, one, own, all)?;
     }
     Ok(())
 }
@@ -298,6 +297,7 @@ fn push_row(
     ensures invalid { OnOk result (invalid_rows_in all.new.items ≡ invalid_rows_in all.old.items) }
     ensures leaving { OnOk result (leaving_in all.new.items ≡ leaving_in all.old.items ++ row_at (map string_bytes ignores.now) (outside_at one.now)) }
     ensures hints { OnOk result (hints_in all.new.items ≡ hints_in all.old.items) }
+    ensures located { OnOk result (map located_row all.new.items ≡ map located_row all.old.items ++ row_unless (is_ignored (map string_bytes ignores.now) (shown_at one.now)) one.now.kind (shown_at one.now) (map location_of places.items)) }
 {
     if is_ignored(ignores, one.text.as_str()) {
         return Ok(());

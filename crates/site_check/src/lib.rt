@@ -12,6 +12,7 @@ mod invalid;
 pub mod laws;
 mod leads;
 mod leaving;
+mod link_base;
 mod linked;
 mod located;
 mod maps;

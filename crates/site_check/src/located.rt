@@ -1,226 +1,435 @@
 //! The locations of broken links. Only files that have one are read again.
+ghost use Rattle.std.specs.Prelude.{◌≡◌, ◌++◌, [], true, All, IfOk, IsPermutation, MatchOption, OnOk, length, map, option_map, string_bytes, take_while};
+ghost use Rattle.document_links.specs.Places.{ArePlaces};
+ghost use Rattle.site_check.specs.Located.{IsFileOf, IsFirstPage, IsRowPlace, IsTargetPlace, IsToTarget, Pushes, PushesPlaces, comes_last, document_of, index_of, is_of, is_to, link_places, placed_at, places_from, put_last};
+ghost use Rattle.site_check.specs.Locations.{ascends, comes_before, if_any, in_row, is_earlier, location_in, location_of, text_kind, unless_same};
+
 use crate::leads::Lead;
 use crate::site_pages::Site;
+use crate::worst::is_less;
 use check_report::Place;
 use crawl_pages::NoMemory;
 use document_links::{Syntax, TextKind, TextPlace, text_places};
 use site_files::{Body, FileBytes, FileKind, SiteFile};
 use std::alloc::Global;
-use std::mem;
-use std::sync::atomic::{AtomicUsize, Ordering};
+use std::cmp::Ordering;
 
-/// Takes the locations of the links to the target with this number, which is reported with this text. A link that is written as this
-/// text loses its text.
-pub(crate) fn take_places(
-    alloc: Global,
-    found: &mut [Vec<Place>],
-    number: usize,
-    target: &str,
-) -> Vec<Place> {
-    let Some(places) = found.get_mut(number) else {
-        return Vec::new(alloc);
-    };
-    let mut places = mem::replace(places, Vec::new(alloc));
-    for place in places.iter_mut() {
-        if is_written(place, target) {
-            place.written = None;
-        }
-    }
-    places
+/// The number of the list of missing pages, among the four lists of targets.
+pub(crate) const PAGES: usize = 0;
+
+/// The number of the list of missing anchors.
+pub(crate) const ANCHORS: usize = 1;
+
+/// The number of the list of the texts of invalid links.
+pub(crate) const TEXTS: usize = 2;
+
+/// The number of the list of URLs outside the site.
+pub(crate) const URLS: usize = 3;
+
+/// A link to a target of a list.
+#[derive(Clone, Copy)]
+pub(crate) struct ListedLead {
+    /// The number of the list.
+    pub(crate) list: usize,
+    /// The link, and the number of its target in the list.
+    pub(crate) lead: Lead,
 }
 
-/// Whether the link at a location is written as this text.
-fn is_written(place: &Place, target: &str) -> bool {
-    match &place.written {
-        Some(text) => text.as_str() == target,
-        None => false,
-    }
-}
-
-/// The locations of the links to each of `count` targets, in order.
-pub(crate) fn by_number(
-    alloc: Global,
-    places: Vec<TargetPlace>,
-    count: usize,
-) -> Result<Vec<Vec<Place>>, NoMemory> {
-    let counts = place_counts(alloc, places.as_slice(), count)?;
-    let mut found = with_room(alloc, counts.as_slice())?;
-    add_places(places, found.as_mut_slice())?;
-    for own in found.iter_mut() {
-        in_order(own)?;
-    }
-    Ok(found)
-}
-
-/// The number of links to each target.
-fn place_counts(
-    alloc: Global,
-    places: &[TargetPlace],
-    count: usize,
-) -> Result<Vec<usize>, NoMemory> {
-    let mut counts = vec![in alloc; 0usize; count]?;
-    for one in places {
-        if let Some(own) = counts.get_mut(one.number) {
-            *own = own.saturating_add(1);
-        }
-    }
-    Ok(counts)
-}
-
-/// A list for each target, with exactly the room for the locations of the links to it.
-fn with_room(alloc: Global, counts: &[usize]) -> Result<Vec<Vec<Place>>, NoMemory> {
-    let mut found = Vec::with_capacity(alloc, counts.len())?;
-    for count in counts {
-        found.push(Vec::with_capacity(alloc, *count)?)?;
-    }
-    Ok(found)
-}
-
-/// The location of a link, and the number of its target.
+/// The location of a link to a target of a list.
 #[derive(Drop)]
 pub(crate) struct TargetPlace {
+    /// The number of the list.
+    list: usize,
+    /// The number of the target in the list.
     number: usize,
     place: Place,
 }
 
-/// The links of each page. The links of a page are consecutive.
-pub(crate) fn by_page(alloc: Global, leads: &[Lead]) -> Result<Vec<&[Lead]>, NoMemory> {
-    let mut pages = Vec::new(alloc);
-    let mut rest = leads;
-    for _ in 0..leads.len() {
-        if rest.is_empty() {
-            break;
-        }
-        let (own, more) = split_page(rest);
-        pages.push(own)?;
-        rest = more;
-    }
-    Ok(pages)
+// ---- links in files
+
+/// The links of one result, and those of the results after it.
+#[derive(Clone, Copy)]
+pub(crate) struct PageLeads<'a> {
+    /// The number of the result.
+    source: usize,
+    own: &'a [ListedLead],
+    more: &'a [ListedLead],
 }
 
-/// The links of the first page, and those of the others.
-fn split_page(leads: &[Lead]) -> (&[Lead], &[Lead]) {
-    let Some(first) = leads.first() else {
-        return (leads, &[]);
-    };
-    let count = leads
-        .iter()
-        .position(|lead| lead.source != first.source)
-        .unwrap_or(leads.len());
-    leads.split_at(count.min(leads.len()))
-}
-
-/// The locations of the links of the pages that one of several threads takes. Each takes the next until there is none, and reads its
-/// file again, if that can be read.
+/// The locations of the links of the pages that one of `of` threads takes: each `of`-th page, from the one with the number `rest` on.
+/// The links of a page are consecutive. Its file is read again, if that can be read.
+#[tactic(auto, using(crate::proofs::Placed::all_contained))]
 pub(crate) fn every_place<B: FileBytes>(
     alloc: Global,
     site: Site<'_, '_>,
-    pages: &[&[Lead]],
+    leads: &[ListedLead],
     bytes: &B,
-    next: &AtomicUsize,
-) -> Result<Vec<TargetPlace>, NoMemory> {
+    rest: usize,
+    of: usize,
+) -> Result<Vec<TargetPlace>, NoMemory>
+    ensures { IfOk result (λ all. All (IsTargetPlace site.entry.files.now site.entry.pages.results.now (B.reads bytes.now) leads.now) (map placed_at all.items)) }
+{
     let mut all = Vec::new(alloc);
     let mut body = Body::new(alloc);
-    for _ in 0..pages.len() {
-        let Some(leads) = pages.get(next.fetch_add(1, Ordering::SeqCst)) else {
-            break;
-        };
-        if let Some(file) = file_of(site, *leads) {
-            body.clear();
-            if bytes.read(file, &mut body)?.is_none() {
-                push_places(alloc, site, *leads, file, body.as_slice(), &mut all)?;
+    let mut left = leads;
+    let mut number: usize = 0;
+    'pages: loop {
+        match first_page(left) {
+            Some(page) => {
+                let is_own = number.checked_rem(of) == Some(rest);
+                left = page.more;
+                number = number.saturating_add(1);
+                if is_own {
+                    push_page(alloc, site, page, bytes, &mut body, &mut all)?;
+                }
             }
+            None => return Ok(all),
         }
     }
-    Ok(all)
 }
 
-/// The file of the page that has these links, if it can have links.
-fn file_of<'f>(site: Site<'_, 'f>, leads: &[Lead]) -> Option<SiteFile<'f>> {
-    let one = site.pages.results.get(leads.first()?.source)?;
-    site.files.document(site.files.find(one.url.as_str())?)
+/// Splits off the links of the first result. `None` if there are no links.
+fn first_page(leads: &[ListedLead]) -> Option<PageLeads<'_>>
+    ensures { MatchOption result (leads.now ≡ []) (IsFirstPage leads.now) }
+{
+    match leads.split_first() {
+        Some((first, behind)) => {
+            let source = first.lead.source;
+            let count = count_of(behind, source);
+            let (own, more) = leads.split_at(count.saturating_add(1).min(leads.len()));
+            Some(PageLeads { source, own, more })
+        }
+        None => None,
+    }
+}
+
+/// The number of links at the front that the result with this number has.
+fn count_of(leads: &[ListedLead], source: usize) -> usize
+    ensures { result ≡ length (take_while (is_of source) leads.now) }
+{
+    leads.iter().take_while(|one| is_of(source, *one)).count()
+}
+
+/// Whether the result with this number has the link.
+fn is_of(source: usize, one: &ListedLead) -> bool
+    ensures { result ≡ is_of source one.now }
+{
+    one.lead.source == source
+}
+
+/// Appends the locations of the links of a result, whose file is read again into `body`, if that can be read.
+#[tactic(auto, using(crate::proofs::Placed::pushes_none))]
+fn push_page<B: FileBytes>(
+    alloc: Global,
+    site: Site<'_, '_>,
+    page: PageLeads<'_>,
+    bytes: &B,
+    body: &mut Body,
+    all: &mut Vec<TargetPlace>,
+) -> Result<(), NoMemory>
+    requires { All (λ one. one.lead.source ≡ page.source) page.own.now }
+    ensures { OnOk result (Pushes (IsTargetPlace site.entry.files.now site.entry.pages.results.now (B.reads bytes.now) page.entry.own.now) (map placed_at all.old.items) (map placed_at all.new.items)) }
+{
+    let Some(file) = file_of(site, page.source) else {
+        return Ok(());
+    };
+    body.clear();
+    if bytes.read(file, body)?.is_some() {
+        return Ok(());
+    }
+    push_places(alloc, site, page.own, file, body.as_slice(), all)?;
+    Ok(())
+}
+
+/// The file of the result with this number, if it can have links.
+fn file_of<'f>(site: Site<'_, 'f>, source: usize) -> Option<SiteFile<'f>>
+    ensures { MatchOption result (Unit {0}) (λ file. IsFileOf site.entry.files.now site.entry.pages.results.now source (document_of file)) }
+{
+    let one = site.pages.results.get(source)?;
+    let number = site.files.find(one.url.as_str())?;
+    match site.files.document(number) {
+        Some(file) => Some(file),
+        None => None,
+    }
 }
 
 /// Appends the locations of these links in the contents of this file.
 fn push_places(
     alloc: Global,
     site: Site<'_, '_>,
-    leads: &[Lead],
+    leads: &[ListedLead],
     file: SiteFile<'_>,
     body: &[u8],
     all: &mut Vec<TargetPlace>,
-) -> Result<(), NoMemory> {
-    let indices = indices_of(alloc, leads)?;
-    let kind = text_kind(file.kind, site.files.rules().styles);
-    let places = text_places(alloc, body, kind, indices.as_slice())?;
-    for (lead, place) in leads.iter().zip(places) {
-        let place = place_in(alloc, file.name, place)?;
-        let number = lead.number;
-        all.push(TargetPlace { number, place })?;
-    }
+) -> Result<(), NoMemory>
+    ensures { OnOk result (PushesPlaces file.entry.name.now (text_kind site.entry.files.now.rules.now.styles file.entry.kind) body.now leads.now (map placed_at all.old.items) (map placed_at all.new.items)) }
+{
+    let kind = text_kind(site.files.rules().styles, file.kind);
+    let places = places_of(alloc, body, kind, leads)?;
+    push_all(alloc, file.name, places.as_slice(), leads, all)?;
     Ok(())
 }
 
 /// How a file of this kind is written. `styles` is whether the links of styles count.
-fn text_kind(kind: FileKind, styles: bool) -> TextKind {
+fn text_kind(styles: bool, kind: FileKind) -> TextKind
+    ensures { result ≡ text_kind styles kind }
+{
     match kind {
-        FileKind::Html | FileKind::Unknown => TextKind::Document {
+        FileKind::Html => TextKind::Document {
             syntax: Syntax::Html,
             styles,
         },
-        FileKind::Xml | FileKind::Svg => TextKind::Document {
+        FileKind::Xml => TextKind::Document {
+            syntax: Syntax::Xhtml,
+            styles,
+        },
+        FileKind::Svg => TextKind::Document {
             syntax: Syntax::Xhtml,
             styles,
         },
         FileKind::Style => TextKind::StyleSheet,
         FileKind::Feed => TextKind::Feed,
         FileKind::UrlList => TextKind::UrlList,
+        FileKind::Unknown => TextKind::Document {
+            syntax: Syntax::Html,
+            styles,
+        },
     }
 }
 
-/// Returns the indices of these links among the links of their file.
-fn indices_of(alloc: Global, leads: &[Lead]) -> Result<Vec<usize>, NoMemory> {
-    leads.iter().map(|lead| lead.index).collect(alloc)
+/// The places of these links in the contents of a file of this kind.
+fn places_of(
+    alloc: Global,
+    body: &[u8],
+    kind: TextKind,
+    leads: &[ListedLead],
+) -> Result<Vec<TextPlace>, NoMemory>
+    ensures { IfOk result (λ places. ArePlaces kind body.now (map index_of leads.now) places.items) }
+{
+    let indices = indices_of(alloc, leads)?;
+    text_places(alloc, body, kind, indices.as_slice())
+}
+
+/// The indices of these links among the links of their file.
+fn indices_of(alloc: Global, leads: &[ListedLead]) -> Result<Vec<usize>, NoMemory>
+    ensures { IfOk result (λ all. all.items ≡ map index_of leads.now) }
+{
+    leads.iter().map(|one| one.lead.index).collect(alloc)
+}
+
+/// Appends the locations of these links, which are at these places of the file with this name.
+fn push_all(
+    alloc: Global,
+    name: &str,
+    places: &[TextPlace],
+    leads: &[ListedLead],
+    all: &mut Vec<TargetPlace>,
+) -> Result<(), NoMemory>
+    ensures { OnOk result (map placed_at all.new.items ≡ map placed_at all.old.items ++ places_from name.now places.now 0 leads.now) }
+{
+    for (number, one) in leads.iter().enumerate() {
+        push_link(alloc, name, *one, places.get(number), all)?;
+    }
+    Ok(())
+}
+
+/// Appends the location of a link, which is at this place of the file with this name, if there is one.
+fn push_link(
+    alloc: Global,
+    name: &str,
+    one: ListedLead,
+    place: Option<&TextPlace>,
+    all: &mut Vec<TargetPlace>,
+) -> Result<(), NoMemory>
+    ensures { OnOk result (map placed_at all.new.items ≡ map placed_at all.old.items ++ link_places name.now one (option_map (λ place. place.now) place.entry)) }
+{
+    match place {
+        Some(place) => {
+            let place = place_in(alloc, name, place)?;
+            let number = one.lead.number;
+            all.push(TargetPlace {
+                list: one.list,
+                number,
+                place,
+            })?;
+            Ok(())
+        }
+        None => Ok(()),
+    }
 }
 
 /// A location in the file with this name. The text of the link is empty if the file has no link there any more.
-fn place_in(alloc: Global, name: &str, place: TextPlace) -> Result<Place, NoMemory> {
-    let TextPlace {
-        line,
-        column,
-        written,
-    } = place;
+fn place_in(alloc: Global, name: &str, place: &TextPlace) -> Result<Place, NoMemory>
+    ensures { IfOk result (λ at. location_of at ≡ location_in name.now place.now) }
+{
     let file = String::from_str(alloc, name)?;
+    let written = if_any(alloc, place.written.as_str())?;
     Ok(Place {
         file,
-        line,
-        column,
-        written: if written.is_empty() {
-            None
-        } else {
-            Some(written)
-        },
+        line: place.line,
+        column: place.column,
+        written,
     })
 }
 
-/// Adds these locations to those of their targets.
-fn add_places(places: Vec<TargetPlace>, found: &mut [Vec<Place>]) -> Result<(), NoMemory> {
-    for one in places {
-        let TargetPlace { number, place } = one;
-        if let Some(own) = found.get_mut(number) {
-            own.push(place)?;
-        }
+/// A copy of a text, unless it is empty.
+fn if_any(alloc: Global, text: &str) -> Result<Option<String>, NoMemory>
+    ensures { IfOk result (λ copy. option_map string_bytes copy ≡ if_any text.now) }
+{
+    if text.is_empty() {
+        return Ok(None);
     }
+    let copy = String::from_str(alloc, text)?;
+    Ok(Some(copy))
+}
+
+// ---- locations of rows
+
+/// Sorts locations by their targets, and those of a target by file, line and column.
+pub(crate) fn sort_by_target(places: &mut Vec<TargetPlace>) -> Result<(), NoMemory>
+    ensures { IsPermutation places.old.items places.new.items }
+{
+    places.sort_by(|a: &TargetPlace, b: &TargetPlace| a.order(b))
+}
+
+impl TargetPlace {
+    /// By targets, files, lines and columns.
+    fn order(&self, other: &TargetPlace) -> Ordering {
+        let place = &self.place;
+        let behind = &other.place;
+        (self.list, self.number)
+            .cmp(&(other.list, other.number))
+            .then(
+                (place.file.as_str(), place.line, place.column).cmp(&(
+                    behind.file.as_str(),
+                    behind.line,
+                    behind.column,
+                )),
+            )
+    }
+}
+
+/// The locations of the links to the target with this number of a list, which is reported with this text: in the order of files, lines and
+/// columns, each once. `places` are sorted by their targets. A link that is written as this text loses its text.
+#[tactic(auto, using(crate::proofs::Placed::row_none))]
+pub(crate) fn row_places(
+    alloc: Global,
+    places: &[TargetPlace],
+    list: usize,
+    number: usize,
+    target: &str,
+) -> Result<Vec<Place>, NoMemory>
+    ensures links { IfOk result (λ all. All (IsRowPlace (map placed_at places.now) list number target.now) (map location_of all.items)) }
+    ensures order { IfOk result (λ all. ascends (map location_of all.items) ≡ true) }
+{
+    let own = places_to(places, list, number);
+    let mut all = Vec::new(alloc);
+    for one in own {
+        push_location(alloc, target, &one.place, &mut all)?;
+    }
+    Ok(all)
+}
+
+/// The locations of the links to this target.
+#[tactic(auto, using(crate::proofs::WorstFiles::within_files))]
+fn places_to(places: &[TargetPlace], list: usize, number: usize) -> &[TargetPlace]
+    ensures { All (IsToTarget (map placed_at places.now) list number) (map placed_at result.now) }
+{
+    let begin = places.partition_point(|one| (one.list, one.number).cmp(&(list, number)).is_lt());
+    let (_, behind) = places.split_at(begin);
+    let (own, _) = behind.split_at(count_to(behind, list, number));
+    own
+}
+
+/// The number of locations at the front whose links lead to this target.
+fn count_to(places: &[TargetPlace], list: usize, number: usize) -> usize
+    ensures { result ≡ length (take_while (λ one. is_to list number (placed_at one)) places.now) }
+{
+    places
+        .iter()
+        .take_while(|one| is_to(list, number, *one))
+        .count()
+}
+
+/// Whether the link at a location leads to this target.
+fn is_to(list: usize, number: usize, one: &TargetPlace) -> bool
+    ensures { result ≡ is_to list number (placed_at one.now) }
+{
+    one.list == list && one.number == number
+}
+
+/// Appends a location as a row with this target has it, if it comes after the last.
+fn push_location(
+    alloc: Global,
+    target: &str,
+    place: &Place,
+    all: &mut Vec<Place>,
+) -> Result<(), NoMemory>
+    ensures { OnOk result (map location_of all.new.items ≡ put_last target.now (map location_of all.old.items) (location_of place.now)) }
+{
+    if !comes_last(all.as_slice(), place) {
+        return Ok(());
+    }
+    let own = row_place(alloc, target, place)?;
+    all.push(own)?;
     Ok(())
 }
 
-/// Sorts the locations by file, line and column, and leaves each once.
-fn in_order(places: &mut Vec<Place>) -> Result<(), NoMemory> {
-    places.sort_by(|a: &Place, b: &Place| {
-        (a.file.as_str(), a.line, a.column).cmp(&(b.file.as_str(), b.line, b.column))
-    })?;
-    places.dedup_by(|a: &mut Place, b: &mut Place| {
-        a.file == b.file && a.line == b.line && a.column == b.column
-    });
-    Ok(())
+/// Whether the last of some locations comes before this one.
+fn comes_last(all: &[Place], place: &Place) -> bool
+    ensures { result ≡ comes_last (map location_of all.now) (location_of place.now) }
+{
+    match all.split_last() {
+        Some((last, _)) => comes_before(last, place),
+        None => true,
+    }
+}
+
+/// Whether one location comes before another: by file, line and column.
+fn comes_before(a: &Place, b: &Place) -> bool
+    ensures { result ≡ comes_before (location_of a.now) (location_of b.now) }
+{
+    is_less(a.file.as_str(), b.file.as_str())
+        || a.file.as_str() == b.file.as_str() && is_earlier(a, b)
+}
+
+/// Whether one location comes before another in the same file.
+fn is_earlier(a: &Place, b: &Place) -> bool
+    ensures { result ≡ is_earlier (location_of a.now) (location_of b.now) }
+{
+    a.line < b.line || a.line == b.line && a.column < b.column
+}
+
+/// A location as a row with this target has it: without the link as written, if that is the target.
+fn row_place(alloc: Global, target: &str, place: &Place) -> Result<Place, NoMemory>
+    ensures { IfOk result (λ own. location_of own ≡ in_row target.now (location_of place.now)) }
+{
+    let file = place.file.clone()?;
+    let written = unless_same(alloc, target, &place.written)?;
+    Ok(Place {
+        file,
+        line: place.line,
+        column: place.column,
+        written,
+    })
+}
+
+/// A copy of the link as written, unless that is how the target is reported.
+fn unless_same(
+    alloc: Global,
+    target: &str,
+    written: &Option<String>,
+) -> Result<Option<String>, NoMemory>
+    ensures { IfOk result (λ copy. option_map string_bytes copy ≡ unless_same target.now (option_map string_bytes written.now)) }
+{
+    match written {
+        Some(text) => {
+            if text.as_str() == target {
+                return Ok(None);
+            }
+            let copy = String::from_str(alloc, text.as_str())?;
+            Ok(Some(copy))
+        }
+        None => Ok(None),
+    }
 }

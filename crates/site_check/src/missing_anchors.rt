@@ -58,13 +58,11 @@ pub(crate) struct MissingAnchor {
     pub(crate) pages: u64,
 }
 
-/// The anchors of these links, which are sorted by them, in order. Appends the links to anchors that no entry matches to `leads`; the
-/// first anchor has the number `before`.
+/// The anchors of these links, which are sorted by them, in order. Appends the links to anchors that no entry matches to `leads`.
 pub(crate) fn missing_anchors(
     alloc: Global,
     input: CheckInput<'_>,
     links: &[MissingAnchorLink<'_>],
-    before: usize,
     leads: &mut Vec<Lead>,
 ) -> Result<Vec<MissingAnchor>, NoMemory> {
     let mut anchors = Vec::new(alloc);
@@ -75,8 +73,7 @@ pub(crate) fn missing_anchors(
             break;
         }
         let own = links.get(begin..end).unwrap_or(&[]);
-        let number = before.saturating_add(anchors.len());
-        let anchor = missing_anchor(alloc, input, own, number, leads)?;
+        let anchor = missing_anchor(alloc, input, own, anchors.len(), leads)?;
         anchors.push(anchor)?;
         begin = end;
     }

@@ -1,10 +1,14 @@
 //! The rows of a check: pages that are not there, and pages that moved.
-ghost use Rattle.std.specs.Prelude.{◌≡◌, ◌++◌, ◌∷◌, [], OnOk, IfOk, map, string_bytes, flat_map, option_map};
+ghost use Rattle.std.specs.Prelude.{◌≡◌, ◌++◌, ◌∷◌, [], OnOk, IfOk, map, not, string_bytes, flat_map, option_map};
+ghost use Rattle.check_report.specs.declared.value.Kind.TheVariants.{NoPage};
 ghost use Rattle.site_check.specs.Broken.{linked_at, result_at, rows_with, shown, ways_with};
 ghost use Rattle.site_check.specs.Hints.{hint_of, hints_at, hints_in, hints_in_row};
 ghost use Rattle.site_check.specs.Ignored.{anchor_in, anchors_in};
 ghost use Rattle.site_check.specs.Invalid.{invalid_row_in, invalid_rows_in};
+ghost use Rattle.site_check.specs.Leads.{is_reported};
 ghost use Rattle.site_check.specs.Leaving.{leaving_in, leaving_row_in};
+ghost use Rattle.site_check.specs.Located.{KeepsRows, located_row, page_text, placed_at, row_unless};
+ghost use Rattle.site_check.specs.Locations.{location_of};
 ghost use Rattle.site_check.specs.Names.{AreNamed, AreNames, own_name, reported_name};
 ghost use Rattle.site_check.specs.Told.{row_in, rows_in, way_of};
 
@@ -12,7 +16,7 @@ use crate::hints::hint_of;
 use crate::input::CheckInput;
 use crate::leads::is_reported;
 use crate::linked::Linked;
-use crate::located::take_places;
+use crate::located::{PAGES, TargetPlace, row_places};
 use crate::names::{Named, same_name};
 use crate::shown::shown;
 use check_report::{Broken, Kind, Place, Redirect};
@@ -20,13 +24,15 @@ use crawl_keys::CanonUrl;
 use crawl_pages::{NoMemory, Page};
 use std::alloc::Global;
 
-/// The rows of the missing pages, in order, with the positions of the links to each.
+/// The rows of the missing pages, in order, with the locations of the links to each. `places` are the locations of links, sorted by their
+/// targets.
+#[tactic(auto, using(crate::proofs::LocatedRows::keeps_none))]
 pub(crate) fn broken_rows<'n>(
     alloc: Global,
     input: CheckInput<'_>,
     named: Named<'_, 'n>,
     linked: &[Linked<'n>],
-    found: &mut [Vec<Place>],
+    places: &[TargetPlace],
 ) -> Result<Vec<Broken>, NoMemory>
     requires { AreNames named.files.now named.names.now }
     ensures rows { IfOk result (λ all. rows_in all.items ≡ flat_map (rows_with input.entry.front.now (map string_bytes input.entry.ignores.now)) (map linked_at linked.now)) }
@@ -35,12 +41,13 @@ pub(crate) fn broken_rows<'n>(
     ensures invalid { IfOk result (λ all. invalid_rows_in all.items ≡ []) }
     ensures leaving { IfOk result (λ all. leaving_in all.items ≡ []) }
     ensures hints { IfOk result (λ all. hints_in all.items ≡ flat_map (hints_at input.entry.front.now (map string_bytes input.entry.ignores.now) named.entry.files.now) (map result_at linked.now)) }
+    ensures located { IfOk result (λ all. KeepsRows (map placed_at places.now) 0 (map (page_text input.entry.front.now) linked.now) [] (map located_row all.items)) }
 {
     let mut all = Vec::new(alloc);
     for (index, one) in linked.iter().enumerate() {
         let text = shown(input.front, one.result.url.as_str());
-        let places = take_places(alloc, found, index, text);
-        push_row(alloc, input, named, one, places, &mut all)?;
+        let own = row_places(alloc, places, PAGES, index, text)?;
+        push_row(alloc, input, named, one, own, &mut all)?;
     }
     Ok(all)
 }
@@ -62,6 +69,7 @@ fn push_row<'n>(
     ensures invalid { OnOk result (invalid_rows_in all.new.items ≡ invalid_rows_in all.old.items) }
     ensures leaving { OnOk result (leaving_in all.new.items ≡ leaving_in all.old.items) }
     ensures hints { OnOk result (hints_in all.new.items ≡ hints_in all.old.items ++ hints_at input.entry.front.now (map string_bytes input.entry.ignores.now) named.entry.files.now one.now.result.now) }
+    ensures located { OnOk result (map located_row all.new.items ≡ map located_row all.old.items ++ row_unless (not (is_reported input.entry.front.now (map string_bytes input.entry.ignores.now) one.now.result.now)) NoPage (page_text input.entry.front.now one.now) (map location_of places.items)) }
 {
     if !is_reported(input.front, input.ignores, one.result) {
         return Ok(());
@@ -86,6 +94,7 @@ fn missing_row<'n>(
     ensures invalid { IfOk result (λ row. invalid_row_in row ≡ []) }
     ensures leaving { IfOk result (λ row. leaving_row_in row ≡ []) }
     ensures hint { IfOk result (λ row. hints_in_row row ≡ hint_of named.entry.files.now one.now.result.now.url ∷ []) }
+    ensures located { IfOk result (λ row. located_row row ≡ record { kind = NoPage; target = shown front.now one.now.result.now.url; places = map location_of places.items }) }
 {
     let url = one.result.url.as_str();
     let text = shown(front, url);

@@ -1,16 +1,17 @@
 //! Passes over pages by several threads. Each thread takes a chunk of the pages, or of n threads the k-th takes each n-th page.
-ghost use Rattle.std.specs.Prelude.{◌≡◌, ◌++◌, ◌+◌, ◌<◌, ◌^◌, IfOk, length};
+ghost use Rattle.std.specs.Prelude.{◌≡◌, ◌++◌, ◌+◌, ◌<◌, ◌^◌, All, IfOk, length, map};
+ghost use Rattle.std.specs.List.{flat_map};
 ghost use Rattle.site_check.specs.Leads.{indices_at, leads_from, number_at};
+ghost use Rattle.site_check.specs.Located.{IsTargetPlace, items_of, placed_at};
 
 use crate::anchors::every_lacked;
 use crate::leads::{Lead, Maps, leads_from};
-use crate::located::{TargetPlace, by_page, every_place};
+use crate::located::{ListedLead, TargetPlace, every_place, sort_by_target};
 use crate::missing_anchors::MissingAnchorLink;
 use crate::site_pages::Site;
 use crawl_pages::{NoMemory, PageResult};
 use site_files::FileBytes;
 use std::alloc::Global;
-use std::sync::atomic::AtomicUsize;
 use std::thread;
 use std::thread::{Threads, join};
 
@@ -117,35 +118,48 @@ pub(crate) fn lacked_by<'p, R: Threads + Sync>(
     joined(alloc, chunks)
 }
 
-/// The locations of these links, which are together by their pages. Each thread reads the pages that it takes.
+/// The locations of these links, which are together by their pages, sorted by their targets. Each thread reads the pages that it takes.
 pub(crate) fn locate_by<R: Threads + Sync, B: FileBytes + Sync>(
     rt: &R,
     alloc: Global,
     site: Site<'_, '_>,
-    leads: &[Lead],
+    leads: &[ListedLead],
     bytes: &B,
-) -> Result<Vec<TargetPlace>, NoMemory> {
-    let pages = by_page(alloc, leads)?;
-    let pages = pages.as_slice();
-    let next = AtomicUsize::new(0);
-    let next = &next;
-    let count = site.files.threads().min(pages.len()).max(1);
-    let chunks = thread::map_indices(
+) -> Result<Vec<TargetPlace>, NoMemory>
+    ensures { IfOk result (λ places. All (IsTargetPlace site.entry.files.now site.entry.pages.results.now (B.reads bytes.now) leads.now) (map placed_at places.items)) }
+{
+    let chunks = places_by(rt, alloc, site, leads, bytes)?;
+    let mut places = joined(alloc, chunks)?;
+    sort_by_target(&mut places)?;
+    Ok(places)
+}
+
+/// The locations of the links of the pages that each thread takes.
+fn places_by<R: Threads + Sync, B: FileBytes + Sync>(
+    rt: &R,
+    alloc: Global,
+    site: Site<'_, '_>,
+    leads: &[ListedLead],
+    bytes: &B,
+) -> Result<Vec<Result<Vec<TargetPlace>, NoMemory>>, NoMemory>
+    ensures { IfOk result (λ chunks. All (λ chunk. IfOk chunk (λ places. All (IsTargetPlace site.entry.files.now site.entry.pages.results.now (B.reads bytes.now) leads.now) (map placed_at places.items))) chunks.items) }
+{
+    let count = site.files.threads().min(leads.len()).max(1);
+    thread::map_indices(
         rt,
         alloc,
         count,
-        &|_: usize| { every_place(alloc, site, pages, bytes, next) },
-    )?;
-    joined(alloc, chunks)
+        &|rest: usize| { every_place(alloc, site, leads, bytes, rest, count) },
+    )
 }
 
 /// All that the threads found, or that an allocation failed.
-fn joined<T: Drop>(
-    alloc: Global,
-    chunks: Vec<Result<Vec<T>, NoMemory>>,
-) -> Result<Vec<T>, NoMemory> {
+#[tactic(auto, using(crate::proofs::Placed::chunk_more))]
+fn joined<T: Drop>(alloc: Global, chunks: Vec<Result<Vec<T>, NoMemory>>) -> Result<Vec<T>, NoMemory>
+    ensures { IfOk result (λ all. all.items ≡ flat_map items_of chunks.items) }
+{
     let mut all = Vec::new(alloc);
-    for chunk in chunks {
+    'chunks: for chunk in chunks {
         let mut chunk = chunk?;
         all.append(&mut chunk)?;
     }

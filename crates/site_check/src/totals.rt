@@ -134,7 +134,7 @@ fn place_of<'a>(others: &UrlSet<'a>, one: &'a PageResult) -> (bool, bool)
 }
 
 /// 1 for what is counted, otherwise 0.
-fn number_of(is_counted: bool) -> u64
+pub(crate) fn number_of(is_counted: bool) -> u64
     ensures { result ≡ (if is_counted then 1 else 0) }
 {
     if is_counted { 1 } else { 0 }

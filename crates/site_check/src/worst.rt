@@ -133,7 +133,7 @@ fn is_before(count: Count<'_>, other: Count<'_>) -> bool
 }
 
 /// Whether a text is less than another, byte by byte.
-fn is_less(text: &str, other: &str) -> bool
+pub(crate) fn is_less(text: &str, other: &str) -> bool
     ensures { result ≡ is_lt (slice_cmp nat_cmp text.now other.now) }
 {
     text.as_bytes().cmp(other.as_bytes()).is_lt()

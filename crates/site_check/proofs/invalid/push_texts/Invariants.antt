@@ -1,4 +1,5 @@
 use Rattle.site_check.proofs.Prelude.{◌≡◌, ◌++◌, ℕ, List, map, not_ignored, row_of, text_of, take, string_bytes, SiteFiles, AreNamed, anchors_in, hints_in, invalid_rows_in, leaving_in, rows_in}
+use Rattle.site_check.specs.Located.{KeepsRows, located_row, placed_at}
 use Rattle.site_check.proofs.invalid.push_texts.Given as goal
 
 abbrev pub invariant-loop-index : goal.invariant-loop-index
@@ -9,4 +10,5 @@ invariant-loop-index l = record {
   invalid : invalid_rows_in l.all.items ≡ invalid_rows_in l.initial.all.items ++ map row_of (not_ignored (map string_bytes l.ignores) (map text_of (take l.index l.texts)));
   leaving : leaving_in l.all.items ≡ leaving_in l.initial.all.items;
   hints : hints_in l.all.items ≡ hints_in l.initial.all.items;
+  located : KeepsRows (map placed_at l.places) 2 (map text_of l.texts) (map located_row l.initial.all.items) (map located_row l.all.items);
 }

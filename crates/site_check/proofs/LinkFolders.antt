@@ -1,0 +1,171 @@
+-- The URLs with which links begin, and the links that begin with them.
+use Rattle.site_check.proofs.Prelude.{◌≡◌, ◌∙◌, ℕ, suc, zero, ◌+◌, ◌<◌, ◌≤◌, ◌&&◌, Bool, true, false, List, [], ◌∷◌, ◌++◌, Option, Some, None, length, drop, take, get_or, count_by, filter, refl, subst, sym, ap, inl, inr, arith, append_assoc, cases_Bool, cond-false, cond-true, string_bytes, take-append-drop, bytes_eq-Decides, begins, Bor, flat_map, option_map, pointed, Counts, SiteFiles, count_at, is_slash, often_first, one_if, path_count}
+use Rattle.std.proofs.Common.{◌-◌, ◌==◌, ◌≢◌, MatchOption, take_all}
+use Rattle.std.proofs.lemmas.List.{append_cancel_right, drop_all, flat_map_more}
+use Rattle.std.proofs.lemmas.List.Sums.{sum_by-append, sum_by-cons}
+use Rattle.std.specs.Option.{option_and_then, option_or, option_to_list}
+use Rattle.std.specs.Str.Pattern.{FindsTextSuffix, StripsSuffix}
+use Rattle.crawl_sources.proofs.Counts.{length_pointed, pointed_more}
+use Rattle.site_check.proofs.Fronts.{begins_with}
+use Rattle.site_check.proofs.Outsides.{IsName, first_free, more_name}
+use Rattle.site_check.proofs.RootFolders.{cut_here}
+use Rattle.site_check.specs.Base.{Hint}
+use Rattle.site_check.specs.LinkBase.{Cuts, first_hint, folder_to, folders_to, has_file_at, hint_in, hint_to, is_few, leads_to_file, link_hint}
+
+-- ---- counts
+
+count_next : (test : List ℕ → Bool) (xs : List (List ℕ)) (x : List ℕ) → count_by test (xs ++ x ∷ []) ≡ count_by test xs + one_if (test x)
+count_next test xs x =
+    let all : count_by test (xs ++ x ∷ []) ≡ count_by test xs + count_by test (x ∷ []) = sum_by-append (λ u. one_if (test u)) xs (x ∷ []) in
+    let one : count_by test (x ∷ []) ≡ one_if (test x) + 0 = sum_by-cons (λ u. one_if (test u)) x [] in
+    omega (arith, all, one)
+
+-- one URL more, which is counted if it passes the test
+pub count_more : (test : List ℕ → Bool) (urls : List (Bor (List ℕ))) (i n k : ℕ) (url : Bor (List ℕ)) (is : Bool) → i < length urls → url ≡ get_or urls i url → k ≡ one_if is → is ≡ test url.now →
+    n ≡ count_by test (pointed (take i urls)) → n + k ≡ count_by test (pointed (take (i + 1) urls))
+count_more test urls i n k url is below at one tested so_far =
+    let next : count_by test (pointed (take (i + 1) urls)) ≡ count_by test (pointed (take i urls)) + one_if (test url.now) =
+    ap (count_by test) (pointed_more urls i url below at) ∙ count_next test (pointed (take i urls)) url.now in
+    let own : k ≡ one_if (test url.now) = one ∙ ap one_if tested in
+    omega (arith, next, own, so_far)
+
+pub count_end : (test : List ℕ → Bool) (urls : List (Bor (List ℕ))) (i n : ℕ) → length urls ≤ i → n ≡ count_by test (pointed (take i urls)) → n ≡ count_by test (pointed urls)
+count_end test urls i n past so_far = so_far ∙ ap (λ l. count_by test (pointed l)) (take_all i urls past)
+
+one_fits : (is : Bool) → one_if is ≤ 1
+one_fits true = omega arith
+one_fits false = omega arith
+
+-- no more are counted than there are
+pub count_fits : (i n k : ℕ) (is : Bool) → k ≡ one_if is → n ≤ i → n + k ≤ i + 1
+count_fits i n k is one fits = omega (arith, one, fits, one_fits is)
+
+-- ---- folders
+
+pub folders_more : (n : ℕ) (urls : List (Bor (List ℕ))) (i : ℕ) (url : Bor (List ℕ)) (old new : List (List ℕ)) → i < length urls → url ≡ get_or urls i url → old ≡ folders_to n (pointed (take i urls)) →
+    new ≡ old ++ option_to_list (folder_to n url.now) → new ≡ folders_to n (pointed (take (i + 1) urls))
+folders_more n urls i url old new below at so_far put =
+    let own : List ℕ → List (List ℕ) = λ u. option_to_list (folder_to n u) in
+    put ∙ ap (λ l. l ++ own url.now) so_far ∙ flat_map_more own [] (pointed (take i urls)) url.now ∙ ap (flat_map own) (sym (pointed_more urls i url below at))
+
+pub folders_end : (n : ℕ) (urls : List (Bor (List ℕ))) (i : ℕ) (all : List (List ℕ)) → length urls ≤ i → all ≡ folders_to n (pointed (take i urls)) → all ≡ folders_to n (pointed urls)
+folders_end n urls i all past so_far = so_far ∙ ap (λ l. folders_to n (pointed l)) (take_all i urls past)
+
+-- ---- the text to a slash
+
+twice : (b : ℕ) (part : List ℕ) (front : Option (List ℕ)) → option_map (λ f. b ∷ f) (option_map (λ f. part ++ 47 ∷ f) front) ≡ option_map (λ f. b ∷ part ++ 47 ∷ f) front
+twice b part None = refl
+twice b part (Some front) = refl
+
+-- the text up to the first slash is in it
+cut_name : (n : ℕ) (part more : List ℕ) → IsName part → folder_to (suc n) (part ++ 47 ∷ more) ≡ option_map (λ f. part ++ 47 ∷ f) (folder_to n more)
+cut_name n [] more free = refl
+cut_name n (b ∷ part) more free =
+    ap (option_map (λ f. b ∷ f)) (cond-false (is_slash b) _ _ (first_free b part free) ∙ cut_name n part more (more_name b part free)) ∙ twice b part (folder_to n more)
+
+no_cut : (n : ℕ) (url : List ℕ) → IsName url → folder_to (suc n) url ≡ None
+no_cut n [] free = refl
+no_cut n (b ∷ url) free = ap (option_map (λ f. b ∷ f)) (cond-false (is_slash b) _ _ (first_free b url free) ∙ no_cut n url (more_name b url free))
+
+cuts_more : (part more : List ℕ) (front rest : Option (List ℕ)) → Cuts front more rest → Cuts (option_map (λ f. part ++ 47 ∷ f) front) (part ++ 47 ∷ more) rest
+cuts_more part more None None cuts = tt
+cuts_more part more None (Some rest) cuts = absurd cuts
+cuts_more part more (Some front) None cuts = absurd cuts
+cuts_more part more (Some front) (Some rest) cuts = ap (λ t. part ++ 47 ∷ t) cuts ∙ sym (append_assoc part (47 ∷ front) rest)
+
+pub rest_all : (n : ℕ) (url : List ℕ) → n ≡ 0 → Cuts (folder_to n url) url (Some url)
+rest_all n url none = subst (λ k. Cuts (folder_to k url) url (Some url)) (sym none) refl
+
+pub rest_more : (n : ℕ) (url part more : List ℕ) (rest : Option (List ℕ)) → n ≢ 0 → url ≡ part ++ 47 ∷ more → IsName part → Cuts (folder_to (n - 1) more) more rest → Cuts (folder_to n url) url rest
+rest_more zero url part more rest some split free cuts = absurd (some refl)
+rest_more (suc n) url part more rest some split free cuts =
+    let less : suc n - 1 ≡ n = omega arith in
+    let own : Cuts (folder_to n more) more rest = subst (λ k. Cuts (folder_to k more) more rest) less cuts in
+    subst (λ t. Cuts (folder_to (suc n) t) t rest) (sym split) (subst (λ o. Cuts o (part ++ 47 ∷ more) rest) (sym (cut_name n part more free)) (cuts_more part more (folder_to n more) rest own))
+
+pub rest_none : (n : ℕ) (url : List ℕ) → n ≢ 0 → IsName url → Cuts (folder_to n url) url None
+rest_none zero url some free = absurd (some refl)
+rest_none (suc n) url some free = subst (λ o. Cuts o url None) (sym (no_cut n url free)) tt
+
+-- what is left decides the front
+front_is : (front : Option (List ℕ)) (url found rest : List ℕ) → Cuts front url (Some rest) → url ≡ found ++ rest → Some found ≡ front
+front_is None url found rest cuts split = absurd cuts
+front_is (Some front) url found rest cuts split = ap Some (append_cancel_right found front rest (sym split ∙ cuts))
+
+front_there : (front : Option (List ℕ)) (url rest : List ℕ) → Cuts front url (Some rest) → ((found : List ℕ) → url ≢ found ++ rest) → None ≡ front
+front_there None url rest cuts lacks = absurd cuts
+front_there (Some front) url rest cuts lacks = absurd (lacks front cuts)
+
+pub front_none : (front : Option (List ℕ)) (url : List ℕ) → Cuts front url None → None ≡ front
+front_none None url cuts = refl
+front_none (Some front) url cuts = absurd cuts
+
+pub stripped : (front : Option (List ℕ)) (url rest : List ℕ) (r : Option (Bor (List ℕ))) → MatchOption r (FindsTextSuffix rest url None) (λ x. StripsSuffix (FindsTextSuffix rest) url x.now) → Cuts front url (Some rest) →
+    option_map (λ folder. folder.now) r ≡ front
+stripped front url rest None lacks cuts = front_there front url rest cuts lacks
+stripped front url rest (Some found) strips cuts = front_is front url found.now rest cuts (strips.1.1 ∙ ap (λ t. t ++ rest) (sym strips.2))
+
+-- ---- files at other URLs
+
+pub leads_on : (files : SiteFiles) (folder url path : List ℕ) (n : ℕ) (has : Bool) → n ≡ length folder → url ≡ folder ++ drop n url → path ≡ drop n url → has ≡ has_file_at files path → has ≡ leads_to_file files folder url
+leads_on files folder url path n has count split cut is =
+    is ∙ ap (has_file_at files) (cut ∙ ap (λ k. drop k url) count) ∙ (λ i. sym (begins_with folder url (drop n url) split) i && has_file_at files (drop (length folder) url))
+
+not_begun : (front url : List ℕ) → ((rest : List ℕ) → url ≡ front ++ rest → ⊥) → begins front url ≡ false
+not_begun front url lacks =
+    let rest = drop (length front) url in
+    elim (cases_Bool (begins front url)) [
+      | inl with ↦ absurd (lacks rest (sym (take-append-drop (length front) url) ∙ ap (λ t. t ++ rest) ((bytes_eq-Decides (take (length front) url) front).0 with)))
+      | inr without ↦ without
+    ]
+
+pub leads_off : (files : SiteFiles) (folder url : List ℕ) → ((rest : List ℕ) → url ≡ folder ++ rest → ⊥) → false ≡ leads_to_file files folder url
+leads_off files folder url lacks = λ i. sym (not_begun folder url lacks) i && has_file_at files (drop (length folder) url)
+
+-- ---- the hint
+
+-- the hint at an index, and those after it
+hint_at_index : (files : SiteFiles) (urls : List (List ℕ)) (of : ℕ) (numbers : List ℕ) (i n : ℕ) → i < length numbers → n ≡ get_or numbers i n →
+    first_hint files urls of (drop i numbers) ≡ option_or (hint_to files urls of n) (first_hint files urls of (drop (i + 1) numbers))
+hint_at_index files urls of numbers i n below is = ap (first_hint files urls of) (cut_here numbers i n below is)
+
+pub hint_here : (files : SiteFiles) (urls : List (List ℕ)) (of : ℕ) (numbers : List ℕ) (i n : ℕ) (hint : Hint) (all : Option Hint) → i < length numbers → n ≡ get_or numbers i n →
+    Some hint ≡ hint_to files urls of n → first_hint files urls of (drop i numbers) ≡ all → Some hint ≡ all
+hint_here files urls of numbers i n hint all below is found so_far =
+    sym (hint_at_index files urls of numbers i n below is ∙ ap (λ o. option_or o (first_hint files urls of (drop (i + 1) numbers))) (sym found)) ∙ so_far
+
+pub hint_later : (files : SiteFiles) (urls : List (List ℕ)) (of : ℕ) (numbers : List ℕ) (i n : ℕ) (all : Option Hint) → i < length numbers → n ≡ get_or numbers i n →
+    None ≡ hint_to files urls of n → first_hint files urls of (drop i numbers) ≡ all → first_hint files urls of (drop (i + 1) numbers) ≡ all
+hint_later files urls of numbers i n all below is none so_far =
+    sym (hint_at_index files urls of numbers i n below is ∙ ap (λ o. option_or o (first_hint files urls of (drop (i + 1) numbers))) (sym none)) ∙ so_far
+
+pub no_hint : (files : SiteFiles) (urls : List (List ℕ)) (of : ℕ) (numbers : List ℕ) (i : ℕ) (all : Option Hint) → length numbers ≤ i → first_hint files urls of (drop i numbers) ≡ all → None ≡ all
+no_hint files urls of numbers i all past so_far = sym (ap (first_hint files urls of) (drop_all i numbers past)) ∙ so_far
+
+pub hint_chosen : (files : SiteFiles) (urls folders : List (List ℕ)) (counts : Counts) (of n : ℕ) (folder : List ℕ) → folders ≡ folders_to n urls →
+    ((other : List ℕ) → count_at counts other ≡ path_count folders other) → Some folder ≡ often_first of (count_at counts) folders → hint_in files urls of folder ≡ hint_to files urls of n
+hint_chosen files urls folders counts of n folder listed are first =
+    ap (option_and_then (hint_in files urls of)) (first ∙ (λ i. often_first of (λ other. are other i) folders) ∙ ap (λ l. often_first of (path_count l) l) listed)
+
+pub hint_lacks : (files : SiteFiles) (urls folders : List (List ℕ)) (counts : Counts) (of n : ℕ) → folders ≡ folders_to n urls → ((other : List ℕ) → count_at counts other ≡ path_count folders other) →
+    None ≡ often_first of (count_at counts) folders → None ≡ hint_to files urls of n
+hint_lacks files urls folders counts of n listed are first =
+    ap (option_and_then (hint_in files urls of)) (first ∙ (λ i. often_first of (λ other. are other i) folders) ∙ ap (λ l. often_first of (path_count l) l) listed)
+
+-- fewer than half of the links begin with the top, or at least half
+pub hint_of_few : (files : SiteFiles) (all : List (Bor (List ℕ))) (urls : List (List ℕ)) (of below : ℕ) (hint : Option Hint) → pointed all ≡ urls → of ≡ length all →
+    below ≡ count_by (begins (string_bytes files.site.top)) (pointed all) → is_few below of ≡ true → hint ≡ first_hint files (pointed all) of (3 ∷ 4 ∷ 5 ∷ 6 ∷ 7 ∷ 8 ∷ []) → hint ≡ link_hint files urls
+hint_of_few files all urls of below hint are whole part few is =
+    let those = pointed all in
+    let same : of ≡ length those = whole ∙ sym (length_pointed all) in
+    let test : is_few (count_by (begins (string_bytes files.site.top)) those) (length those) ≡ true = (λ i. is_few (sym part i) (sym same i)) ∙ few in
+    is ∙ ap (λ n. first_hint files those n (3 ∷ 4 ∷ 5 ∷ 6 ∷ 7 ∷ 8 ∷ [])) same
+    ∙ sym (cond-true (is_few (count_by (begins (string_bytes files.site.top)) those) (length those)) _ _ test) ∙ ap (link_hint files) are
+
+pub hint_of_most : (files : SiteFiles) (all : List (Bor (List ℕ))) (urls : List (List ℕ)) (of below : ℕ) → pointed all ≡ urls → of ≡ length all →
+    below ≡ count_by (begins (string_bytes files.site.top)) (pointed all) → is_few below of ≡ false → None ≡ link_hint files urls
+hint_of_most files all urls of below are whole part most =
+    let those = pointed all in
+    let same : of ≡ length those = whole ∙ sym (length_pointed all) in
+    let test : is_few (count_by (begins (string_bytes files.site.top)) those) (length those) ≡ false = (λ i. is_few (sym part i) (sym same i)) ∙ most in
+    sym (cond-false (is_few (count_by (begins (string_bytes files.site.top)) those) (length those)) _ _ test) ∙ ap (link_hint files) are

@@ -1,0 +1,13 @@
+use Rattle.site_check.proofs.Prelude.{length, map}
+use Rattle.std.specs.List.{All, Contains}
+use Rattle.site_check.specs.Located.{IsTargetPlace, placed_at}
+use Rattle.site_check.proofs.located.every_place.Given as goal
+
+abbrev pub invariant-pages : goal.invariant-pages
+invariant-pages g l = record {
+  placed : All (IsTargetPlace l.site.files.now l.site.pages.results.now (g.B.FileBytes.reads l.bytes) l.leads) (map placed_at l.all.items);
+  within : All (Contains l.leads) l.left;
+}
+
+abbrev pub decreases-pages : goal.decreases-pages
+decreases-pages g l = length l.left

@@ -1,0 +1,6 @@
+use Rattle.site_check.proofs.Prelude.{◌≡◌, flat_map}
+use Rattle.site_check.specs.Located.{items_of}
+use Rattle.site_check.proofs.threads.joined.Given as goal
+
+abbrev pub invariant-chunks : goal.invariant-chunks
+invariant-chunks g l = l.all.items ≡ flat_map items_of l.yielded

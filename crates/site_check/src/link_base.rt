@@ -1,0 +1,273 @@
+//! The hint at another URL of the folder, with which most links begin.
+ghost use Rattle.std.specs.Prelude.{◌≡◌, ◌++◌, IfOk, OnOk, count_by, length, map, option_map};
+ghost use Rattle.std.specs.Option.{option_to_list};
+ghost use Rattle.crawl_sources.specs.Tallies.{pointed};
+ghost use Rattle.site_files.specs.Server.{before_query};
+ghost use Rattle.site_check.specs.Base.{hint_at};
+ghost use Rattle.site_check.specs.Broken.{begins};
+ghost use Rattle.site_check.specs.LinkBase.{Cuts, base_hint_of, first_hint, folder_to, folders_to, has_file_at, hint_in, hint_to, hint_with_counts, is_few, is_half, leads_to_file, link_hint, link_urls, page_urls};
+
+use crate::base::{often_first, path_counts, root_hint};
+use crate::shown::begins;
+use crate::totals::number_of;
+use check_report::{BaseHint, Broken};
+use crawl_keys::CanonUrl;
+use crawl_pages::{NoMemory, PageResult, links_of};
+use site_files::{SiteFiles, before_query};
+use std::alloc::Global;
+
+/// The URL or folder that BASE would name: by the links to missing pages, or else by all links.
+pub(crate) fn base_hint(
+    alloc: Global,
+    rooted: bool,
+    files: &SiteFiles<'_>,
+    results: &[PageResult],
+    rows: &[Broken],
+) -> Result<Option<BaseHint>, NoMemory>
+    ensures { IfOk result (λ hint. option_map hint_at hint ≡ base_hint_of rooted files.now results.now rows.now) }
+{
+    match root_hint(alloc, rooted, files, rows)? {
+        Some(hint) => Ok(Some(hint)),
+        None => link_hint(alloc, files, results),
+    }
+}
+
+/// The hint at a URL with which many links begin, if fewer than half of the links begin with the top. The URL has three to eight slashes;
+/// the third one ends the host.
+fn link_hint(
+    alloc: Global,
+    files: &SiteFiles<'_>,
+    results: &[PageResult],
+) -> Result<Option<BaseHint>, NoMemory>
+    ensures { IfOk result (λ hint. option_map hint_at hint ≡ link_hint files.now (link_urls results.now)) }
+{
+    let all = link_urls(alloc, results)?;
+    let urls = all.as_slice();
+    let of = urls.len() as u64;
+    if !is_few(count_with(files.top(), urls), of) {
+        return Ok(None);
+    }
+    first_hint(alloc, files, urls, of, &[3, 4, 5, 6, 7, 8])
+}
+
+/// The URLs of the links in found pages, without queries.
+fn link_urls(alloc: Global, results: &[PageResult]) -> Result<Vec<&str>, NoMemory>
+    ensures { IfOk result (λ urls. pointed urls.items ≡ link_urls results.now) }
+{
+    let mut urls = Vec::new(alloc);
+    for one in results {
+        push_page(one, &mut urls)?;
+    }
+    Ok(urls)
+}
+
+/// Appends the URLs of the links in a page, if it was found.
+fn push_page<'a>(one: &'a PageResult, urls: &mut Vec<&'a str>) -> Result<(), NoMemory>
+    ensures { OnOk result (pointed urls.new.items ≡ pointed urls.old.items ++ page_urls one.now) }
+{
+    if one.page.is_found() {
+        push_links(links_of(&one.page), urls)?;
+    }
+    Ok(())
+}
+
+/// Appends these URLs without their queries.
+fn push_links<'a>(links: &'a [CanonUrl], urls: &mut Vec<&'a str>) -> Result<(), NoMemory>
+    ensures { OnOk result (pointed urls.new.items ≡ pointed urls.old.items ++ map before_query links.now) }
+{
+    for link in links {
+        urls.push(before_query(link.as_str()))?;
+    }
+    Ok(())
+}
+
+/// The number of URLs that begin with the front.
+#[tactic(auto, using(crate::proofs::LinkFolders::count_more, crate::proofs::LinkFolders::count_fits, crate::proofs::LinkFolders::count_end))]
+fn count_with(front: &str, urls: &[&str]) -> u64
+    ensures { result ≡ count_by (begins front.now) (pointed urls.now) }
+{
+    let mut count: u64 = 0;
+    for url in urls {
+        count += number_of(begins(front, *url));
+    }
+    count
+}
+
+/// Whether the part is less than half of all.
+fn is_few(part: u64, of: u64) -> bool
+    ensures { result ≡ is_few part of }
+{
+    part < of.saturating_sub(part)
+}
+
+/// Whether the part is at least half of all.
+fn is_half(part: u64, of: u64) -> bool
+    ensures { result ≡ is_half part of }
+{
+    of.saturating_sub(part) <= part
+}
+
+/// The first hint at a URL with one of these numbers of slashes.
+#[tactic(auto, using(crate::proofs::LinkFolders::hint_here, crate::proofs::LinkFolders::hint_later, crate::proofs::LinkFolders::no_hint))]
+fn first_hint(
+    alloc: Global,
+    files: &SiteFiles<'_>,
+    urls: &[&str],
+    of: u64,
+    numbers: &[usize],
+) -> Result<Option<BaseHint>, NoMemory>
+    ensures { IfOk result (λ hint. option_map hint_at hint ≡ first_hint files.now (pointed urls.now) of numbers.now) }
+{
+    for slashes in numbers {
+        match hint_to(alloc, files, urls, of, *slashes)? {
+            Some(hint) => return Ok(Some(hint)),
+            None => {}
+        }
+    }
+    Ok(None)
+}
+
+/// The hint at the first URL with this number of slashes with which at least half and at least two of the links begin.
+#[tactic(auto, using(crate::proofs::LinkFolders::hint_lacks))]
+fn hint_to(
+    alloc: Global,
+    files: &SiteFiles<'_>,
+    urls: &[&str],
+    of: u64,
+    slashes: usize,
+) -> Result<Option<BaseHint>, NoMemory>
+    ensures { IfOk result (λ hint. option_map hint_at hint ≡ hint_to files.now (pointed urls.now) of slashes) }
+{
+    let folders = folders_to(alloc, urls, slashes)?;
+    let those = folders.as_slice();
+    let counts = path_counts(alloc, those)?;
+    match often_first(of, &counts, those) {
+        Some(folder) => hint_in(alloc, files, urls, of, folder),
+        None => Ok(None),
+    }
+}
+
+/// The texts of URLs to their slashes with this number. URLs with fewer slashes have none.
+#[tactic(auto, using(crate::proofs::LinkFolders::folders_more, crate::proofs::LinkFolders::folders_end))]
+fn folders_to<'a>(alloc: Global, urls: &[&'a str], slashes: usize) -> Result<Vec<&'a str>, NoMemory>
+    ensures { IfOk result (λ folders. pointed folders.items ≡ folders_to slashes (pointed urls.now)) }
+{
+    let mut folders = Vec::new(alloc);
+    for url in urls {
+        push_folder(*url, slashes, &mut folders)?;
+    }
+    Ok(folders)
+}
+
+/// Appends the text to the slash with this number, unless the URL has fewer slashes.
+fn push_folder<'a>(url: &'a str, slashes: usize, folders: &mut Vec<&'a str>) -> Result<(), NoMemory>
+    ensures { OnOk result (pointed folders.new.items ≡ pointed folders.old.items ++ option_to_list (folder_to slashes url.now)) }
+{
+    match folder_to(slashes, url) {
+        Some(folder) => {
+            folders.push(folder)?;
+            Ok(())
+        }
+        None => Ok(()),
+    }
+}
+
+/// The text to the end of its slash with this number. `None` if it has fewer slashes.
+#[tactic(auto, using(crate::proofs::LinkFolders::front_none, crate::proofs::LinkFolders::stripped))]
+fn folder_to(slashes: usize, url: &str) -> Option<&str>
+    ensures { option_map (λ folder. folder.now) result ≡ folder_to slashes url.now }
+{
+    match rest_after(slashes, url) {
+        Some(rest) => url.strip_suffix(rest),
+        None => None,
+    }
+}
+
+/// What is after the slash with this number. `None` if there are fewer slashes.
+#[tactic(auto, using(crate::proofs::LinkFolders::rest_all))]
+fn rest_after(slashes: usize, url: &str) -> Option<&str>
+    ensures { Cuts (folder_to slashes url.now) url.now (option_map (λ rest. rest.now) result) }
+{
+    if slashes == 0 {
+        return Some(url);
+    }
+    match url.split_once('/') {
+        Some((part, rest)) => rest_after(slashes - 1, rest),
+        None => None,
+    }
+}
+
+/// The hint at a URL, if at least half of the links that begin with it would lead to files at the top.
+fn hint_in(
+    alloc: Global,
+    files: &SiteFiles<'_>,
+    urls: &[&str],
+    of: u64,
+    folder: &str,
+) -> Result<Option<BaseHint>, NoMemory>
+    ensures { IfOk result (λ hint. option_map hint_at hint ≡ hint_in files.now (pointed urls.now) of folder.now) }
+{
+    let paths = count_with(folder, urls);
+    let found = count_files(alloc, files, folder, urls)?;
+    hint_with_counts(alloc, of, folder, paths, found)
+}
+
+/// The hint at a URL with these numbers, if enough of the links lead to files.
+fn hint_with_counts(
+    alloc: Global,
+    of: u64,
+    folder: &str,
+    paths: u64,
+    found: u64,
+) -> Result<Option<BaseHint>, NoMemory>
+    ensures { IfOk result (λ hint. option_map hint_at hint ≡ hint_with_counts of folder.now paths found) }
+{
+    if !is_half(found, paths) {
+        return Ok(None);
+    }
+    let folder = String::from_str(alloc, folder)?;
+    Ok(Some(BaseHint { folder, paths, of }))
+}
+
+/// The number of URLs that begin with the folder and lead to files if the folder is the top.
+#[tactic(auto, using(crate::proofs::LinkFolders::count_more, crate::proofs::LinkFolders::count_fits, crate::proofs::LinkFolders::count_end))]
+fn count_files(
+    alloc: Global,
+    files: &SiteFiles<'_>,
+    folder: &str,
+    urls: &[&str],
+) -> Result<u64, NoMemory>
+    ensures { IfOk result (λ count. count ≡ count_by (leads_to_file files.now folder.now) (pointed urls.now)) }
+{
+    let mut count: u64 = 0;
+    for url in urls {
+        let is_counted = leads_to_file(alloc, files, folder, *url)?;
+        count += number_of(is_counted);
+    }
+    Ok(count)
+}
+
+/// Whether a URL begins with the folder, and is that of a file if the folder is the top.
+#[tactic(auto, using(crate::proofs::LinkFolders::leads_on, crate::proofs::LinkFolders::leads_off))]
+fn leads_to_file(
+    alloc: Global,
+    files: &SiteFiles<'_>,
+    folder: &str,
+    url: &str,
+) -> Result<bool, NoMemory>
+    ensures { IfOk result (λ leads. leads ≡ leads_to_file files.now folder.now url.now) }
+{
+    match url.strip_prefix(folder) {
+        Some(path) => has_file_at(alloc, files, path),
+        None => Ok(false),
+    }
+}
+
+/// Whether a file has the URL of this path from the top.
+fn has_file_at(alloc: Global, files: &SiteFiles<'_>, path: &str) -> Result<bool, NoMemory>
+    ensures { IfOk result (λ has. has ≡ has_file_at files.now path.now) }
+{
+    let mut url = String::from_str(alloc, files.top())?;
+    url.push_str(path)?;
+    Ok(files.file_of(url.as_str()).is_some())
+}
