@@ -17,6 +17,7 @@ use Rattle.crawl_run.specs.declared.crawled.Crawled.{Crawled}
 use Rattle.mercator_site.specs.Asks.{Asks}
 use Rattle.mercator_site.specs.External.{AreExternal, Row, host_root, row_of}
 use Rattle.mercator_site.specs.Maps.{names_of, unmapped}
+use Rattle.mercator_site.specs.Misses.{IsRightlyMissed}
 use Rattle.mercator_site.specs.Own.{own_of}
 use Rattle.mercator_site.specs.Starts.{AreStarts, documents_in}
 use Rattle.mercator_site.specs.declared.crawl.SiteCrawls.{SiteCrawls}
@@ -31,10 +32,13 @@ use Rattle.site_files.specs.declared.rules.Rules.{Rules}
 use Rattle.site_files.specs.Below.{IsTop}
 use Rattle.saved_site.specs.Below.{IsWebBelow}
 use Rattle.saved_site.specs.Meaning.{IsSiteWeb}
+use Rattle.site_check.specs.Base.{hint_at}
 use Rattle.site_check.specs.Broken.{redirects_of}
 use Rattle.site_files.specs.declared.files.SiteFiles.{SiteFiles}
 use Rattle.site_files.specs.declared.alias.Alias.{Alias}
 use Rattle.site_check.specs.Invalid.{texts_if}
+use Rattle.site_check.specs.LinkBase.{base_hint_of}
+use Rattle.site_check.specs.Locations.{IsLocated}
 use Rattle.site_check.specs.Reported.{AreReported}
 use Rattle.site_check.specs.Told.{way_of}
 use Rattle.site_check.specs.Totals.{totals_of}
@@ -93,10 +97,10 @@ other_rows contents = option_map (λ urls. map row_of urls.now) contents.externa
 -- the results of a check of a site are those of a crawl: in `own`, the results of the site's own URLs, the missing pages and the redirects,
 -- each with the number of pages that link to it, and the invalid links, if they are reported; in `pages`, all results, the missing pages on
 -- the site's host that are not below the top and that no folder of a map has; in `reached`, what a search finds, the files that it does not
--- reach; the entries that match nothing; and the files with the most broken links. The totals count the pages at the own URLs of files, those
--- of some documents apart, their links, the pages at these aliases, and the rows. By the totals something is broken if there is a row: of a
--- missing page or anchor, of an invalid link, or of a link that leads out of the site
-pub record AreResults (site : SiteFiles) (own pages : List PageResult) (reached : Option (List PageResult)) (aliases : List Alias) (asks : Asks) (checked : Checked) : Type 0 where
+-- reach; the entries that match nothing; the files with the most broken links; and the hint at BASE. The totals count the pages at the own
+-- URLs of files, those of some documents apart, their links, the pages at these aliases, and the rows. By the totals something is broken if
+-- there is a row: of a missing page or anchor, of an invalid link, or of a link that leads out of the site
+pub record AreResults (site : SiteFiles) (reads : ℕ → Option (List ℕ) → Type 0) (own pages : List PageResult) (reached : Option (List PageResult)) (aliases : List Alias) (asks : Asks) (checked : Checked) : Type 0 where
   pub ways : map way_of checked.redirects.items ≡ redirects_of asks.front own
   -- the own URLs of documents
   pub documents : List (List ℕ)
@@ -104,9 +108,11 @@ pub record AreResults (site : SiteFiles) (own pages : List PageResult) (reached 
   -- what is known of the links of these pages
   pub places : List LinkPlaces
   pub rows : AreReported asks.front asks.entries (texts_if asks.invalid places own) asks.rooted (names_of asks.folders) site own (unmapped asks.folders pages) checked.broken.items (map string_bytes checked.unused_ignores.items)
+  pub located : All (IsLocated asks.front places site own reads) checked.broken.items
   pub verdict : is_broken checked.totals ≡ not (length checked.broken.items == 0)
   pub worst : map file_links checked.worst.items ≡ worst_of checked.broken.items
   pub unreached : map string_bytes checked.unreached.items ≡ unreached_by asks.front site reached
+  pub base_hint : option_map hint_at checked.base_hint ≡ base_hint_of asks.rooted site own checked.broken.items
 
 -- the text is these results of a check of a site with this name, with these external links. The check fails if something is broken, or if
 -- there is a document that no sitemap lists, and these are reported
@@ -120,6 +126,7 @@ pub record IsReport (checked : Checked) (others : Option (List Row)) (name : Lis
   pub unreached : found.unreached.now ≡ checked.unreached.items
   pub unlisted : found.unlisted.now ≡ checked.unlisted.items
   pub unused : found.unused_ignores.now ≡ checked.unused_ignores.items
+  pub base_hint : option_map (λ hint. hint.now) found.base_hint ≡ checked.base_hint
   pub is_broken : broken ≡ is_broken checked.totals || (asks.report.lists.unlisted && not (length checked.unlisted.items == 0))
   pub contents : Contents
   pub lists : contents.lists ≡ asks.report.lists
@@ -128,10 +135,12 @@ pub record IsReport (checked : Checked) (others : Option (List Row)) (name : Lis
   pub others_listed : other_rows contents ≡ others
   pub written : text ≡ printed_check asks.report.form contents found
 
--- the text is the report of a check of these results of a crawl, with the links to other hosts than the site's, if they are listed
-pub record IsFindings (name : List ℕ) (site : SiteFiles) (own pages : List PageResult) (reached : Option (List PageResult)) (aliases : List Alias) (asks : Asks) (broken : Bool) (text : List ℕ) : Type 0 where
+-- the text is the report of a check of these results of a crawl, with the links to other hosts than the site's, if they are listed. A missing
+-- page of the site is rightly so
+pub record IsFindings (name : List ℕ) (site : SiteFiles) (reads : ℕ → Option (List ℕ) → Type 0) (own pages : List PageResult) (reached : Option (List PageResult)) (aliases : List Alias) (asks : Asks) (broken : Bool) (text : List ℕ) : Type 0 where
+  pub missing : All (IsRightlyMissed site) own
   pub checked : Checked
-  pub results : AreResults site own pages reached aliases asks checked
+  pub results : AreResults site reads own pages reached aliases asks checked
   pub others : Option (List Row)
   pub are_others : AreOthersListed asks.report.external (host_root site) own others
   pub report : IsReport checked others name asks broken text
@@ -139,14 +148,14 @@ pub record IsFindings (name : List ℕ) (site : SiteFiles) (own pages : List Pag
 -- the text reports what is found in the results of a crawl of the saved web below the top, on a site with this name and these files. The
 -- crawl also starts at the own URL of each document, sitemap and feed of the site at which a check starts, unless only what the search
 -- reaches is checked
-pub record IsCheck (site : SiteFiles) (name top web : List ℕ) (aliases : List Alias) (asks : Asks) (broken : Bool) (text : List ℕ) : Type 0 where
+pub record IsCheck (site : SiteFiles) (reads : ℕ → Option (List ℕ) → Type 0) (name top web : List ℕ) (aliases : List Alias) (asks : Asks) (broken : Bool) (text : List ℕ) : Type 0 where
   pub pages : List PageResult
   pub crawled : IsTopCrawl top web asks.reachable asks.seeds (documents_in asks.reachable site top) pages
   pub own : List PageResult
   pub are_own : own ≡ own_of top pages
   pub reached : Option (List PageResult)
   pub are_reached : AreReached asks.report.lists.unreached top web asks.reachable asks.seeds reached
-  pub findings : IsFindings name site own pages reached aliases asks broken text
+  pub findings : IsFindings name site reads own pages reached aliases asks broken text
 
 -- the page of each alias in the saved web has one link, to the own URL of the alias's file
 abbrev pub AreAliasesIn : List ℕ → List Alias → Type 0
@@ -168,7 +177,7 @@ pub record IsSiteCheck (files : SiteFiles) (reads : ℕ → Option (List ℕ) �
   pub below : IsWebBelow (string_bytes files.site.top) web
   pub aliases : List Alias
   pub are_aliases : AreAliasesIn web aliases
-  pub checked : IsCheck files name (string_bytes files.site.top) web aliases asks broken text
+  pub checked : IsCheck files reads name (string_bytes files.site.top) web aliases asks broken text
 
 -- such a check, of the files with these names and bodies, whose top is that of BASE. A server answers for them as it does for a folder
 pub record IsSiteCheckAt (names : List (String Global)) (bodies : List (Vec ℕ Global)) (rules : Rules) (name base : List ℕ) (asks : Asks) (broken : Bool) (text : List ℕ) : Type 0 where

@@ -3,6 +3,7 @@ use Rattle.std.specs.Prelude.{◌≡◌, ℕ, Bool, if◌then◌else◌, List, [
 use Rattle.mercator_site.specs.Asks.{asks_of}
 use Rattle.mercator_site.specs.Checks.{IsAny, IsSiteCheck}
 use Rattle.mercator_site.specs.Maps.{AreMapped}
+use Rattle.mercator_site.specs.Rules.{AreCheckRules}
 use Rattle.mercator_site.specs.declared.mapped.MappedFolder.{MappedFolder}
 use Rattle.mercator_site.specs.declared.maps.FolderMap.{FolderMap}
 use Rattle.mercator_site.specs.declared.options.CheckOptions.{CheckOptions}
@@ -18,11 +19,12 @@ abbrev pub front_of : CheckOptions → List ℕ → List ℕ
 front_of options top = if options.paths then top else []
 
 -- the report of a check of a folder, with these maps and the entries of an ignore list. The pages are those that a server returns for
--- some files. It says nothing about which files the folder and the folders of the maps have, except that the pages are below the top of
--- BASE, and those of a map below its prefix
+-- some files by the rules of the options. It says nothing about which files the folder and the folders of the maps have, except that the
+-- pages are below the top of BASE, and those of a map below its prefix
 pub record IsCheckOf (options : CheckOptions) (maps : List FolderMap) (entries : List (List ℕ)) (broken : Bool) (text : List ℕ) : Type 0 where
   pub files : SiteFiles
   pub is_top : IsTop (string_bytes options.site.base) (string_bytes files.site.top)
+  pub rules : AreCheckRules options files.rules.now
   pub folders : List MappedFolder
   pub are_mapped : AreMapped maps folders
   pub site : IsSiteCheck files IsAny (name_of options (string_bytes files.site.top)) (asks_of options (front_of options (string_bytes files.site.top)) entries folders) broken text

@@ -5,6 +5,7 @@ pub mod External
 pub mod Faults
 pub mod Inputs
 pub mod Maps
+pub mod Misses
 pub mod Own
 pub mod Rules
 pub mod Seeds

@@ -13,6 +13,7 @@ ghost use Rattle.saved_site.specs.Linked.{page_at};
 
 use crate::crawl::{SiteCrawls, crawl_site};
 use crate::external::external_links;
+use crate::false_miss::has_false_miss;
 use crate::fault::SiteFault;
 use crate::mapped::{names_of, unmapped};
 use crate::notes::push_page_notes;
@@ -126,7 +127,7 @@ fn report_of_pages<R: Threads + Wait + Sync, B: FileBytes + Sync>(
     bytes: &B,
     settings: CheckSettings<'_>,
 ) -> Result<CheckReport, SiteFault>
-    ensures checked { (web : List ℕ) → IsSourceOf (page_at site.now.pages) web → IfOk result (λ report. IsCheck files.now settings.entry.name.now files.now.site.top_url web site.now.aliases.items (asks_in settings.entry) report.is_broken report.text.items) }
+    ensures checked { (web : List ℕ) → IsSourceOf (page_at site.now.pages) web → IfOk result (λ report. IsCheck files.now (B.reads bytes.now) settings.entry.name.now files.now.site.top_url web site.now.aliases.items (asks_in settings.entry) report.is_broken report.text.items) }
     ensures incomplete { (web : List ℕ) → IsSourceOf (page_at site.now.pages) web → IfErr result (λ fault. is_unfinished fault ≡ true → IsTopIncomplete files.now.site.top_url web settings.entry.reachable (map string_bytes settings.entry.seeds.now) settings.entry.workers) }
 {
     let top = files.top_url();
@@ -167,9 +168,13 @@ fn report_of_crawled<R: Threads + Sync, B: FileBytes + Sync>(
     bytes: &B,
     settings: CheckSettings<'_>,
 ) -> Result<CheckReport, SiteFault>
-    ensures findings { IfOk result (λ report. IsFindings settings.entry.name.now files.now crawled.entry.own.now crawled.entry.pages.now (reached_in crawled.entry.crawls.now settings.entry.report.lists.unreached) crawled.entry.site.now.aliases.items (asks_in settings.entry) report.is_broken report.text.items) }
+    ensures findings { IfOk result (λ report. IsFindings settings.entry.name.now files.now (B.reads bytes.now) crawled.entry.own.now crawled.entry.pages.now (reached_in crawled.entry.crawls.now settings.entry.report.lists.unreached) crawled.entry.site.now.aliases.items (asks_in settings.entry) report.is_broken report.text.items) }
     ensures plain { IfErr result (λ fault. is_unfinished fault ≡ false) }
 {
+    let is_wrong = has_false_miss(alloc, files, crawled.own)?;
+    if is_wrong {
+        return Err(SiteFault::PagesLost);
+    }
     let checked = checked_of(rt, alloc, crawled, files, bytes, settings)?;
     let others = others_listed(alloc, settings.report.external, files, crawled.own)?;
     let lacks_sitemap = lacks_sitemap(crawled.site, settings.report.lists.unlisted);
@@ -187,7 +192,7 @@ pub(crate) fn checked_of<R: Threads + Sync, B: FileBytes + Sync>(
     bytes: &B,
     settings: CheckSettings<'_>,
 ) -> Result<Checked, AllocError>
-    ensures { IfOk result (AreResults files.now crawled.entry.own.now crawled.entry.pages.now (reached_in crawled.entry.crawls.now settings.entry.report.lists.unreached) crawled.entry.site.now.aliases.items (asks_in settings.entry)) }
+    ensures { IfOk result (AreResults files.now (B.reads bytes.now) crawled.entry.own.now crawled.entry.pages.now (reached_in crawled.entry.crawls.now settings.entry.report.lists.unreached) crawled.entry.site.now.aliases.items (asks_in settings.entry)) }
 {
     let left = unmapped(alloc, settings.maps, crawled.pages)?;
     let names = names_of(alloc, settings.maps)?;

@@ -213,11 +213,26 @@ fn namesake_of(
     let Some(name) = &row.same_name else {
         return Ok(None);
     };
-    if name.contains('?') || !may_move(files, row) {
+    let target = row.target.as_str();
+    if name.contains('?') || !is_certain(target, name.as_str()) || !may_move(files, row) {
         return Ok(None);
     }
     let url = format!(in alloc; "{front}{name}")?;
     Ok(files.find(url.as_str()))
+}
+
+/// Whether a page is surely meant by the target of a row: it has the same file name, or the same path in another case.
+fn is_certain(target: &str, name: &str) -> bool {
+    let path = before_query(target);
+    file_name(path) == file_name(name) || path.eq_ignore_ascii_case(name)
+}
+
+/// What follows the last slash of a URL without a query.
+fn file_name(url: &str) -> &str {
+    match url.rsplit_once('/') {
+        Some((_, name)) => name,
+        None => url,
+    }
 }
 
 /// Whether a row is that of a missing page, and links to it may be moved to a page with the same name. A name of index files says nothing
@@ -242,10 +257,7 @@ fn has_root_path(places: &[Place]) -> bool {
 
 /// Whether a URL without a query ends with the name of an index file.
 fn is_index(files: &SiteFiles<'_>, url: &str) -> bool {
-    let name = match url.rsplit_once('/') {
-        Some((_, name)) => name,
-        None => url,
-    };
+    let name = file_name(url);
     for one in files.rules().index_files.as_slice() {
         if one.as_str() == name {
             return true;

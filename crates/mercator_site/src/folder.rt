@@ -4,7 +4,7 @@ ghost use Rattle.mercator_site.specs.Asks.{asks_in, asks_with, seeds_of};
 ghost use Rattle.mercator_site.specs.Ends.{IsCheckOf, IsFolderCheck, front_of, name_of};
 ghost use Rattle.mercator_site.specs.Faults.{IsSiteIncomplete, is_unfinished};
 ghost use Rattle.mercator_site.specs.Rules.{AreCheckRules, AreRules};
-ghost use Rattle.saved_site.specs.Below.{IsWebAt};
+ghost use Rattle.saved_site.specs.Below.{IsWebAt, IsWebBelow};
 ghost use Rattle.saved_site.specs.Meaning.{IsSiteWeb};
 ghost use Rattle.site_check.specs.Ignored.{entries_in};
 ghost use Rattle.site_files.specs.Below.{IsTop};
@@ -156,6 +156,7 @@ pub(crate) fn files_of<'a>(
 ) -> Result<SiteFiles<'a>, SiteFault>
     ensures top { IfOk result (λ files. IsTop base.now (string_bytes files.site.top)) }
     ensures url { IfOk result (λ files. files.site.top_url ≡ string_bytes files.site.top) }
+    ensures by_rules { IfOk result (λ files. files.rules.now ≡ rules.now) }
     ensures plain { IfErr result (λ fault. is_unfinished fault ≡ false) }
 {
     match names {
@@ -209,12 +210,26 @@ fn web_of_names<R: Files<File: Send, Dir: Send> + Threads + Sync>(
     ensures plain { IfErr result (λ fault. is_unfinished fault ≡ false) }
 {
     let files = files_of(alloc, names, options.base.as_str(), rules)?;
-    let folder = options.folder.as_str();
+    web_of_files(rt, alloc, options.folder.as_str(), &files, notes)
+}
+
+/// Makes the saved web of a folder with these files.
+fn web_of_files<R: Files<File: Send, Dir: Send> + Threads + Sync>(
+    rt: &R,
+    alloc: Global,
+    folder: &str,
+    files: &SiteFiles<'_>,
+    notes: &mut Vec<Note>,
+) -> Result<WebText, SiteFault>
+    ensures web { IfOk result IsSiteWeb }
+    ensures below { IfOk result (IsWebBelow (string_bytes files.now.site.top)) }
+    ensures plain { IfErr result (λ fault. is_unfinished fault ≡ false) }
+{
     let bytes = OnDisk { rt, alloc, folder };
     let Web {
         text,
         notes: mut found,
-    } = site_web(rt, alloc, &files, &[], &bytes)?;
+    } = site_web(rt, alloc, files, &[], &bytes)?;
     notes.append(&mut found)?;
     Ok(text)
 }
@@ -265,12 +280,33 @@ fn report_of_names<R: Files<File: Send, Dir: Send> + Threads + Wait + Sync>(
     read: ReadFolder<'_>,
     notes: &mut Vec<Note>,
 ) -> Result<CheckReport, SiteFault>
-    requires { map string_bytes read.made.now.seeds.items ≡ seeds_of options.now }
+    requires rules { AreCheckRules options.now read.made.now.rules }
+    requires seeds { map string_bytes read.made.now.seeds.items ≡ seeds_of options.now }
+    ensures checked { IfOk result (λ report. IsCheckOf options.now (map (λ one. one.map.now) read.entry.maps.now) (map string_bytes read.entry.made.now.ignores.items) report.is_broken report.text.items) }
+    ensures incomplete { IfErr result (λ fault. is_unfinished fault ≡ true → IsSiteIncomplete options.now) }
+{
+    let base = options.site.base.as_str();
+    let files = files_of(alloc, read.names, base, &read.made.rules)?;
+    report_with_files(rt, alloc, options, read, &files, notes)
+}
+
+/// Checks a folder whose names were read, and which has these files.
+fn report_with_files<'a, R: Files<File: Send, Dir: Send> + Threads + Wait + Sync>(
+    rt: &R,
+    alloc: Global,
+    options: &'a CheckOptions,
+    read: ReadFolder<'a>,
+    files: &'a SiteFiles<'_>,
+    notes: &mut Vec<Note>,
+) -> Result<CheckReport, SiteFault>
+    requires rules { AreCheckRules options.now files.now.rules.now }
+    requires seeds { map string_bytes read.made.now.seeds.items ≡ seeds_of options.now }
+    requires top { IsTop (string_bytes options.now.site.base) (string_bytes files.now.site.top) }
+    requires url { files.now.site.top_url ≡ string_bytes files.now.site.top }
     ensures checked { IfOk result (λ report. IsCheckOf options.now (map (λ one. one.map.now) read.entry.maps.now) (map string_bytes read.entry.made.now.ignores.items) report.is_broken report.text.items) }
     ensures incomplete { IfErr result (λ fault. is_unfinished fault ≡ true → IsSiteIncomplete options.now) }
 {
     let made = read.made;
-    let files = files_of(alloc, read.names, options.site.base.as_str(), &made.rules)?;
     let folders = mapped_folders(alloc, read.maps, &made.map_rules)?;
     let found = FolderInput {
         top: files.top(),
@@ -281,7 +317,7 @@ fn report_of_names<R: Files<File: Send, Dir: Send> + Threads + Wait + Sync>(
     let settings = settings_of(options, found);
     let folder = options.site.folder.as_str();
     let bytes = OnDisk { rt, alloc, folder };
-    report_of_site(rt, alloc, &files, &bytes, settings, notes)
+    report_of_site(rt, alloc, files, &bytes, settings, notes)
 }
 
 /// What the settings of a check of a folder have that is not in its options.

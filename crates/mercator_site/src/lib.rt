@@ -4,6 +4,7 @@
 mod check;
 mod crawl;
 mod external;
+mod false_miss;
 mod fault;
 mod fixes;
 mod folder;

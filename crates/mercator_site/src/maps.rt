@@ -12,7 +12,7 @@ use site_files::is_below;
 use std::alloc::{AllocError, AllocFailed, Global};
 
 /// A folder in which links are looked up that lead out of the site.
-#[derive(Debug, Drop)]
+#[derive(Drop)]
 pub struct FolderMap {
     /// The URL of the folder. It ends with a slash, is on the site's host, and is not below the site's top.
     pub prefix: CanonUrl,
@@ -140,7 +140,12 @@ fn push_map(
 
 /// Whether one of the maps has this prefix.
 fn has_prefix(maps: &[FolderMap], prefix: &CanonUrl) -> bool {
-    maps.iter().any(|map| map.prefix == *prefix)
+    for map in maps {
+        if map.prefix == *prefix {
+            return true;
+        }
+    }
+    false
 }
 
 /// The map of a text.
@@ -186,7 +191,7 @@ fn prefix_of(alloc: Global, top: &CanonUrl, rooted: bool, link: &str) -> Result<
 
 /// Whether a link has a query or a fragment.
 fn has_query(link: &[u8]) -> bool {
-    link.iter().any(|byte| *byte == b'?' || *byte == b'#')
+    link.contains(&b'?') || link.contains(&b'#')
 }
 
 /// The URL of a link on the top, which must be on the top's host.

@@ -40,7 +40,7 @@ impl Default for CheckForm {
 }
 
 /// The form of a report, and what it lists.
-#[derive(Clone, Copy, Debug, Default)]
+#[derive(Clone, Copy, Default)]
 pub struct ReportOptions {
     pub form: CheckForm,
     pub lists: Lists,
@@ -49,7 +49,7 @@ pub struct ReportOptions {
 }
 
 /// The settings of `site`, which prints a folder as a saved web.
-#[derive(Debug, Drop)]
+#[derive(Drop)]
 pub struct SiteOptions {
     pub folder: String,
     /// The URL of the top of the folder.
@@ -73,7 +73,7 @@ pub struct SiteOptions {
 }
 
 /// The settings of `check`, which reports the broken links of a folder.
-#[derive(Debug, Drop)]
+#[derive(Drop)]
 pub struct CheckOptions {
     pub site: SiteOptions,
     /// Whether the report has paths instead of URLs.

@@ -1,5 +1,5 @@
 //! The URLs at which the crawl of a check starts.
-ghost use Rattle.std.specs.Prelude.{◌≡◌, ◌++◌, [], true, IfErr, IfOk, OnOk, map, string_bytes, Ok, false};
+ghost use Rattle.std.specs.Prelude.{◌≡◌, ◌++◌, ◌∷◌, [], true, IfErr, IfOk, OnOk, map, string_bytes, Ok, false};
 ghost use Rattle.crawl_keys.specs.CanonicalText.{resolve};
 ghost use Rattle.mercator_site.specs.Faults.{is_unfinished};
 ghost use Rattle.mercator_site.specs.Maps.{has_page};
@@ -107,12 +107,20 @@ fn top_alone(
     ensures own { IfOk result (λ seeds. AreOwn top.now seeds.items) }
     ensures plain { IfErr result (λ fault. is_unfinished fault ≡ false) }
 {
-    let mut seeds = Vec::new(alloc);
     if is_left_out(alloc, pages, top, reachable)? {
-        return Ok(seeds);
+        return Ok(Vec::new(alloc));
     }
-    seeds.push(seed_of(alloc, top, "")?)?;
-    Ok(seeds)
+    let seed = seed_of(alloc, top, "")?;
+    Ok(list_of(alloc, seed)?)
+}
+
+/// The list of one URL.
+fn list_of(alloc: Global, url: CanonUrl) -> Result<Vec<CanonUrl>, AllocError>
+    ensures { IfOk result (λ urls. urls.items ≡ url ∷ []) }
+{
+    let mut urls = Vec::new(alloc);
+    urls.push(url)?;
+    Ok(urls)
 }
 
 /// Whether the top is left out.
@@ -196,5 +204,10 @@ fn push_document(
 
 /// Whether the check starts at a document.
 fn has_document(files: &SiteFiles<'_>) -> bool {
-    (0..files.page_count()).any(|number| files.start(number).is_some())
+    for number in 0..files.page_count() {
+        if files.start(number).is_some() {
+            return true;
+        }
+    }
+    false
 }

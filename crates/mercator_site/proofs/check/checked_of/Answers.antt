@@ -1,12 +1,15 @@
 use Rattle.mercator_site.proofs.Prelude.{ℕ, List, Result, Ok, Err, IfOk, ap, refl, map, not, length, string_bytes, subst, ◌≡◌, ◌==◌, ◌∙◌, AreResults, Asks, asks_in, Alias, PageResult}
 use Rattle.std.specs.Borrow.{Bor}
-use Rattle.std.specs.Prelude.{Option, Some, None, option_map}
+use Rattle.std.specs.Prelude.{All, Option, Some, None, option_map}
 use Rattle.check_report.specs.Text.{is_broken}
 use Rattle.mercator_site.specs.Checks.{reached_in, unreached_by}
 use Rattle.mercator_site.specs.Inputs.{Input, input_in, input_with}
 use Rattle.mercator_site.specs.Maps.{names_of, unmapped}
+use Rattle.site_check.specs.Base.{hint_at}
 use Rattle.site_check.specs.Broken.{redirects_of}
 use Rattle.site_check.specs.Invalid.{texts_if}
+use Rattle.site_check.specs.LinkBase.{base_hint_of}
+use Rattle.site_check.specs.Locations.{IsLocated}
 use Rattle.site_check.specs.Reported.{AreReported}
 use Rattle.site_check.specs.Told.{way_of}
 use Rattle.site_check.specs.Totals.{totals_of}
@@ -23,14 +26,15 @@ by_reached front site None = refl
 by_reached front site (Some results) = refl
 
 -- what is found with an input is found with the settings that the input has
-results_of : (answer : Result Checked AllocError) (site : SiteFiles) (own pages : List PageResult) (reached : Option (List PageResult)) (aliases : List Alias) (documents : List (List ℕ)) (asks : Asks) (input : CheckInput)
+results_of : (answer : Result Checked AllocError) (site : SiteFiles) (reads : ℕ → Option (List ℕ) → Type 0) (own pages : List PageResult) (reached : Option (List PageResult)) (aliases : List Alias) (documents : List (List ℕ)) (asks : Asks) (input : CheckInput)
     → input_in input ≡ input_with asks (names_of asks.folders) (unmapped asks.folders pages) aliases documents reached
     → IfOk answer (λ checked. AreReported input.front.now (map string_bytes input.ignores.now) (texts_if input.invalid input.places.now own) input.rooted input.maps.now site own input.found.now checked.broken.items (map string_bytes checked.unused_ignores.items))
     → IfOk answer (λ checked. map way_of checked.redirects.items ≡ redirects_of input.front.now own)
     → IfOk answer (λ checked. checked.totals ≡ totals_of input.aliases.now input.documents.now own checked.broken.items checked.redirects.items)
     → IfOk answer (λ checked. is_broken checked.totals ≡ not (length checked.broken.items == 0)) → IfOk answer (λ checked. map file_links checked.worst.items ≡ worst_of checked.broken.items)
-    → IfOk answer (λ checked. map string_bytes checked.unreached.items ≡ unreached_in input.front.now site input.reached) → IfOk answer (AreResults site own pages reached aliases asks)
-results_of (Ok checked) site own pages reached aliases documents asks input same rows ways totals verdict worst unreached = record {
+    → IfOk answer (λ checked. map string_bytes checked.unreached.items ≡ unreached_in input.front.now site input.reached) → IfOk answer (λ checked. All (IsLocated input.front.now input.places.now site own reads) checked.broken.items)
+    → IfOk answer (λ checked. option_map hint_at checked.base_hint ≡ base_hint_of input.rooted site own checked.broken.items) → IfOk answer (AreResults site reads own pages reached aliases asks)
+results_of (Ok checked) site reads own pages reached aliases documents asks input same rows ways totals verdict worst unreached located hint = record {
   ways = ways ∙ ap (λ (i : Input). redirects_of i.front own) same;
   documents = documents;
   totals = totals ∙ ap (λ (i : Input). totals_of i.aliases i.documents own checked.broken.items checked.redirects.items) same;
@@ -38,11 +42,13 @@ results_of (Ok checked) site own pages reached aliases documents asks input same
   rows =
       subst (λ (i : Input). AreReported i.front i.entries (texts_if i.invalid input.places.now own) i.rooted i.maps site own i.found checked.broken.items (map string_bytes checked.unused_ignores.items))
       same rows;
+  located = subst (λ (i : Input). All (IsLocated i.front input.places.now site own reads) checked.broken.items) same located;
   verdict = verdict;
   worst = worst;
   unreached = unreached ∙ by_reached input.front.now site input.reached ∙ ap (λ (i : Input). unreached_by i.front site i.reached) same;
+  base_hint = hint ∙ ap (λ (i : Input). base_hint_of i.rooted site own checked.broken.items) same;
 }
-results_of (Err refused) site own pages reached aliases documents asks input same rows ways totals verdict worst unreached = tt
+results_of (Err refused) site reads own pages reached aliases documents asks input same rows ways totals verdict worst unreached located hint = tt
 
 pub returns : goal.returns
 returns g c =
@@ -53,7 +59,7 @@ returns g c =
     let names = c.as_slice-2.ensures.value ∙ c.in_ok-names.ensures in
     let left = c.as_slice.ensures.value ∙ c.in_ok-left.ensures in
     let reached = reached_in c.args.crawled.crawls.now c.args.settings.report.lists.unreached in
-    results_of c.check_site.result c.args.files.now c.args.crawled.own.now pages reached site.aliases.items site.documents.items asks c.input_of-input.result
+    results_of c.check_site.result c.args.files.now (g.B.FileBytes.reads c.args.bytes.now) c.args.crawled.own.now pages reached site.aliases.items site.documents.items asks c.input_of-input.result
     (c.input_of-input.ensures ∙ ap (λ ns. input_with asks ns c.as_slice.result.now site.aliases.items site.documents.items reached) names
     ∙ ap (λ rs. input_with asks (names_of asks.folders) rs site.aliases.items site.documents.items reached) left)
-    checked.rows checked.redirects checked.totals checked.verdict checked.worst checked.unreached
+    checked.rows checked.redirects checked.totals checked.verdict checked.worst checked.unreached checked.places checked.base_hint

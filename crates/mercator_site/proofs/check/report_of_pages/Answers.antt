@@ -6,6 +6,7 @@ use Rattle.mercator_site.proofs.check.report_of_pages.Goals as goal
 pub returns-clause-checked : goal.returns-clause-checked
 returns-clause-checked g c = λ web source.
     let site = c.args.files.now in
+    let reads = g.B.FileBytes.reads c.args.bytes.now in
     let pages = c.in_ok-crawls.crawls.whole.result in
     let crawl = c.in_ok-crawls.ensures.found web source in
     let crawled = c.crawled_site-crawled.result in
@@ -15,7 +16,7 @@ returns-clause-checked g c = λ web source.
     let name = c.args.settings.name.now in
     let aliases = c.args.site.now.aliases.items in
     let listed = c.args.settings.report.lists.unreached in
-    subst (λ t. IsCheck site name t web aliases asks report.is_broken report.text.items) c.top_url-top.ensures (record {
+    subst (λ t. IsCheck site reads name t web aliases asks report.is_broken report.text.items) c.top_url-top.ensures (record {
       pages = pages;
       crawled = crawl;
       own = crawled.own.now;
@@ -23,9 +24,9 @@ returns-clause-checked g c = λ web source.
       reached = reached_in c.in_ok-crawls.crawls listed;
       are_reached = c.in_ok-crawls.ensures.reached web source;
       findings =
-          subst (λ cs. IsFindings name site crawled.own.now pages (reached_in cs listed) aliases asks report.is_broken report.text.items) known.crawls
-          (subst (λ ps. IsFindings name site crawled.own.now ps (reached_in crawled.crawls.now listed) aliases asks report.is_broken report.text.items) known.pages
-          (subst (λ s. IsFindings name site crawled.own.now crawled.pages.now (reached_in crawled.crawls.now listed) s.aliases.items asks report.is_broken report.text.items) known.site c.in_ok-report.ensures.findings));
+          subst (λ cs. IsFindings name site reads crawled.own.now pages (reached_in cs listed) aliases asks report.is_broken report.text.items) known.crawls
+          (subst (λ ps. IsFindings name site reads crawled.own.now ps (reached_in crawled.crawls.now listed) aliases asks report.is_broken report.text.items) known.pages
+          (subst (λ s. IsFindings name site reads crawled.own.now crawled.pages.now (reached_in crawled.crawls.now listed) s.aliases.items asks report.is_broken report.text.items) known.site c.in_ok-report.ensures.findings));
     })
 
 pub returns-in_err-crawls-clause-incomplete : goal.returns-in_err-crawls-clause-incomplete

@@ -20,7 +20,7 @@ returns-clause-checked g c =
       aliases = site.aliases.items;
       are_aliases = aliases_in site.pages source.bytes site.aliases.items (source_of _ _ source) c.in_ok-site.ensures.aliases;
       checked =
-          subst (λ t. IsCheck files name t source.bytes site.aliases.items asks report.is_broken report.text.items) c.requires
+          subst (λ t. IsCheck files reads name t source.bytes site.aliases.items asks report.is_broken report.text.items) c.requires
           (c.in_ok-report.ensures.checked source.bytes (source_of _ _ source));
     }
 

@@ -1,62 +1,9 @@
-use Rattle.mercator_site.proofs.Prelude.{ℕ, List, Result, Ok, Err, IfOk, map, string_bytes, ap, subst, true, ◌≡◌, ◌∙◌, rules, Asks, asks_of, asks_with, seeds_of, IsIncompleteAt, IsSiteCheck, IsTop, is_unfinished}
-use Rattle.std.specs.Prelude.{Bool, IfErr}
-use Rattle.mercator_site.specs.Checks.{IsAny}
-use Rattle.mercator_site.specs.Ends.{IsCheckOf, front_of, name_of}
-use Rattle.mercator_site.specs.Faults.{IsSiteIncomplete}
-use Rattle.mercator_site.specs.Maps.{AreMapped}
-use Rattle.mercator_site.specs.declared.check.CheckReport.{CheckReport}
-use Rattle.mercator_site.specs.declared.fault.SiteFault.{SiteFault}
-use Rattle.mercator_site.specs.declared.mapped.MappedFolder.{MappedFolder}
-use Rattle.mercator_site.specs.declared.maps.FolderMap.{FolderMap}
-use Rattle.mercator_site.specs.declared.options.CheckOptions.{CheckOptions}
-use Rattle.site_files.specs.declared.files.SiteFiles.{SiteFiles}
+use Rattle.mercator_site.proofs.Prelude.{string_bytes, subst, sym, rules, IsTop}
+use Rattle.mercator_site.specs.Rules.{AreCheckRules}
 use Rattle.mercator_site.proofs.folder.report_of_names.Goals as goal
 
-check_of : (answer : Result CheckReport SiteFault) (options : CheckOptions) (maps : List FolderMap) (entries : List (List ℕ)) (files : SiteFiles) (name : List ℕ) (asks : Asks) (folders : List MappedFolder)
-    → IsTop (string_bytes options.site.base) (string_bytes files.site.top) → AreMapped maps folders → name ≡ name_of options (string_bytes files.site.top) → asks ≡ asks_of options (front_of options (string_bytes files.site.top)) entries folders
-    → IfOk answer (λ report. IsSiteCheck files IsAny name asks report.is_broken report.text.items) → IfOk answer (λ report. IsCheckOf options maps entries report.is_broken report.text.items)
-check_of (Ok report) options maps entries files name asks folders is_top mapped named settled is = record {
-  files = files;
-  is_top = is_top;
-  folders = folders;
-  are_mapped = mapped;
-  site =
-      subst (λ (a : Asks). IsSiteCheck files IsAny (name_of options (string_bytes files.site.top)) a report.is_broken report.text.items) settled (subst (λ n. IsSiteCheck files IsAny n asks report.is_broken report.text.items) named is);
-}
-check_of (Err fault) options maps entries files name asks folders is_top mapped named settled is = tt
+pub report_with_files-requires-clause-rules : goal.report_with_files-requires-clause-rules
+report_with_files-requires-clause-rules g c = λ κs lives. subst (AreCheckRules c.args.options.now) (sym c.in_ok-files.ensures.by_rules) c.requires.rules
 
-incomplete_of : (answer : Result CheckReport SiteFault) (options : CheckOptions) (top : List ℕ) (reachable : Bool) (links : List (List ℕ)) (workers : ℕ) → IsTop (string_bytes options.site.base) top → reachable ≡ options.reachable
-    → links ≡ seeds_of options → workers ≡ options.workers → IfErr answer (λ fault. is_unfinished fault ≡ true → IsIncompleteAt top reachable links workers) → IfErr answer (λ fault. is_unfinished fault ≡ true → IsSiteIncomplete options)
-incomplete_of (Ok report) options top reachable links workers is_top same_reach same_links same_workers is = tt
-incomplete_of (Err fault) options top reachable links workers is_top same_reach same_links same_workers is = λ two. record {
-  top = top;
-  is_top = is_top;
-  incomplete =
-      subst (λ r. IsIncompleteAt top r (seeds_of options) options.workers) same_reach
-      (subst (λ ls. IsIncompleteAt top reachable ls options.workers) same_links (subst (λ n. IsIncompleteAt top reachable links n) same_workers (is two)));
-}
-
-pub returns-clause-checked : goal.returns-clause-checked
-returns-clause-checked g c =
-    let top = string_bytes c.in_ok-files.files.site.top in
-    let options = c.args.options.now in
-    let settings = c.settings_of-settings in
-    let entries = map string_bytes c.args.read.made.now.ignores.items in
-    let begun = ap (map string_bytes) c.as_slice.ensures.value ∙ c.requires in
-    let asks =
-    settings.ensures.asks ∙ ap (λ ss. asks_with options ss (front_of options c.top.result.now) (map string_bytes c.as_slice-2.result.now) c.as_slice-3.result.now) begun
-    ∙ ap (λ t. asks_of options (front_of options t) (map string_bytes c.as_slice-2.result.now) c.as_slice-3.result.now) c.top.ensures
-    ∙ ap (λ es. asks_of options (front_of options top) (map string_bytes es) c.as_slice-3.result.now) c.as_slice-2.ensures.value
-    ∙ ap (λ fs. asks_of options (front_of options top) entries fs) c.as_slice-3.ensures.value in
-    check_of c.report_of_site.result options _ entries c.in_ok-files.files _ _ c.in_ok-folders.folders.items (subst (λ b. IsTop b top) (search rules) c.in_ok-files.ensures.top) c.in_ok-folders.ensures.mapped
-    (settings.ensures.name ∙ ap (name_of options) c.top.ensures) asks c.report_of_site.ensures.checked
-
-pub returns-clause-incomplete : goal.returns-clause-incomplete
-returns-clause-incomplete g c =
-    let top = string_bytes c.in_ok-files.files.site.top in
-    let options = c.args.options.now in
-    let settings = c.settings_of-settings in
-    let begun = ap (map string_bytes) c.as_slice.ensures.value ∙ c.requires in
-    let asks = settings.ensures.asks ∙ ap (λ ss. asks_with options ss (front_of options c.top.result.now) (map string_bytes c.as_slice-2.result.now) c.as_slice-3.result.now) begun in
-    incomplete_of c.report_of_site.result options _ _ _ _ (subst (λ b. IsTop b top) (search rules) c.in_ok-files.ensures.top) (ap (λ (a : Asks). a.reachable) asks) (ap (λ (a : Asks). a.seeds) asks) settings.ensures.workers
-    c.report_of_site.ensures.incomplete
+pub report_with_files-requires-clause-top : goal.report_with_files-requires-clause-top
+report_with_files-requires-clause-top g c = λ κs lives. subst (λ base. IsTop base (string_bytes c.in_ok-files.files.site.top)) (search rules) c.in_ok-files.ensures.top
