@@ -20,16 +20,16 @@ incomplete_by error failure two = grind (arith, is_two)
 unfinished : (fault : SiteFault) → status_of_fault (of_site fault) ≡ 2 → is_unfinished fault ≡ true
 unfinished fault two = grind (arith, incomplete_by)
 
--- a check ends with this status only if its crawl is incomplete
-pub incomplete_check : (options : CheckOptions) (fault : SiteFault) → (is_unfinished fault ≡ true → IsSiteIncomplete options) → status_of_fault (of_site fault) ≡ 2 → IsSiteIncomplete options
-incomplete_check options fault incomplete two = incomplete (unfinished fault two)
-
 -- no folder has the status of a log in use
 not_in_use_by : (error : CrawlError) (failure : CrawlFailure) → status_of_fault (of_crawl_by error failure) ≡ 5 → ⊥
 not_in_use_by error failure five = grind arith
 
-pub not_in_use : (fault : SiteFault) → status_of_fault (of_site fault) ≡ 5 → ⊥
+not_in_use : (fault : SiteFault) → status_of_fault (of_site fault) ≡ 5 → ⊥
 not_in_use fault five = grind (arith, not_in_use_by)
+
+-- so a check fails for the error of its folder. Its status is 2 only if its crawl is incomplete
+pub site_fails : (options : CheckOptions) (fault : SiteFault) → (is_unfinished fault ≡ true → IsSiteIncomplete options) → (status_of_fault (of_site fault) ≡ 5 → ⊥) × (status_of_fault (of_site fault) ≡ 2 → IsSiteIncomplete options)
+site_fails options fault incomplete = (not_in_use fault, λ two. incomplete (unfinished fault two))
 
 -- a report is what such a check prints
 told_report : (how : Fix) (options : CheckOptions) (ignores : Option (String Global)) (broken : Bool) (text : List ℕ) → reports how ≡ true → IsChecked options ignores broken text → IsCheckText how options ignores broken text
@@ -71,9 +71,9 @@ pub gains_diff : (options : CheckOptions) (ignores : Option (String Global)) (in
     → Appends old new text → GainsAs broken (asks.Check options ignores) input old new
 gains_diff options ignores input broken text old new is diff gained = gains_text options ignores input broken text old new (told_diff options ignores broken text is diff) gained
 
--- an error of status 1 is not that of an incomplete crawl
-pub plain_check : (options : CheckOptions) (status : ℕ) → status ≡ 1 → status ≡ 2 → IsSiteIncomplete options
-plain_check options status one two = absurd (omega arith)
+-- an error of status 1 is neither that of an incomplete crawl nor that of a log in use
+pub plain_check : (options : CheckOptions) (status : ℕ) → status ≡ 1 → (status ≡ 5 → ⊥) × (status ≡ 2 → IsSiteIncomplete options)
+plain_check options status one = (λ five. omega (arith, one, five), λ two. absurd (omega (arith, one, two)))
 
 -- how a check with `--dry-run` ends without one
 pub ends_diff : (options : CheckOptions) (ignores : Option (String Global)) (input : Option (List ℕ)) (fault : Fault) (Unwritten : Type 0) → options.fix ≡ fix.Diff

@@ -1,5 +1,7 @@
 pub mod Prelude
+pub mod Checks
 pub mod CrawlTexts
+pub mod Endings
 pub mod Folders
 pub mod PlanTexts
 pub mod PlainTexts

@@ -1,5 +1,5 @@
 -- What a session prints, by its plan.
-use Rattle.mercator.proofs.Prelude.{◌≡◌, ◌⊎◌, inl, inr, ℕ, List, Bool, true, false, if◌then◌else◌, Option, String, Global, refl, subst, ◌∙◌, arith, Result, Ok, Err, IfOk, IfErr, lines, Begins, EndsByText, of_log, of_logged, of_session, status_of_fault, IsWithinLimits, has_notices, is_bad_suffix, suffixes_of, EndsBy, FailsList, FailsLog, Gains, HasLog, IsDoneWithNote, MayNote, TellsFault, TellsInUse, no_identity, settings_of, told_lines, Fault, Plan}
+use Rattle.mercator.proofs.Prelude.{◌≡◌, ◌⊎◌, ℕ, List, Bool, true, false, if◌then◌else◌, Option, String, Global, refl, subst, ◌∙◌, arith, lines, Begins, of_log, of_logged, of_session, status_of_fault, IsWithinLimits, has_notices, is_bad_suffix, suffixes_of, EndsBy, FailsList, FailsLog, Gains, HasLog, IsDoneWithNote, MayNote, Resumes, TellsFault, TellsInUse, no_identity, settings_of, told_lines, Fault, Plan}
 use Rattle.std.proofs.lemmas.List.{append-nil}
 use Rattle.crawl_session.specs.Frontiers.{Shows, start}
 use Rattle.crawl_session.specs.Answers.{answer_lines}
@@ -10,14 +10,12 @@ use Rattle.crawl_session.specs.Settings.{SessionView}
 use Rattle.crawl_session.specs.declared.serving.ServeError.{ServeError}
 use Rattle.crawl_session.specs.declared.serving.ServeError.TheVariants as serving
 use Rattle.session_log.specs.Faults.{status_of_log}
-use Rattle.session_log.specs.Lists.{IsListed}
 use Rattle.session_log.specs.LogFile.{IsBreak, IsReadFault, IsUseFault}
 use Rattle.session_log.specs.Plans.{part_of, queues_of}
 use Rattle.session_log.specs.declared.fault.LogFault.{LogFault}
 use Rattle.session_log.specs.declared.fault.LogFault.TheVariants as unlogged
 use Rattle.session_log.specs.declared.fault.LoggedFault.{LoggedFault}
 use Rattle.session_log.specs.declared.fault.LoggedFault.TheVariants as ends
-use Rattle.session_log.specs.declared.listing.ListPlan.{ListPlan}
 use Rattle.session_log.specs.declared.plan.LogPlan.{LogPlan}
 use Rattle.session_log.specs.declared.plan.SessionPlan.{SessionPlan}
 use Rattle.mercator.specs.declared.commands.fault.Fault.TheVariants as wrong
@@ -37,25 +35,33 @@ gains_answers session plan input out_old out_new new shown is good served = grin
 pub breaks_off : (plan : SessionPlan) (input : Option (List ℕ)) (why : ServeError) (Unwritten : Type 0) → is_bad_suffix plan.within ≡ false → EndsBy (asks.Serve plan) input (of_session why) Unwritten
 breaks_off plan input why Unwritten good = grind arith
 
--- a session that resumed from a log, and was served to the end of its input
-pub gains_on : (session : SessionView) (plan : LogPlan) (identity : List ℕ) (resumed : SessionView) (input out_old out_new : Option (List ℕ)) (new : SessionView) → Shows session.core (start (queues_of plan.session) plan.session.max) → session.settings ≡ settings_of plan.session identity
-    → is_bad_suffix plan.session.within ≡ false → (bytes : List ℕ) × Reruns session (lines bytes) resumed → ServesInput resumed input out_old out_new new → Gains (asks.ServeLog plan) input out_old out_new
-gains_on session plan identity resumed input out_old out_new new shown is good log served =
+-- a session that ran the requests of a log
+pub resumes : (session : SessionView) (plan : LogPlan) (identity : List ℕ) (resumed : SessionView) → Shows session.core (start (queues_of plan.session) plan.session.max) → session.settings ≡ settings_of plan.session identity → (bytes : List ℕ) × Reruns session (lines bytes) resumed
+    → Resumes plan resumed
+resumes session plan identity resumed shown is log =
     let begun = start (queues_of plan.session) plan.session.max in
-    let behind : Shows resumed.core (state_after session.settings begun (lines log.0)) = log.1.comes begun shown in
-    let told : served.text ≡ answer_lines (answers resumed.settings (state_after session.settings begun (lines log.0)) (lines served.bytes)) =
-    (served.serves.comes (state_after session.settings begun (lines log.0)) behind).0 in
-    let own = subst (λ s. served.text ≡ answer_lines (answers s (state_after session.settings begun (lines log.0)) (lines served.bytes))) log.1.settings told in
+    record {
+      identity = identity;
+      log = log.0;
+      settings = log.1.settings ∙ is;
+      shown = subst (λ s. Shows resumed.core (state_after s begun (lines log.0))) is (log.1.comes begun shown);
+    }
+
+-- and was served to the end of its input
+pub gains_on : (plan : LogPlan) (resumed : SessionView) (input out_old out_new : Option (List ℕ)) (new : SessionView) → is_bad_suffix plan.session.within ≡ false → Resumes plan resumed → ServesInput resumed input out_old out_new new → Gains (asks.ServeLog plan) input out_old out_new
+gains_on plan resumed input out_old out_new new good log served =
+    let state = state_after (settings_of plan.session log.identity) (start (queues_of plan.session) plan.session.max) (lines log.log) in
+    let told : served.text ≡ answer_lines (answers resumed.settings state (lines served.bytes)) = (served.serves.comes state log.shown).0 in
     record {
       text = served.text;
       told = (
         good,
         record {
-          identity = identity;
-          log = log.0;
+          identity = log.identity;
+          log = log.log;
           bytes = served.bytes;
           read = served.read;
-          answered = subst (λ s. served.text ≡ answer_lines (answers s (state_after s begun (lines log.0)) (lines served.bytes))) is own;
+          answered = subst (λ s. served.text ≡ answer_lines (answers s state (lines served.bytes))) log.settings told;
         },
       );
       gained = served.written;
@@ -90,15 +96,6 @@ list_fails (unlogged.Damaged last first) is = tt
 list_fails unlogged.NoMemory is = tt
 list_fails why is = absurd is
 
--- one that is listed
-pub list_done : (plan : ListPlan) (text : List ℕ) (input old new : Option (List ℕ)) (how : Result (Unit {0}) Fault) → IsListed plan text → EndsByText text old new how → IfOk how (λ _. Gains (asks.List plan) input old new)
-list_done plan text input old new (Ok done) is ends = record { text = text; told = is; gained = ends }
-list_done plan text input old new (Err fault) is ends = tt
-
-pub list_ends : (plan : ListPlan) (text : List ℕ) (input old new : Option (List ℕ)) (how : Result (Unit {0}) Fault) (Unwritten : Type 0) → IsListed plan text → EndsByText text old new how → IfErr how (λ fault. EndsBy (asks.List plan) input fault Unwritten)
-list_ends plan text input old new (Ok done) Unwritten is ends = tt
-list_ends plan text input old new (Err fault) Unwritten is ends = inr (inl (ends, (text, inl is)))
-
 -- one that did not begin
 pub log_fails : (within : Option (String Global)) (why : LogFault) → is_bad_suffix within ≡ false → FailsLog within (of_log why)
 log_fails within why good = grind arith
@@ -114,14 +111,11 @@ complete_why why two = grind arith
 pub complete_fails : (within : Option (String Global)) (fault : Fault) → FailsLog within fault → status_of_fault fault ≡ 2 → ⊥
 complete_fails within fault fails two = grind (arith, complete_why)
 
-pub complete_log : (why : LogFault) → status_of_fault (of_log why) ≡ 2 → ⊥
-complete_log why two = grind (arith, complete_why)
-
 -- status 5 is that of a log in use
 in_use_why : (why : LogFault) → status_of_log why ≡ 5 → why ≡ unlogged.InUse
 in_use_why why five = grind arith
 
-in_use_crawl : (b : Bool) → ◌≡◌ {A = ℕ} (if b then 2 else 1) 5 → ⊥
+pub in_use_crawl : (b : Bool) → ◌≡◌ {A = ℕ} (if b then 2 else 1) 5 → ⊥
 in_use_crawl b five = grind arith
 
 pub in_use : (fault : Fault) → status_of_fault fault ≡ 5 → fault ≡ wrong.Log unlogged.InUse

@@ -10,10 +10,10 @@ format_of (Some name) None = Some name
 format_of None (Some name) = Some name
 format_of (Some name) (Some other) = if bytes_eq name other then Some name else None
 
--- the form of a report with this format; as text it has no colour yet
-abbrev pub form_named : List ℕ → Option CheckForm
-form_named format =
-    if bytes_eq format (codes "text") then Some (form.Text false)
+-- the form of a report with this format, which has colour only as text
+abbrev pub form_named : List ℕ → Bool → Option CheckForm
+form_named format colour =
+    if bytes_eq format (codes "text") then Some (form.Text colour)
     else if bytes_eq format (codes "json") then Some form.Json
     else if bytes_eq format (codes "html") then Some form.Page
     else if bytes_eq format (codes "github") then Some form.Annotations

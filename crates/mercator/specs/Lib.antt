@@ -1,3 +1,4 @@
+pub mod Checks
 pub mod Ending
 pub mod FaultText
 pub mod Faults

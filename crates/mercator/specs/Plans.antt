@@ -33,6 +33,10 @@ crawl_of workers max queues file seeds options = record { workers = workers; max
 abbrev pub plan_of : Fields → CrawlPlan
 plan_of crawl = crawl_of crawl.workers crawl.max crawl.queues crawl.file.now crawl.seeds.now crawl.options.now
 
+-- the plan that these are the fields of
+abbrev pub crawl_plan : Fields → Plan
+crawl_plan crawl = asks.Crawl crawl.workers crawl.max crawl.queues crawl.file.now crawl.seeds.now crawl.options.now
+
 -- its numbers are within the limits of a frontier; a crawl has a seed or a file of seeds, and not both of its files are the
 -- standard input
 abbrev pub IsWithinLimits : Plan → Type 0

@@ -12,9 +12,9 @@ use Rattle.mercator.specs.Plans.{IsVisible, crawl_of, explains, has_notices, is_
 use Rattle.crawl_replay.specs.Replay.{IsReplay}
 use Rattle.crawl_replay.specs.Script.{script_of}
 use Rattle.crawl_session.specs.Answers.{answer_lines}
-use Rattle.crawl_session.specs.Frontiers.{start}
+use Rattle.crawl_session.specs.Frontiers.{Shows, start}
 use Rattle.crawl_session.specs.Sessions.{answers, session_text, state_after}
-use Rattle.crawl_session.specs.Settings.{Settings}
+use Rattle.crawl_session.specs.Settings.{SessionView, Settings}
 use Rattle.std.specs.Str.Lines.{lines}
 use Rattle.mercator_site.specs.Ends.{IsFolderCheck}
 use Rattle.mercator_site.specs.Faults.{IsSiteIncomplete}
@@ -28,6 +28,7 @@ use Rattle.session_log.specs.Plans as session
 use Rattle.session_log.specs.Lists.{IsListed}
 use Rattle.crawl_session.specs.declared.rebuild.LeftOut.{LeftOut}
 use Rattle.session_log.specs.declared.fault.LogFault.TheVariants as unlogged
+use Rattle.session_log.specs.declared.plan.LogPlan.{LogPlan}
 use Rattle.session_log.specs.declared.plan.SessionPlan.{SessionPlan}
 use Rattle.mercator.specs.WebCrawl.{CrawlPlan, IsBegun, IsCrawlText, IsUnbegun}
 use Rattle.mercator.specs.declared.commands.planned.Plan.{Plan}
@@ -77,6 +78,14 @@ pub record GoesOn (asked : SessionPlan) (input : Option (List ℕ)) (text : List
   pub bytes : List ℕ
   pub read : IfSome input (λ known. bytes ≡ known)
   pub answered : text ≡ answer_lines (answers (settings_of asked identity) (state_after (settings_of asked identity) (start (queues_of asked) asked.max) (lines log)) (lines bytes))
+
+-- a session resumed from a log: whatever requests the log had, after its first line, and whatever identity there, it has the settings
+-- of the plan, and the state after these requests
+pub record Resumes (plan : LogPlan) (resumed : SessionView) : Type 0 where
+  pub identity : List ℕ
+  pub log : List ℕ
+  pub settings : resumed.settings ≡ settings_of plan.session identity
+  pub shown : Shows resumed.core (state_after (settings_of plan.session identity) (start (queues_of plan.session) plan.session.max) (lines log))
 
 -- the text is the report of a check of a folder, with the ignore list in this file
 abbrev pub IsChecked : CheckOptions → Option (String Global) → Bool → List ℕ → Type 0
@@ -182,11 +191,11 @@ BreaksOff (asks.ServeLog asked) (wrong.Log unlogged.Changed) = is_bad_suffix ask
 BreaksOff (asks.Site options) wrong.NoMemory = (text : List ℕ) × IsSiteWeb text × IsWebAt (string_bytes options.base) text
 BreaksOff plan fault = ⊥
 
--- the plan's command fails with this error before it writes
+-- the plan's command fails with this error before it writes. A check has no log, which another program could be using
 abbrev pub Fails : Plan → Option (List ℕ) → Fault → Type 0
 Fails (asks.Crawl workers max queues file seeds options) input fault = FailsCrawl (crawl_of workers max queues file seeds options) input fault
 Fails (asks.Site options) input fault = status_of_fault fault ≡ 1
-Fails (asks.Check options ignores) input fault = status_of_fault fault ≡ 2 → IsSiteIncomplete options
+Fails (asks.Check options ignores) input fault = (status_of_fault fault ≡ 5 → ⊥) × (status_of_fault fault ≡ 2 → IsSiteIncomplete options)
 Fails (asks.Key url workers) input fault = FailsKey (string_bytes url) fault
 Fails (asks.Replay file) input fault = FailsReplay (string_bytes file) input fault
 Fails (asks.Serve asked) input fault = FailsSession asked.within fault

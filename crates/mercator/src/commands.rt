@@ -1,6 +1,8 @@
 //! The program, as a function of its arguments, an input and two writers.
-ghost use Rattle.std.specs.Prelude.{◌≡◌, ◌<◌, ◌≤◌, ◌⊎◌, List, ℕ, [], true, false, string_bytes, IfOk, IfErr, IsErr};
+ghost use Rattle.std.specs.Prelude.{◌≡◌, ◌<◌, ◌≤◌, ◌⊎◌, List, ℕ, [], Option, true, false, if◌then◌else◌, string_bytes, IfOk, IfErr};
+ghost use Rattle.crawl_limits.specs.Limits.{worker_limit};
 ghost use Rattle.std.specs.Io.KnownBytes.{Appends};
+ghost use Rattle.mercator.specs.Checks.{ChecksFolder, is_check, is_help_text};
 ghost use Rattle.mercator.specs.Ending.{Begins};
 ghost use Rattle.mercator.specs.FaultText.{fault_line};
 ghost use Rattle.mercator.specs.Faults.{status_of_fault};
@@ -8,9 +10,11 @@ ghost use Rattle.crawl_replay.specs.Replay.{IsReplay};
 ghost use Rattle.mercator.specs.Plans.{IsShown, IsWithinLimits, has_notices, is_input, known_bytes, reads_input};
 ghost use Rattle.mercator.specs.Told.{CannotTell, EndsBy, EndsByFault, FailsReplay, FailsWithoutPlan, Gains, GainsAs, GainsBroken, HasLog, IsDoneWithNote, MayLose, MayNote, OfFile, TellsInUse, TellsWords};
 ghost use Rattle.mercator.specs.declared.commands.planned.Plan.{Plan};
+ghost use Rattle.mercator.specs.declared.commands.planned.Plan.TheVariants as asks;
 ghost use Rattle.mercator.specs.declared.commands.plan_error.PlanError.{PlanError};
 ghost use Rattle.mercator.specs.declared.commands.fault.Fault.TheVariants as wrong;
 
+mod agreement;
 mod arguments;
 mod check_words;
 mod command_line;
@@ -52,12 +56,12 @@ use std::fs::Files;
 use std::io::{Read, Write};
 use std::sync::Wait;
 use std::thread::Threads;
-use web_crawl::report_of_plan;
+use web_crawl::print_crawl;
 pub use web_report::{Report, report_of_saved_web};
 pub use words::plan;
 use words::plan_with_config;
 pub use writing::fault_line;
-use writing::{begin, end, end_by_chunks, tell_ended, tell_fault};
+use writing::{begin, end, tell_ended, tell_fault};
 
 /// The exit status of a check that found something broken, or reports a document that no sitemap lists.
 const BROKEN: u8 = 4;
@@ -122,12 +126,12 @@ pub fn run_words<
     // A bad command line: the error is reported, and nothing else happens.
     ensures bad_command { result ≡ 3 → (input.new ≡ input.old) × (out.new ≡ out.old) }
     ensures bad_words { result ≡ 3 → (error : PlanError) × TellsWords error (E.contents err.old) (E.contents err.new) }
+
+    // A check: the status says what was written. With 0 and 4 it is the report, with any other its error.
+    ensures check { is_check words.now ≡ true → ChecksFolder words.now result (I.remaining input.old) (O.contents out.old) (O.contents out.new) (E.contents err.old) (E.contents err.new) (out.new ≡ out.old) }
 {
-    match plan_with_config(platform.rt, alloc, words) {
-        Ok(plan) => {
-            let plan = plan.with_colour(platform.has_colour);
-            run_plan(platform, alloc, &plan, input, out, err)
-        }
+    match plan_with_config(platform.rt, alloc, words, platform.has_colour) {
+        Ok(plan) => run_plan(platform, alloc, &plan, input, out, err),
         Err(error) => show(alloc, error, out, err),
     }
 }
@@ -183,12 +187,19 @@ pub fn run_plan<
     ensures unread { reads_input plan.now ≡ false → input.new ≡ input.old }
 {
     match run(platform, alloc, plan, input, out, err) {
-        Ok(is_broken) => if is_broken { BROKEN } else { 0 },
+        Ok(is_broken) => verdict(is_broken),
         Err(fault) => {
             tell_ended(alloc, err, plan, &fault);
             fault.status()
         }
     }
+}
+
+/// Returns the exit status of a command that ended without an error.
+fn verdict(is_broken: bool) -> u8
+    ensures { result ≡ (if is_broken then 4 else 0) }
+{
+    if is_broken { BROKEN } else { 0 }
 }
 
 /// Runs a plan, without reporting its error. Returns whether it is a check that found something broken.
@@ -210,9 +221,7 @@ fn run<
     requires { IsWithinLimits plan.now }
     ensures done { IfOk result (λ broken. GainsAs broken plan.now (I.remaining input.old) (O.contents out.old) (O.contents out.new)) }
     ensures fault { IfErr result (λ fault. EndsBy plan.now (I.remaining input.old) fault (out.new ≡ out.old)) }
-    ensures refused { CannotTell plan.now (I.remaining input.old) → IfErr result (λ fault. status_of_fault fault ≡ 1) × IsErr result × (out.new ≡ out.old) }
-    ensures incomplete { IfErr result (λ fault. status_of_fault fault ≡ 2 → MayLose plan.now (I.remaining input.old) × (out.new ≡ out.old)) }
-    ensures in_use { IfErr result (λ fault. status_of_fault fault ≡ 5 → HasLog plan.now × (input.new ≡ input.old) × (out.new ≡ out.old) × (err.new ≡ err.old)) }
+    ensures in_use { HasLog plan.now → IfErr result (λ fault. status_of_fault fault ≡ 5 → (input.new ≡ input.old) × (err.new ≡ err.old)) }
     ensures unread { reads_input plan.now ≡ false → input.new ≡ input.old }
     ensures silent { has_notices plan.now ≡ false → err.new ≡ err.old }
     ensures noted { MayNote plan.now (E.contents err.old) (E.contents err.new) }
@@ -234,18 +243,15 @@ fn run<
                 seeds,
                 options,
             };
-            let chunks = report_of_plan(platform, alloc, &crawl, input)?;
-            end_by_chunks(out, &chunks)?;
+            print_crawl(platform, alloc, &crawl, input, out)?;
             Ok(false)
         }
         Plan::Key { url, workers } => {
-            let line = key_line(alloc, url, *workers)?;
-            end(out, &line)?;
+            print_key(alloc, url, *workers, out)?;
             Ok(false)
         }
         Plan::Replay { file } => {
-            let text = replies(platform.rt, alloc, file, input)?;
-            end(out, &text)?;
+            print_replies(platform.rt, alloc, file, input, out)?;
             Ok(false)
         }
         Plan::Check { options, ignores } => {
@@ -274,6 +280,33 @@ fn run<
     }
 }
 
+/// Prints the key line of a URL.
+fn print_key<O: Write>(alloc: Global, url: &String, workers: u32, out: &mut O) -> Result<(), Fault>
+    requires some { 1 ≤ workers }
+    requires few { workers ≤ worker_limit }
+    ensures done { (input : Option (List ℕ)) → IfOk result (λ _. Gains (asks.Key url.now workers) input (O.contents out.old) (O.contents out.new)) }
+    ensures fault { (input : Option (List ℕ)) → IfErr result (λ fault. EndsBy (asks.Key url.now workers) input fault (out.new ≡ out.old)) }
+{
+    let line = key_line(alloc, url, workers)?;
+    end(out, &line)
+}
+
+/// Prints the replies to the script in FILE.
+fn print_replies<R: Files, I: Read, O: Write>(
+    rt: &R,
+    alloc: Global,
+    file: &String,
+    input: &mut I,
+    out: &mut O,
+) -> Result<(), Fault>
+    ensures done { IfOk result (λ _. Gains (asks.Replay file.now) (I.remaining input.old) (O.contents out.old) (O.contents out.new)) }
+    ensures fault { IfErr result (λ fault. EndsBy (asks.Replay file.now) (I.remaining input.old) fault (out.new ≡ out.old)) }
+    ensures unread { is_input (string_bytes file.now) ≡ false → input.new ≡ input.old }
+{
+    let text = replies(rt, alloc, file, input)?;
+    end(out, &text)
+}
+
 /// Returns the replies to the script in FILE.
 fn replies<R: Files, I: Read>(
     rt: &R,
@@ -293,6 +326,7 @@ fn replies<R: Files, I: Read>(
 fn show<O: Write, E: Write>(alloc: Global, error: PlanError, out: &mut O, err: &mut E) -> u8
     requires { IsShown error }
     ensures statuses { (result ≤ 1) ⊎ (result ≡ 3) }
+    ensures helps { result ≡ 0 → is_help_text error ≡ true }
     ensures shown { result ≡ 0 → (text : List ℕ) × Appends (O.contents out.old) (O.contents out.new) text }
     ensures silent { result ≡ 0 → err.new ≡ err.old }
     ensures fault { result ≡ 1 → FailsWithoutPlan (E.contents err.old) (E.contents err.new) (out.new ≡ out.old) }

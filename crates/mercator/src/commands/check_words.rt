@@ -24,7 +24,7 @@ const LOCAL: &str =
 const CHECK_HELP: &str = "\
 Reports links to pages or anchors that do not exist, and invalid links, with the file, line and
 column of each. The exit status is 4 if a link is broken or invalid, or leaves the site, or if
---sitemap reports a document.
+--sitemap reports a document; with --fix --dry-run, it is 4 if a link would be rewritten.
 Example: mercator check examples/site";
 
 /// `check`: finds the broken links of a folder.
@@ -72,7 +72,7 @@ fn push_run_args<'a>(alloc: Global, args: &mut Vec<Arg<'a>>) -> Result<(), Alloc
 fn push_places<'a>(alloc: Global, args: &mut Vec<Arg<'a>>) -> Result<(), AllocError> {
     push(args, folder(alloc, "Folder to check"))?;
     let help =
-        "URL of the folder, http or https; without it / is the folder, and the report shows paths";
+        "URL at which FOLDER is published, http or https; without it, links with a host are not checked";
     push(args, base(alloc, help))
 }
 
@@ -82,14 +82,19 @@ fn config<'a>(alloc: Global) -> Arg<'a> {
         alloc,
         "config",
         "FILE",
-        "Read options from FILE, not from .mercator.toml",
+        "Read options from FILE, not from .mercator.toml in the current directory",
     )
     .value_parser(ValueParser::NonEmptyString)
 }
 
 /// The option to read no configuration file.
 fn no_config<'a>(alloc: Global) -> Result<Arg<'a>, AllocError> {
-    flag_of(alloc, "no-config", "Do not read .mercator.toml").conflicts_with("config")
+    flag_of(
+        alloc,
+        "no-config",
+        "Do not read .mercator.toml in the current directory",
+    )
+    .conflicts_with("config")
 }
 
 /// The heading in the help for the format of a report and what it lists.
@@ -125,7 +130,8 @@ fn push_fix_args<'a>(alloc: Global, args: &mut Vec<Arg<'a>>) -> Result<(), Alloc
 
 /// The option to rewrite links.
 fn fix<'a>(alloc: Global) -> Result<Arg<'a>, AllocError> {
-    let help = "Rewrite links to redirects, and to missing pages with one candidate, then check";
+    let help =
+        "Rewrite links to redirects, and to missing pages with a suggestion, in the files, then check";
     with_rivals(flag_of(alloc, "fix", help).help_heading(FIXES), "fix")
 }
 
@@ -200,14 +206,14 @@ const REPORT_OPTIONS: &[Valued] = &[Valued {
 const IGNORE_OPTIONS: &[Valued] = &[Valued {
     name: "ignore",
     value: "LIST",
-    help: "Ignore each target that begins with a line of the file LIST, or matches a pattern in it",
+    help: "Ignore each target that begins with a line of the file LIST, or matches one such as img/*.png",
 }];
 
 /// Which documents and links are checked.
 const SCOPE_FLAGS: &[Flag] = &[
     Flag {
         name: "reachable",
-        help: "Check only what can be reached by following links, not every document",
+        help: "Check only what links from the top lead to, not every HTML document in FOLDER",
     },
     Flag {
         name: "no-anchors",
@@ -225,7 +231,7 @@ fn map<'a>(alloc: Global) -> Arg<'a> {
         alloc,
         "map",
         "PREFIX=FOLDER",
-        "Look up links that leave the site to PREFIX in FOLDER, such as ../x=/srv/x; repeatable",
+        "Look up links that leave the site to PREFIX in another folder, such as ../x=/srv/x; repeatable",
     )
     .value_parser(ValueParser::NonEmptyString)
     .action(ArgAction::Append)
@@ -316,9 +322,12 @@ fn lists_of(values: &OptionValues<'_, '_>) -> Lists {
     }
 }
 
-/// The form of the report, or `None` if two different ones are values. A report as text has no colour here.
-pub fn form_of(values: &OptionValues<'_, '_>) -> Option<CheckForm> {
-    form_named(format_of(values.text("format"), short_form(values.line))?)
+/// The form of the report, or `None` if two different ones are values. A report as text has colour if `has_colour`.
+pub fn form_of(values: &OptionValues<'_, '_>, has_colour: bool) -> Option<CheckForm> {
+    form_named(
+        format_of(values.text("format"), short_form(values.line))?,
+        has_colour,
+    )
 }
 
 /// The format of the short form on the command line.
@@ -346,12 +355,12 @@ fn format_of<'a>(named: Option<&'a str>, short: Option<&'a str>) -> Option<&'a s
     }
 }
 
-/// The form of a report with this format.
-fn form_named(format: &str) -> Option<CheckForm>
-    ensures { result ≡ form_named format.now }
+/// The form of a report with this format, which has colour only as text.
+fn form_named(format: &str, has_colour: bool) -> Option<CheckForm>
+    ensures { result ≡ form_named format.now has_colour }
 {
     if format == "text" {
-        Some(CheckForm::Text { colour: false })
+        Some(CheckForm::Text { colour: has_colour })
     } else if format == "json" {
         Some(CheckForm::Json)
     } else if format == "html" {

@@ -14,11 +14,11 @@ use std::alloc::{AllocError, Global};
 pub const NAME: &str = "mercator";
 
 /// The version, and the logic of the Rattle toolchain that it is proved with, as `rt version` prints it.
-const VERSION: &str = "0.1 (logic dac8208d650f15bf)";
+const VERSION: &str = "0.2 (logic dac8208d650f15bf)";
 
 const STATUSES: &str = "\
 Exit status: 0 success, 1 error, 2 incomplete crawl, 3 bad command line,
-4 broken links found, 5 log in use.
+4 a link is broken or invalid or leaves the site, 5 log in use.
 Example: mercator check examples/site";
 
 /// The largest value of `--wait`: a day.
@@ -104,12 +104,17 @@ fn crawl_command<'a>(alloc: Global) -> Result<Command<'a>, AllocError> {
 /// Appends the options and arguments of `crawl`.
 fn push_crawl_args<'a>(alloc: Global, args: &mut Vec<Arg<'a>>) -> Result<(), AllocError> {
     push_numbers(alloc, args)?;
-    push_flags(alloc, args, None, QUEUE_FLAGS)?;
-    push_flags(alloc, args, None, SECTION_FLAGS)?;
-    push_flags(alloc, args, None, TELLING_FLAGS)?;
+    push_report_options(alloc, args)?;
     push_options(alloc, args, None, CRAWL_OPTIONS)?;
     push(args, file(alloc, "Saved web to crawl; - is standard input"))?;
     push(args, seeds(alloc)?)
+}
+
+/// Appends the options for what `crawl` prints.
+fn push_report_options<'a>(alloc: Global, args: &mut Vec<Arg<'a>>) -> Result<(), AllocError> {
+    push_flags(alloc, args, None, QUEUE_FLAGS)?;
+    push_flags(alloc, args, None, SECTION_FLAGS)?;
+    push_flags(alloc, args, None, TELLING_FLAGS)
 }
 
 /// The number of workers of a frontier, and its limit of pending URLs.

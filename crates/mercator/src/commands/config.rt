@@ -124,21 +124,29 @@ fn unread(alloc: Global, name: &str, why: Unread) -> Result<PlanError, AllocErro
         return Ok(PlanError::NoMemory);
     }
     let name = shown(alloc, name)?;
-    let text = format!(in alloc; "error: cannot read {name}\n")?;
-    bad_words(alloc, text.as_str())
+    bad_line(alloc, &["error: cannot read ", name.as_str()])
 }
 
 /// The error for a configuration file with this name.
 fn bad_file(alloc: Global, name: &str, error: &FileError) -> Result<PlanError, AllocError>
     ensures { IfOk result IsShown }
 {
+    let name = shown(alloc, name)?;
     match error {
         FileError::NoMemory => Ok(PlanError::NoMemory),
-        FileError::NotToml(line, why) => not_toml(alloc, name, *line, why.as_str()),
-        FileError::Unknown(key) => unknown_option(alloc, name, key.as_str()),
-        FileError::WrongValue(key, values) => {
-            wrong_value(alloc, name, key.as_str(), values.as_str())
-        }
+        FileError::NotToml(line, why) => not_toml(alloc, name.as_str(), *line, why.as_str()),
+        FileError::Unknown(key) => unknown_option(alloc, name.as_str(), key.as_str()),
+        FileError::WrongValue(key, values) => bad_line(
+            alloc,
+            &[
+                "error: ",
+                name.as_str(),
+                ": ",
+                key.as_str(),
+                ": must be ",
+                values.as_str(),
+            ],
+        ),
     }
 }
 
@@ -146,28 +154,19 @@ fn bad_file(alloc: Global, name: &str, error: &FileError) -> Result<PlanError, A
 fn not_toml(alloc: Global, name: &str, line: usize, why: &str) -> Result<PlanError, AllocError>
     ensures { IfOk result IsShown }
 {
-    let name = shown(alloc, name)?;
-    let text = format!(in alloc; "error: {name}: line {line}: {why}\n")?;
-    bad_words(alloc, text.as_str())
+    let line = format!(in alloc; "{line}")?;
+    bad_line(
+        alloc,
+        &["error: ", name, ": line ", line.as_str(), ": ", why],
+    )
 }
 
 /// The error for a file with a key that is no option.
 fn unknown_option(alloc: Global, name: &str, key: &str) -> Result<PlanError, AllocError>
     ensures { IfOk result IsShown }
 {
-    let name = shown(alloc, name)?;
     let key = shown(alloc, key)?;
-    let text = format!(in alloc; "error: {name}: unknown option {key}\n")?;
-    bad_words(alloc, text.as_str())
-}
-
-/// The error for a file in which an option has none of these values.
-fn wrong_value(alloc: Global, name: &str, key: &str, values: &str) -> Result<PlanError, AllocError>
-    ensures { IfOk result IsShown }
-{
-    let name = shown(alloc, name)?;
-    let text = format!(in alloc; "error: {name}: {key}: must be {values}\n")?;
-    bad_words(alloc, text.as_str())
+    bad_line(alloc, &["error: ", name, ": unknown option ", key.as_str()])
 }
 
 /// The error for a file that has two options that cannot be used together.
@@ -176,6 +175,27 @@ fn two_rivals(alloc: Global, name: &str, rivals: (&str, &str)) -> Result<PlanErr
 {
     let name = shown(alloc, name)?;
     let (one, other) = rivals;
-    let text = format!(in alloc; "error: {name}: {one} cannot be used with {other}\n")?;
-    bad_words(alloc, text.as_str())
+    bad_line(
+        alloc,
+        &[
+            "error: ",
+            name.as_str(),
+            ": ",
+            one,
+            " cannot be used with ",
+            other,
+        ],
+    )
+}
+
+/// The error with this line, in pieces and without its LF.
+fn bad_line(alloc: Global, pieces: &[&str]) -> Result<PlanError, AllocError>
+    ensures { IfOk result IsShown }
+{
+    let mut line = String::new(alloc);
+    for piece in pieces {
+        line.push_str(*piece)?;
+    }
+    line.push_str("\n")?;
+    bad_words(alloc, line.as_str())
 }

@@ -45,7 +45,6 @@ pub fn print_fixes<R: Files<File: Send, Dir: Send> + Threads + Wait + Sync, O: W
 ) -> Result<bool, Fault>
     ensures done { IfOk result (λ broken. (diff : List ℕ) × IsDiff broken diff × Appends (O.contents out.old) (O.contents out.new) diff) }
     ensures fault { IfErr result (λ fault. ((status_of_fault fault ≡ 1) × (out.new ≡ out.old)) ⊎ ((fault ≡ wrong.CannotWrite) × ((broken : Bool) × (diff : List ℕ) × IsDiff broken diff))) }
-    ensures plain { IfErr result (λ fault. status_of_fault fault ≡ 1) }
 {
     let diff = diff_of_folder(rt, alloc, options, ignores, err)?;
     end(out, diff.as_slice())?;

@@ -6,7 +6,6 @@ ghost use Rattle.mercator.specs.Limits.{most_input_bytes};
 ghost use Rattle.mercator.specs.Plans.{known_ignores};
 ghost use Rattle.mercator.specs.Told.{EndsBy, Gains, GainsAs, reports};
 ghost use Rattle.mercator.specs.declared.commands.planned.Plan.TheVariants as asks;
-ghost use Rattle.mercator_site.specs.Faults.{IsSiteIncomplete};
 
 use crate::commands::fault::Fault;
 use crate::commands::fix::{fix_folder, print_fixes};
@@ -33,7 +32,6 @@ pub fn run_site<R: Files<File: Send, Dir: Send> + Threads + Sync, O: Write, E: W
 ) -> Result<(), Fault>
     ensures done { (input : Option (List ℕ)) → IfOk result (λ _. Gains (asks.Site options.now) input (O.contents out.old) (O.contents out.new)) }
     ensures fault { (input : Option (List ℕ)) → IfErr result (λ fault. EndsBy (asks.Site options.now) input fault (out.new ≡ out.old)) }
-    ensures plain { IfErr result (λ fault. status_of_fault fault ≡ 1) }
 {
     let index = read_index(rt, alloc, &options.index)?;
     let mut notes = Vec::new(alloc);
@@ -57,8 +55,6 @@ pub fn run_check<R: Files<File: Send, Dir: Send> + Threads + Wait + Sync, O: Wri
 ) -> Result<bool, Fault>
     ensures done { (input : Option (List ℕ)) → IfOk result (λ broken. GainsAs broken (asks.Check options.now ignores.now) input (O.contents out.old) (O.contents out.new)) }
     ensures fault { (input : Option (List ℕ)) → IfErr result (λ fault. EndsBy (asks.Check options.now ignores.now) input fault (out.new ≡ out.old)) }
-    ensures incomplete { IfErr result (λ fault. status_of_fault fault ≡ 2 → IsSiteIncomplete options.now × (out.new ≡ out.old)) }
-    ensures no_log { IfErr result (λ fault. status_of_fault fault ≡ 5 → ⊥) }
 {
     match options.fix {
         Fix::Diff => print_fixes(rt, alloc, options, ignores, out, err),
@@ -85,8 +81,6 @@ fn report_check<R: Files<File: Send, Dir: Send> + Threads + Wait + Sync, O: Writ
     requires { reports options.now.fix ≡ true }
     ensures done { (input : Option (List ℕ)) → IfOk result (λ broken. GainsAs broken (asks.Check options.now ignores.now) input (O.contents out.old) (O.contents out.new)) }
     ensures fault { (input : Option (List ℕ)) → IfErr result (λ fault. EndsBy (asks.Check options.now ignores.now) input fault (out.new ≡ out.old)) }
-    ensures incomplete { IfErr result (λ fault. status_of_fault fault ≡ 2 → IsSiteIncomplete options.now × (out.new ≡ out.old)) }
-    ensures no_log { IfErr result (λ fault. status_of_fault fault ≡ 5 → ⊥) }
 {
     let list = read_ignore_list(rt, alloc, ignores)?;
     let index = read_index(rt, alloc, &options.site.index)?;

@@ -37,11 +37,16 @@ fn push_site_args<'a>(alloc: Global, args: &mut Vec<Arg<'a>>) -> Result<(), Allo
 
 /// Appends the options for how file names and URLs correspond, and for how the folder is read.
 pub fn push_folder_options<'a>(alloc: Global, args: &mut Vec<Arg<'a>>) -> Result<(), AllocError> {
-    push(args, host(alloc)?)?;
-    push(args, index_file(alloc))?;
-    push(args, fallback(alloc)?)?;
+    push_page_options(alloc, args)?;
     push_flags(alloc, args, Some(FILES), FOLDER_FLAGS)?;
     push(args, index(alloc)?)
+}
+
+/// Appends the options for which file is the page of a URL.
+fn push_page_options<'a>(alloc: Global, args: &mut Vec<Arg<'a>>) -> Result<(), AllocError> {
+    push(args, host(alloc)?)?;
+    push(args, index_file(alloc))?;
+    push(args, fallback(alloc)?)
 }
 
 /// The names of hosts.
@@ -53,7 +58,7 @@ fn host<'a>(alloc: Global) -> Result<Arg<'a>, AllocError> {
         alloc,
         "host",
         "HOST",
-        "Find the file of a URL as HOST does: nginx, github, netlify or plain",
+        "Use the rules of a web host for suffixes and index files: nginx, github, netlify or plain",
     )
     .help_heading(FILES)
     .value_parser(ValueParser::Names(HOSTS))
@@ -82,7 +87,7 @@ fn fallback<'a>(alloc: Global) -> Result<Arg<'a>, AllocError> {
         alloc,
         "fallback",
         "SUFFIX",
-        "If a path has no page, try it with .SUFFIX added; SUFFIX is html",
+        "Accept links that omit .SUFFIX, such as about for about.html; SUFFIX is html",
     )
     .help_heading(FILES)
     .value_parser(ValueParser::Names(SUFFIXES))
@@ -111,7 +116,7 @@ fn index<'a>(alloc: Global) -> Result<Arg<'a>, AllocError> {
         alloc,
         "index",
         "FILE",
-        "Read the URLs of the files in FOLDER from the site list FILE",
+        "Read the URL of each file from the site list FILE, with lines of URL, type and file",
     )
     .help_heading(FILES)
     .value_parser(ValueParser::NonEmptyString)

@@ -1,10 +1,10 @@
 //! What a command line asks for.
 ghost use Rattle.std.specs.Prelude.{◌≡◌};
-ghost use Rattle.mercator.specs.Plans.{IsWithinLimits, explains, file_of, listed_or, told_file};
+ghost use Rattle.mercator.specs.Plans.{explains, file_of, listed_or, told_file};
 
 use crate::commands::fault::Fault;
 use crawl_report::Sections;
-use mercator_site::{CheckForm, CheckOptions, ReportOptions, SiteOptions};
+use mercator_site::{CheckOptions, SiteOptions};
 use session_log::{CompactPlan, ListPlan, LogPlan, SessionPlan};
 
 /// What the arguments of a command line ask for.
@@ -113,27 +113,6 @@ impl Plan {
             Plan::Serve(_) | Plan::ServeLog(_) => "-",
             Plan::List(list) => list.file.as_str(),
             Plan::Compact(_) => "",
-        }
-    }
-
-    /// Returns the same plan. If `has_colour`, a report of a check as text has colour.
-    pub fn with_colour(self, has_colour: bool) -> Plan
-        ensures { IsWithinLimits self → IsWithinLimits result }
-    {
-        match self {
-            Plan::Check { options, ignores } => {
-                let form = match options.report.form {
-                    CheckForm::Text { .. } => CheckForm::Text { colour: has_colour },
-                    other => other,
-                };
-                let report = ReportOptions {
-                    form,
-                    ..options.report
-                };
-                let options = CheckOptions { report, ..options };
-                Plan::Check { options, ignores }
-            }
-            plan => plan,
         }
     }
 

@@ -1,5 +1,5 @@
 //! The frontier as a co-process, with or without a log.
-ghost use Rattle.std.specs.Prelude.{◌≡◌, ℕ, List, Option, true, false, string_bytes, IfOk, IfErr, IsErr, OnOk};
+ghost use Rattle.std.specs.Prelude.{◌≡◌, ℕ, List, Option, true, false, string_bytes, IfOk, IfErr, OnOk};
 ghost use Rattle.std.specs.Str.Lines.{lines};
 ghost use Rattle.crawl_session.specs.Frontiers.{Shows, start};
 ghost use Rattle.crawl_session.specs.Logs.{Reruns};
@@ -9,7 +9,7 @@ ghost use Rattle.mercator.specs.Ending.{Begins};
 ghost use Rattle.mercator.specs.FaultText.{left_out_line, torn_line};
 ghost use Rattle.mercator.specs.Faults.{of_logged, of_session, status_of_fault};
 ghost use Rattle.mercator.specs.Plans.{is_bad_suffix};
-ghost use Rattle.mercator.specs.Told.{EndsBy, Fails, FailsLog, Gains, settings_of};
+ghost use Rattle.mercator.specs.Told.{EndsBy, Fails, FailsLog, FailsSession, Gains, Resumes, no_identity, settings_of};
 ghost use Rattle.mercator.specs.declared.commands.planned.Plan.TheVariants as asks;
 
 use crate::commands::fault::Fault;
@@ -65,14 +65,27 @@ pub fn serve_plan<I: Read, O: Write>(
     requires { IsSessionPlan plan.now }
     ensures done { IfOk result (λ _. Gains (asks.Serve plan.now) (I.remaining input.old) (O.contents out.old) (O.contents out.new)) }
     ensures fault { IfErr result (λ fault. EndsBy (asks.Serve plan.now) (I.remaining input.old) fault (out.new ≡ out.old)) }
-    ensures refused { is_bad_suffix plan.now.within ≡ true → IsErr result × (out.new ≡ out.old) }
-    ensures plain { IfErr result (λ fault. status_of_fault fault ≡ 1) }
     ensures unread { is_bad_suffix plan.now.within ≡ true → input.new ≡ input.old }
 {
-    let filter = filter_of(alloc, &plan.within)?;
-    let mut session = plan.session(alloc, filter, NO_IDENTITY)?;
+    let mut session = session_of(alloc, plan)?;
     serve(alloc, &mut session, input, out)?;
     Ok(())
+}
+
+/// Creates the session of a plan without a log.
+///
+/// # Errors
+/// `BadSuffix`; `NoMemory`.
+fn session_of(alloc: Global, plan: &SessionPlan) -> Result<Session, Fault>
+    requires { IsSessionPlan plan.now }
+    ensures suffix { IfOk result (λ _. is_bad_suffix plan.now.within ≡ false) }
+    ensures start { IfOk result (λ session. Shows session.core (start (queues_of plan.now) plan.now.max)) }
+    ensures settings { IfOk result (λ session. session.settings ≡ settings_of plan.now no_identity) }
+    ensures fault { IfErr result (FailsSession plan.now.within) }
+{
+    let filter = filter_of(alloc, &plan.within)?;
+    let session = plan.session(alloc, filter, NO_IDENTITY)?;
+    Ok(session)
 }
 
 /// Resumes from the log, and answers the requests of the input to its end. Each line is appended to the log before it is
@@ -92,15 +105,11 @@ pub fn serve_log<R: Files, L: LockFile<R::File>, V, I: Read, O: Write, E: Write>
     requires { IsSessionPlan plan.now.session }
     ensures done { IfOk result (λ _. Gains (asks.ServeLog plan.now) (I.remaining input.old) (O.contents out.old) (O.contents out.new)) }
     ensures fault { IfErr result (λ fault. EndsBy (asks.ServeLog plan.now) (I.remaining input.old) fault (out.new ≡ out.old)) }
-    ensures refused { is_bad_suffix plan.now.session.within ≡ true → IsErr result × (out.new ≡ out.old) }
-    ensures complete { IfErr result (λ fault. status_of_fault fault ≡ 2 → ⊥) }
-    ensures suffix { is_bad_suffix plan.now.session.within ≡ true → IfErr result (λ fault. status_of_fault fault ≡ 1) }
-    ensures in_use { IfErr result (λ fault. status_of_fault fault ≡ 5 → (input.new ≡ input.old) × (out.new ≡ out.old) × (err.new ≡ err.old)) }
+    ensures in_use { IfErr result (λ fault. status_of_fault fault ≡ 5 → (input.new ≡ input.old) × (err.new ≡ err.old)) }
     ensures unread { is_bad_suffix plan.now.session.within ≡ true → input.new ≡ input.old }
     ensures noted { Begins (E.contents err.old) (E.contents err.new) (torn_line (string_bytes plan.now.file)) }
 {
-    let (opened, mut session) = open_session(platform, alloc, plan, true)?;
-    let log = resume_noted(platform.rt, alloc, plan, opened, &mut session, err)?;
+    let (log, mut session) = resumed_session(platform, alloc, plan, err)?;
     let syncs = plan.session.part.is_some();
     serve_logged(alloc, &mut session, log, syncs, input, out)?;
     Ok(())
@@ -121,9 +130,6 @@ pub fn compact_log<R: Files, L: LockFile<R::File>, V, E: Write>(
     requires { IsSessionPlan plan.now.log.session }
     ensures done { IfOk result (λ _. (input out : Option (List ℕ)) → Gains (asks.Compact plan.now) input out out) }
     ensures fault { IfErr result (λ fault. (input : Option (List ℕ)) → Fails (asks.Compact plan.now) input fault) }
-    ensures refused { is_bad_suffix plan.now.log.session.within ≡ true → IsErr result }
-    ensures complete { IfErr result (λ fault. status_of_fault fault ≡ 2 → ⊥) }
-    ensures suffix { is_bad_suffix plan.now.log.session.within ≡ true → IfErr result (λ fault. status_of_fault fault ≡ 1) }
     ensures in_use { IfErr result (λ fault. status_of_fault fault ≡ 5 → err.new ≡ err.old) }
     ensures noted { (left : LeftOut) × Begins (E.contents err.old) (E.contents err.new) (left_out_line (string_bytes plan.now.log.file) left) }
 {
@@ -136,7 +142,6 @@ pub fn compact_log<R: Files, L: LockFile<R::File>, V, E: Write>(
 ///
 /// # Errors
 /// Those of [`compact_log`].
-#[tactic(auto, using(crate::proofs::PlanTexts::filter_is, std::proofs::lemmas::Result::err_from_is_err_and, crate::proofs::Serves::log_fails))]
 fn compact_plan<R: Files, L: LockFile<R::File>, V>(
     platform: &Platform<'_, R, L, V>,
     alloc: Global,
@@ -147,7 +152,8 @@ fn compact_plan<R: Files, L: LockFile<R::File>, V>(
     ensures fault { IfErr result (FailsLog plan.now.log.session.within) }
 {
     let _filter = filter_of(alloc, &plan.log.session.within)?;
-    Ok(compact(platform.rt, platform.locks, alloc, plan)?)
+    let left_out = compact(platform.rt, platform.locks, alloc, plan)?;
+    Ok(left_out)
 }
 
 /// Reports how many URLs a narrower suffix leaves out, if any. The new log is there, so no memory for the line is no error.
@@ -189,23 +195,42 @@ pub fn list_log<R: Files, O: Write>(
 ) -> Result<(), Fault>
     ensures done { (input : Option (List ℕ)) → IfOk result (λ _. Gains (asks.List plan.now) input (O.contents out.old) (O.contents out.new)) }
     ensures fault { (input : Option (List ℕ)) → IfErr result (λ fault. EndsBy (asks.List plan.now) input fault (out.new ≡ out.old)) }
-    ensures plain { IfErr result (λ fault. status_of_fault fault ≡ 1) }
 {
     let text = list(rt, alloc, plan)?;
     end(out, &text)
 }
 
-/// Opens the log and creates the session of its plan. If `makes`, a file that does not exist is created. A bad suffix opens no
-/// log.
+/// Opens the log, creates the session of its plan, and runs the requests of the log. Returns the log, ready to be appended to, and the
+/// session.
 ///
 /// # Errors
 /// `BadSuffix`; `Log`; `NoMemory`.
-#[tactic(auto, using(crate::proofs::PlanTexts::filter_is, std::proofs::lemmas::Result::err_from_is_err_and, crate::proofs::Serves::log_fails))]
+fn resumed_session<'p, R: Files, L: LockFile<R::File>, V, E: Write>(
+    platform: &Platform<'p, R, L, V>,
+    alloc: Global,
+    plan: &LogPlan,
+    err: &mut E,
+) -> Result<(Log<'p, R::File, R>, Session), Fault>
+    requires { IsSessionPlan plan.now.session }
+    ensures suffix { IfOk result (λ _. is_bad_suffix plan.now.session.within ≡ false) }
+    ensures resumed { IfOk result (λ r. Resumes plan.now r.1) }
+    ensures fault { IfErr result (FailsLog plan.now.session.within) }
+    ensures in_use { IfErr result (λ fault. status_of_fault fault ≡ 5 → err.new ≡ err.old) }
+    ensures noted { Begins (E.contents err.old) (E.contents err.new) (torn_line (string_bytes plan.now.file)) }
+{
+    let (opened, mut session) = open_session(platform, alloc, plan)?;
+    let log = resume_noted(platform.rt, alloc, plan, opened, &mut session, err)?;
+    Ok((log, session))
+}
+
+/// Opens the log and creates the session of its plan. A log that does not exist is created. A bad suffix opens no log.
+///
+/// # Errors
+/// `BadSuffix`; `Log`; `NoMemory`.
 fn open_session<R: Files, L: LockFile<R::File>, V>(
     platform: &Platform<'_, R, L, V>,
     alloc: Global,
     plan: &LogPlan,
-    makes: bool,
 ) -> Result<(OpenedLog<R::File>, Session), Fault>
     requires { IsSessionPlan plan.now.session }
     ensures suffix { IfOk result (λ _. is_bad_suffix plan.now.session.within ≡ false) }
@@ -214,7 +239,8 @@ fn open_session<R: Files, L: LockFile<R::File>, V>(
     ensures fault { IfErr result (FailsLog plan.now.session.within) }
 {
     let filter = filter_of(alloc, &plan.session.within)?;
-    Ok(session_log::open_session(platform.rt, platform.locks, alloc, plan, filter, makes)?)
+    let opened = session_log::open_session(platform.rt, platform.locks, alloc, plan, filter, true)?;
+    Ok(opened)
 }
 
 /// Runs the requests of the log, and returns the log, ready to be appended to. If its last line has no end, that is removed before,

@@ -11,8 +11,8 @@ ghost use Rattle.crawl_run.specs.Losses.{IsLost};
 ghost use Rattle.saved_web.specs.KnownPages.{page_at, urls_of};
 ghost use Rattle.saved_pages.specs.SavedWeb.{page_of, page_urls};
 ghost use Rattle.saved_pages.specs.WebFaults.{IsSound, IsWebRefusal};
-ghost use Rattle.mercator.specs.Plans.{is_input, lists_input, plan_of, reads_files, suffixes_of};
-ghost use Rattle.mercator.specs.Told.{FailsCrawl, IsToldCrawl};
+ghost use Rattle.mercator.specs.Plans.{crawl_plan, is_input, lists_input, plan_of, reads_files, suffixes_of};
+ghost use Rattle.mercator.specs.Told.{EndsBy, FailsCrawl, Gains, IsToldCrawl};
 ghost use Rattle.mercator.specs.WebCrawl.{AreAllSeeds, AreSeeds, IsBegun, IsFound, IsSeedFault, IsUnbegun, IsUnread, asked_pages};
 
 use crate::commands::crawl_text::crawl_text;
@@ -20,6 +20,7 @@ use crate::commands::fault::Fault;
 use crate::commands::planned::CrawlPlan;
 use crate::commands::platform::Platform;
 use crate::commands::source::read_files;
+use crate::commands::writing::end_by_chunks;
 use crawl_keys::{CanonUrl, Filter, FilterError, canonical};
 use crawl_pages::SessionFetch;
 use crawl_report::{NoMemory, Sections};
@@ -28,22 +29,43 @@ use crawl_sources::read_seeds;
 use saved_web::{SavedWeb, WebError, WebInThreads};
 use std::alloc::Global;
 use std::fs::Files;
-use std::io::Read;
+use std::io::{Read, Write};
 use std::mem::forget;
 use std::sync::Wait;
 use std::thread::Threads;
+
+/// Crawls, and prints the report.
+///
+/// # Errors
+/// Those of [`report_of_plan`]; `CannotWrite`.
+pub(in crate::commands) fn print_crawl<
+    R: Files + Threads + Wait + Sync,
+    L,
+    V: Observe + Sync,
+    I: Read,
+    O: Write,
+>(
+    platform: &Platform<'_, R, L, V>,
+    alloc: Global,
+    crawl: &CrawlPlan<'_>,
+    input: &mut I,
+    out: &mut O,
+) -> Result<(), Fault>
+    requires one_input { (is_input (string_bytes crawl.now.file.now) && lists_input crawl.now.options.now.listed) ≡ false }
+    ensures done { IfOk result (λ _. Gains (crawl_plan crawl.now) (I.remaining input.old) (O.contents out.old) (O.contents out.new)) }
+    ensures fault { IfErr result (λ fault. EndsBy (crawl_plan crawl.now) (I.remaining input.old) fault (out.new ≡ out.old)) }
+    ensures unread { reads_files (plan_of crawl.now) ≡ false → input.new ≡ input.old }
+{
+    let chunks = report_of_plan(platform, alloc, crawl, input)?;
+    end_by_chunks(out, &chunks)
+}
 
 /// Crawls, and returns the report in consecutive chunks. The suffix is checked first. Then the saved web and the file of seeds are
 /// read whole.
 ///
 /// # Errors
 /// `BadSuffix`, `CannotRead`, `CannotReadSeeds`; those of [`crawl_files`]; `NoMemory`.
-pub(in crate::commands) fn report_of_plan<
-    R: Files + Threads + Wait + Sync,
-    L,
-    V: Observe + Sync,
-    I: Read,
->(
+fn report_of_plan<R: Files + Threads + Wait + Sync, L, V: Observe + Sync, I: Read>(
     platform: &Platform<'_, R, L, V>,
     alloc: Global,
     crawl: &CrawlPlan<'_>,
@@ -62,7 +84,9 @@ pub(in crate::commands) fn report_of_plan<
         mode: Mode::Threads,
         filter: &filter,
     };
-    let (crawled, urls) = crawl_files(platform, alloc, crawl, &settings, files)?;
+    let (crawled, urls) = crawl_files(platform, alloc, crawl, &settings, &files.0, &files.1)?;
+    // The report may need the memory of the files.
+    drop(files);
     let chunks = crawl_text(platform.rt, alloc, crawl, &settings, &crawled, &urls)?;
     // The process ends soon, which frees them faster.
     forget(crawled);
@@ -83,7 +107,7 @@ pub(in crate::commands) fn filter_of(
     }
 }
 
-/// Crawls the saved web with the bytes of the first file, from the seeds of the second, followed by those of the plan: from at
+/// Crawls the saved web with these bytes, from the seeds of the file with the bytes `listed`, followed by those of the plan: from at
 /// least one. Returns what was found, and the URLs of the pages of the saved web if the report lists those that no result has.
 ///
 /// # Errors
@@ -94,29 +118,44 @@ fn crawl_files<R: Threads + Wait + Sync, L, V: Observe + Sync>(
     alloc: Global,
     crawl: &CrawlPlan<'_>,
     settings: &CrawlSettings<'_>,
-    files: (Vec<u8>, Vec<u8>),
+    bytes: &[u8],
+    listed: &[u8],
 ) -> Result<(Crawled, Vec<CanonUrl>), Fault>
-    ensures found { IfOk result (λ r. IsFound settings.now.workers files.0.items files.1.items (map string_bytes crawl.now.seeds.now.items) settings.now.filter.now r.0) }
-    ensures begun { IfOk result (λ _. IsBegun files.0.items files.1.items (map string_bytes crawl.now.seeds.now.items)) }
-    ensures urls { IfOk result (λ r. r.1.items ≡ asked_pages crawl.now.options.now.sections (lines files.0.items)) }
-    ensures refused { IfErr result (IsUnbegun settings.now.workers settings.now.max_pending files.0.items files.1.items (map string_bytes crawl.now.seeds.now.items) settings.now.filter.now) }
+    ensures found { IfOk result (λ r. IsFound settings.now.workers bytes.now listed.now (map string_bytes crawl.now.seeds.now.items) settings.now.filter.now r.0) }
+    ensures begun { IfOk result (λ _. IsBegun bytes.now listed.now (map string_bytes crawl.now.seeds.now.items)) }
+    ensures urls { IfOk result (λ r. r.1.items ≡ asked_pages crawl.now.options.now.sections (lines bytes.now)) }
+    ensures refused { IfErr result (IsUnbegun settings.now.workers settings.now.max_pending bytes.now listed.now (map string_bytes crawl.now.seeds.now.items) settings.now.filter.now) }
 {
-    let (bytes, list) = files;
     let in_threads = settings.has_threads();
-    let (web, seeds) = read_site(platform.rt, alloc, in_threads, &bytes, &list, crawl.seeds)?;
+    let (web, seeds) = read_site(platform.rt, alloc, in_threads, bytes, listed, crawl.seeds)?;
     if seeds.is_empty() {
         return Err(Fault::NoSeed);
     }
-    let observer = if crawl.options.progress {
-        platform.observer
-    } else {
-        None
-    };
-    let source = WebInThreads::new(platform.rt, alloc, &web, in_threads);
-    let crawled = crawl_source(platform.rt, alloc, &source, observer, settings, &seeds)?;
-    drop(source);
+    let is_watched = crawl.options.progress;
+    let crawled = crawl_web(platform, alloc, is_watched, settings, &web, &seeds)?;
     let urls = asked_pages(alloc, crawl.options.sections, &web)?;
     Ok((crawled, urls))
+}
+
+/// Crawls the saved web. If `is_watched`, reports to the observer of the platform, if there is one.
+fn crawl_web<R: Threads + Wait + Sync, L, V: Observe + Sync>(
+    platform: &Platform<'_, R, L, V>,
+    alloc: Global,
+    is_watched: bool,
+    settings: &CrawlSettings<'_>,
+    web: &SavedWeb<'_>,
+    seeds: &[CanonUrl],
+) -> Result<Crawled, CrawlFailure>
+    ensures pages { IfOk result (λ crawled. IsCrawl (page_at web.now) (allows settings.now.filter.now) seeds.now crawled.result) }
+    ensures counts { IfOk result (λ crawled. AreCounts settings.now.workers (result_urls crawled.result) crawled.counts.items) }
+    ensures numbers { IfErr result (λ failure. CrawlFails settings.now.workers settings.now.max_pending failure.error) }
+    ensures judged { IfErr result (λ failure. IsJudgedAt (page_at web.now) (allows settings.now.filter.now) seeds.now failure.error failure.culprit) }
+    ensures lost { IfErr result (λ failure. IsLost failure.error failure.losses) }
+    ensures counted { IfErr result (λ failure. CountsLosses settings.now.workers (allows settings.now.filter.now) (page_at web.now) seeds.now failure.error failure.culprit failure.losses) }
+{
+    let observer = if is_watched { platform.observer } else { None };
+    let source = WebInThreads::new(platform.rt, alloc, web, settings.has_threads());
+    crawl_source(platform.rt, alloc, &source, observer, settings, seeds)
 }
 
 /// Crawls the source. Reports to the observer, if there is one.

@@ -1,10 +1,12 @@
 //! Parses the arguments of a command line with `clap`.
-ghost use Rattle.std.specs.Prelude.{◌≡◌, ◌*◌, ◌<◌, ◌≤◌, IfOk, IfErr, IfSome, string_bytes};
+ghost use Rattle.std.specs.Prelude.{◌≡◌, ◌*◌, ◌<◌, ◌≤◌, IfOk, IfErr, IfSome, false, string_bytes, true};
 ghost use Rattle.crawl_core.specs.Limits.{queue_limit};
 ghost use Rattle.crawl_limits.specs.Limits.{worker_limit, pending_limit};
 ghost use Rattle.session_log.specs.Plans.{IsPartOf, IsSessionPlan, all_queues};
+ghost use Rattle.mercator.specs.Checks.{agrees, agrees_with_error, is_help_text};
 ghost use Rattle.mercator.specs.Plans.{IsShown, IsVisible, IsWithinLimits, lists_input};
 
+use crate::commands::agreement::{agrees, agrees_with_error};
 use crate::commands::arguments::{is_named, value_of, values_of};
 use crate::commands::check_words::{check_options, form_of, has_links, maps_of};
 use crate::commands::command_line::{self, command_line};
@@ -46,13 +48,12 @@ pub fn plan(alloc: Global, words: &[String]) -> Result<Plan, PlanError>
     ensures shown { IfErr result IsShown }
 {
     let named = after_the_name(alloc, words)?;
-    match command_line(alloc)?.try_get_matches_from(named.as_slice()) {
-        Ok(matches) => plan_of(alloc, &matches),
-        Err(error) => Err(shown(alloc, &error)),
-    }
+    let matches = matches_of(alloc, named.as_slice())?;
+    plan_of(alloc, &matches)
 }
 
-/// Parses the arguments after the program's name. A check also has the options of its configuration file.
+/// Parses the arguments after the program's name. A check also has the options of its configuration file, and if `has_colour`, its report
+/// as text has colour. What `clap` made of the arguments is compared with them once more.
 ///
 /// # Errors
 /// `Shown` if they ask for help or are not a command line, or if the configuration file is not valid. `NoMemory`.
@@ -60,26 +61,66 @@ pub fn plan_with_config<R: Files>(
     rt: &R,
     alloc: Global,
     words: &[String],
+    has_colour: bool,
+) -> Result<Plan, PlanError>
+    ensures limits { IfOk result IsWithinLimits }
+    ensures shown { IfErr result IsShown }
+    ensures agreed { IfOk result (λ plan. agrees words.now plan ≡ true) }
+    ensures helps { IfErr result (λ error. agrees_with_error words.now error ≡ true) }
+{
+    match read_plan(rt, alloc, words, has_colour) {
+        Ok(plan) => if agrees(words, &plan) {
+            Ok(plan)
+        } else {
+            Err(misread(alloc))
+        },
+        Err(error) => if agrees_with_error(words, &error) {
+            Err(error)
+        } else {
+            Err(misread(alloc))
+        },
+    }
+}
+
+/// Parses the arguments, with the options of a configuration file for a check.
+fn read_plan<R: Files>(
+    rt: &R,
+    alloc: Global,
+    words: &[String],
+    has_colour: bool,
 ) -> Result<Plan, PlanError>
     ensures limits { IfOk result IsWithinLimits }
     ensures shown { IfErr result IsShown }
 {
     let named = after_the_name(alloc, words)?;
-    match command_line(alloc)?.try_get_matches_from(named.as_slice()) {
-        Ok(matches) => configured(rt, alloc, &matches),
+    let matches = matches_of(alloc, named.as_slice())?;
+    configured(rt, alloc, &matches, has_colour)
+}
+
+/// Parses the arguments, of which the first is the program's name.
+fn matches_of<'a>(alloc: Global, named: &'a [&str]) -> Result<ArgMatches<'a>, PlanError>
+    ensures { IfErr result IsShown }
+{
+    match command_line(alloc)?.try_get_matches_from(named) {
+        Ok(matches) => Ok(matches),
         Err(error) => Err(shown(alloc, &error)),
     }
 }
 
 /// Returns the plan for the command that `clap` parsed, which also has the options of a configuration file if it is a check.
-fn configured<R: Files>(rt: &R, alloc: Global, matches: &ArgMatches<'_>) -> Result<Plan, PlanError>
+fn configured<R: Files>(
+    rt: &R,
+    alloc: Global,
+    matches: &ArgMatches<'_>,
+    has_colour: bool,
+) -> Result<Plan, PlanError>
     ensures limits { IfOk result IsWithinLimits }
     ensures shown { IfErr result IsShown }
 {
     match matches.subcommand() {
         Some(("check", found)) => {
             let file = config_of(rt, alloc, found)?;
-            check_of(alloc, found, file.as_ref())
+            check_of(alloc, found, file.as_ref(), has_colour)
         }
         _ => plan_of(alloc, matches),
     }
@@ -183,7 +224,8 @@ For more information, try '--help'.
 
 /// The error for arguments that were parsed otherwise than `clap` checked them.
 fn misread(alloc: Global) -> PlanError
-    ensures { IsShown result }
+    ensures shown { IsShown result }
+    ensures is_error { is_help_text result ≡ false }
 {
     PlanError::Shown {
         text: String::new(alloc),
@@ -202,7 +244,7 @@ fn plan_of(alloc: Global, matches: &ArgMatches<'_>) -> Result<Plan, PlanError>
         Some(("replay", found)) => replay_of(alloc, found),
         Some(("serve", found)) => serve_of(alloc, found),
         Some(("site", found)) => site_of(alloc, found),
-        Some(("check", found)) => check_of(alloc, found, None),
+        Some(("check", found)) => check_of(alloc, found, None, false),
         _ => Err(misread(alloc)),
     }
 }
@@ -359,11 +401,12 @@ fn site_of(alloc: Global, found: &ArgMatches<'_>) -> Result<Plan, PlanError>
     }
 }
 
-/// Returns the plan of `check`, whose report has no colour yet.
+/// Returns the plan of `check`. If `has_colour`, its report as text has colour.
 fn check_of(
     alloc: Global,
     found: &ArgMatches<'_>,
     file: Option<&OptionFile>,
+    has_colour: bool,
 ) -> Result<Plan, PlanError>
     ensures limits { IfOk result IsWithinLimits }
     ensures shown { IfErr result IsShown }
@@ -372,7 +415,7 @@ fn check_of(
         return Err(misread(alloc));
     };
     let values = OptionValues { line: found, file };
-    let Some(form) = form_of(&values) else {
+    let Some(form) = form_of(&values, has_colour) else {
         return Err(bad_words(alloc, TWO_FORMATS)?);
     };
     if let Some(text) = refusal(&values, form) {

@@ -1,22 +1,31 @@
-use Rattle.mercator.proofs.Prelude.{inl, inr, refl, subst, rules, List, ℕ, arith, err_from_is_err_and, Appends, IsChecked}
+use Rattle.mercator.proofs.Prelude.{inl, inr, refl, subst, rules, List, ℕ, err_from_is_err_and, Appends, IsChecked}
 use Rattle.mercator_site.specs.Ends.{IsFolderCheck}
-use Rattle.mercator.proofs.Folders.{can_print, gains_as, incomplete_check, not_in_use}
+use Rattle.mercator.proofs.Folders.{can_print, gains_as, plain_check, site_fails}
 use Rattle.mercator.proofs.commands.folder.report_check.Goals as goal
+
+pub returns-in_err-list-clause-fault : goal.returns-in_err-list-clause-fault
+returns-in_err-list-clause-fault g c = λ input.
+    let r = c.from_residual in
+    let same = err_from_is_err_and r.result r.ensures.1 in
+    rw (same.1, same.2) (inl (plain_check c.args.options.now _ c.in_err-list.ensures.plain, refl))
+
+pub returns-in_err-index-clause-fault : goal.returns-in_err-index-clause-fault
+returns-in_err-index-clause-fault g c = λ input.
+    let r = c.from_residual-in_err-index in
+    let same = err_from_is_err_and r.result r.ensures.1 in
+    rw (same.1, same.2) (inl (plain_check c.args.options.now _ c.in_err-index.ensures.plain, refl))
+
+pub returns-in_err-print_notes-clause-fault : goal.returns-in_err-print_notes-clause-fault
+returns-in_err-print_notes-clause-fault g c = λ input.
+    let r = c.from_residual-in_err-print_notes in
+    let same = err_from_is_err_and r.result r.ensures.1 in
+    rw (same.1, same.2) (inl (plain_check c.args.options.now 1 refl, refl))
 
 pub returns-in_err-report-clause-fault : goal.returns-in_err-report-clause-fault
 returns-in_err-report-clause-fault g c = λ input.
     let r = c.from_residual-in_err-report in
     let same = err_from_is_err_and r.result r.ensures.1 in
-    rw (same.1, same.2) (inl (incomplete_check c.args.options.now c.in_err-report.field-0.0 c.in_err-report.ensures.incomplete, refl))
-
-pub returns-in_err-report-clause-incomplete : goal.returns-in_err-report-clause-incomplete
-returns-in_err-report-clause-incomplete g c =
-    let r = c.from_residual-in_err-report in
-    let same = err_from_is_err_and r.result r.ensures.1 in
-    rw (same.1, same.2) (λ two. (incomplete_check c.args.options.now c.in_err-report.field-0.0 c.in_err-report.ensures.incomplete two, refl))
-
-pub returns-in_err-report-clause-no_log : goal.returns-in_err-report-clause-no_log
-returns-in_err-report-clause-no_log g c = grind (arith, err_from_is_err_and, not_in_use)
+    rw (same.1, same.2) (inl (site_fails c.args.options.now c.in_err-report.field-0.0 c.in_err-report.ensures.incomplete, refl))
 
 pub returns-in_err-end-clause-fault : goal.returns-in_err-end-clause-fault
 returns-in_err-end-clause-fault g c = λ input.

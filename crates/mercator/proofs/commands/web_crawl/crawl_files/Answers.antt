@@ -5,9 +5,8 @@ use Rattle.mercator.proofs.commands.web_crawl.crawl_files.Goals as goal
 pub returns-clause-found : goal.returns-clause-found
 returns-clause-found g c =
     let web = c.in_ok-web in
-    found_of c.args.settings.now.workers c.args.files.0.items c.args.files.1.items _ c.args.settings.now.filter.now (page_at web.web) web.seeds.items c.in_ok-crawled.crawled
-    (rw c.deref.ensures.value at web.ensures.sound) (rw c.deref.ensures.value at web.ensures.pages) (rw (c.deref-2.ensures.value, c.deref-3.ensures.value) at web.ensures.named)
-    (rw (c.deref-4.ensures.value, c.new-source.ensures) at c.in_ok-crawled.ensures.pages) c.in_ok-crawled.ensures.counts
+    found_of c.args.settings.now.workers c.args.bytes.now c.args.listed.now _ c.args.settings.now.filter.now (page_at web.web) web.seeds.items c.in_ok-crawled.crawled
+    web.ensures.sound web.ensures.pages (rw c.deref.ensures.value at web.ensures.named) (rw c.deref-2.ensures.value at c.in_ok-crawled.ensures.pages) c.in_ok-crawled.ensures.counts
 
 pub returns-in_err-crawled-clause-refused : goal.returns-in_err-crawled-clause-refused
 returns-in_err-crawled-clause-refused g c =
@@ -16,9 +15,9 @@ returns-in_err-crawled-clause-refused g c =
     let web = c.in_ok-web in
     let failure = c.in_err-crawled.field-0.0 in
     let some : 1 ≤ length web.seeds.items = grind (arith, common_steps) in
-    rw (p.1, p.2) (unbegun_of c.args.settings.now.workers c.args.settings.now.max_pending c.args.files.0.items c.args.files.1.items _ c.args.settings.now.filter.now (page_at web.web) web.seeds.items failure
-    (rw c.deref.ensures.value at web.ensures.sound) (rw c.deref.ensures.value at web.ensures.pages) (rw (c.deref-2.ensures.value, c.deref-3.ensures.value) at web.ensures.named) some
-    c.in_err-crawled.ensures.numbers (rw (c.deref-4.ensures.value, c.new-source.ensures) at c.in_err-crawled.ensures.judged) c.in_err-crawled.ensures.lost (rw (c.deref-4.ensures.value, c.new-source.ensures) at c.in_err-crawled.ensures.counted))
+    rw (p.1, p.2) (unbegun_of c.args.settings.now.workers c.args.settings.now.max_pending c.args.bytes.now c.args.listed.now _ c.args.settings.now.filter.now (page_at web.web) web.seeds.items failure
+    web.ensures.sound web.ensures.pages (rw c.deref.ensures.value at web.ensures.named) some
+    c.in_err-crawled.ensures.numbers (rw c.deref-2.ensures.value at c.in_err-crawled.ensures.judged) c.in_err-crawled.ensures.lost (rw c.deref-2.ensures.value at c.in_err-crawled.ensures.counted))
 
 pub returns-in_err-web-clause-refused : goal.returns-in_err-web-clause-refused
 returns-in_err-web-clause-refused g c = grind (arith, err_from_is_err_and, unread_unbegun)

@@ -8,8 +8,8 @@ returns-clause-text g c =
     let crawl = plan_of c.args.crawl.now in
     let files = c.in_ok-files.files in
     told_of crawl (g.I.Read.remaining c.args.input.now) files.0.items files.1.items c.in_ok-filter.filter c.in_ok-crawled.urls.items c.in_ok-crawled.crawled (joined c.in_ok-chunks.chunks.items)
-    (filter_is crawl.options.within _ c.in_ok-filter.ensures) c.in_ok-files.ensures.files c.in_ok-crawled.ensures.begun c.in_ok-crawled.ensures.found c.in_ok-crawled.ensures.urls
-    (rw c.deref.ensures.value at c.in_ok-chunks.ensures)
+    (filter_is crawl.options.within _ c.in_ok-filter.ensures) c.in_ok-files.ensures.files (rw (c.deref.ensures.value, c.deref-2.ensures.value) at c.in_ok-crawled.ensures.begun)
+    (rw (c.deref.ensures.value, c.deref-2.ensures.value) at c.in_ok-crawled.ensures.found) (rw c.deref.ensures.value at c.in_ok-crawled.ensures.urls) (rw c.deref-3.ensures.value at c.in_ok-chunks.ensures)
 
 pub returns-in_err-files-clause-fault : goal.returns-in_err-files-clause-fault
 returns-in_err-files-clause-fault g c = grind (arith, err_from_is_err_and, filter_is)
@@ -21,7 +21,7 @@ returns-in_err-crawled-clause-fault g c =
     let crawl = plan_of c.args.crawl.now in
     let files = c.in_ok-files.files in
     rw (p.1, p.2) (fails_in_files crawl (g.I.Read.remaining c.args.input.now) files.0.items files.1.items c.in_ok-filter.filter c.in_err-crawled.field-0.0
-    (filter_is crawl.options.within _ c.in_ok-filter.ensures) c.in_ok-files.ensures.files c.in_err-crawled.ensures.refused)
+    (filter_is crawl.options.within _ c.in_ok-filter.ensures) c.in_ok-files.ensures.files (rw (c.deref.ensures.value, c.deref-2.ensures.value) at c.in_err-crawled.ensures.refused))
 
 pub returns-clause-unread : goal.returns-clause-unread
 returns-clause-unread g c = λ no. c.read_files.ensures.unread (reads_neither _ _ (filter_is c.args.crawl.now.options.now.within _ c.in_ok-filter.ensures).0 no)

@@ -3,5 +3,5 @@ use Rattle.std.proofs.lemmas.Str.{chars-nil}
 use Rattle.shown_text.specs.Shown.{is_visible_or_lf}
 use Rattle.mercator.proofs.commands.words.misread.Goals as goal
 
-pub returns : goal.returns
-returns c = (inr refl, subst IsVisible (sym c.new.ensures.bytes) (ap (list_all is_visible_or_lf) chars-nil))
+pub returns-clause-shown : goal.returns-clause-shown
+returns-clause-shown c = (inr refl, subst IsVisible (sym c.new.ensures.bytes) (ap (list_all is_visible_or_lf) chars-nil))
