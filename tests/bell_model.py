@@ -119,7 +119,7 @@ WRONG = {
 def main() -> int:
     passed = failed = 0
 
-    def tell(is_right: bool, line: str) -> None:
+    def report(is_right: bool, line: str) -> None:
         nonlocal passed, failed
         passed += is_right
         failed += not is_right
@@ -127,10 +127,10 @@ def main() -> int:
 
     for pushers, pushes in ((1, 4), (2, 3), (3, 2)):
         states, lost = explore(Form(), pushers, pushes)
-        tell(lost == 0, f"{pushers} threads that push {pushes} times each: {states} states, {lost} lost rings")
+        report(lost == 0, f"{pushers} threads that push {pushes} times each: {states} states, {lost} lost rings")
     for name, form in WRONG.items():
         states, lost = explore(form, 2, 2)
-        tell(lost > 0, f"mutant that {name}: {states} states, {lost} lost rings")
+        report(lost > 0, f"mutant that {name}: {states} states, {lost} lost rings")
     print(f"{passed} passed, {failed} failed")
     return 1 if failed else 0
 

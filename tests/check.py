@@ -54,7 +54,7 @@ SHOWN, LONGEST = 5, 4000  # the number of differences that a series prints, and 
 EVERY = 8  # one of this number of random folders has its other forms compared
 # What 1,000 random folders must have at least LEAST times
 KINDS = "brokenpage brokenanchor placepage placeanchor hint worst redirect unreached unlisted external unused with_aliases error in_sheets in_xml in_feeds".split()
-KINDS += "written hint_fallback hint_index_file hint_leads_out hint_leads_nowhere mapped fixed_redirect fixed_name fix_left fix_link".split()
+KINDS += "written hint_url hint_fallback hint_index_file hint_leads_out hint_leads_nowhere mapped fixed_redirect fixed_name fix_left fix_link".split()
 KINDS += [kind + reason for kind in ("invalid", "invalid_place") for reason in ("not_url", "unknown_scheme", "local_file")]
 KINDS += [kind + reason for kind in ("leaving", "leaving_place") for reason in ("above_folder", "outside_base", "not_in_map")]
 HINT_KINDS = {LEADS_OUT: "hint_leads_out", LEADS_NOWHERE: "hint_leads_nowhere"}
@@ -326,6 +326,9 @@ def draw_number(seed: int, number: int, above: str) -> Drawn:
         settings = settings._replace(seeds=tuple(found))
     options = drawing.random_options(draw)
     maps = draw_maps(Random(f"maps {seed} {number}"), Path(above), settings.base)
+    draw = Random(f"whole {seed} {number}")
+    if draw.random() < 0.2:
+        drawing.add_whole_links(draw, folder)
     return Drawn(str(folder), settings._replace(maps=maps), options)
 
 
@@ -502,6 +505,8 @@ def moved_fault(program: str, seed: int, number: int, kinds: Counter[str]) -> Op
 
 def details(row: Row) -> Iterator[str]:
     """What is counted of a row in addition to its kind."""
+    if row["kind"] == "hint" and row["base"].startswith("http"):
+        yield "hint_url"
     if row.get("hint"):
         yield HINT_KINDS.get(row["hint"]) or ("hint_fallback" if row["hint"].endswith(": --fallback html") else "hint_index_file")
     if row.get("written"):

@@ -139,7 +139,7 @@ class Client(NamedTuple):
     offered: Urls = ()  # the ids of finished entries that are not yet removed
     page: Tuple[Any, ...] = ()  # the links to offer, and the URLs to send
     wire: Urls = ()  # the ids whose removal was sent and not yet executed
-    told: int = 0  # the URLs that it has sent, as bits: they are not sent again
+    sent: int = 0  # the URLs that it has sent, as bits: they are not sent again
     stale: int = 0  # whether Redis has lost its keys since this client was started
     looked: int = 0  # for a planted bug: the number of streams that were found empty
     aside: Tuple[Any, ...] = ()  # for a planted bug: the entry that was being read
@@ -193,9 +193,9 @@ class Own:
 
     def started(self, frontier: Frontier) -> Client:
         """Return the memory of a client at its start, which has the answer to `again`."""
-        told = frontier.sent if self.fault == "assumes that the URLs in its log were sent" else 0
+        sent = frontier.sent if self.fault == "assumes that the URLs in its log were sent" else 0
         page = (self.web.links[frontier.hand], ()) if frontier.hand >= 0 else ()
-        return Client(page=page, told=told)
+        return Client(page=page, sent=sent)
 
     # ---- what must hold
 
@@ -333,7 +333,7 @@ class Own:
     def brought(self, outbox: Outbox, me: int, client: Client, url: int) -> Outbox:
         """Add this URL to the outbox, if it belongs to another part and was not sent before."""
         to = self.web.part[url]
-        return outbox if to == me or client.told >> url & 1 else put(outbox, to, url)
+        return outbox if to == me or client.sent >> url & 1 else put(outbox, to, url)
 
     def at_once(self, state: State) -> State:
         """Read the entries that are there, and make the offers that change no frontier."""
@@ -419,15 +419,15 @@ class Own:
     @staticmethod
     def has_sent(client: Client, to: int, sent: Urls) -> Client:
         """Record that these URLs were sent, for both the entry and the page that wait for them."""
-        told = client.told
+        all_sent = client.sent
         for url in sent:
-            told |= 1 << url
+            all_sent |= 1 << url
         reading, page = client.reading, client.page
         if reading:
             reading = (*reading[:2], without(reading[2], to, sent))
         if page:
             page = (page[0], without(page[1], to, sent))
-        return client._replace(told=told, reading=reading, page=page)
+        return client._replace(sent=all_sent, reading=reading, page=page)
 
     def removal_steps(
         self, state: State, me: int, frontier: Frontier, client: Client, out: List[Step]
@@ -612,15 +612,15 @@ class Own:
     def forgotten(self, state: State) -> State:
         """Forget that a ready part has begun, and the sent URLs that no page links to."""
         for me, (frontier, client) in enumerate(state.parts):
-            if client is None or not (client.begun or client.told):
+            if client is None or not (client.begun or client.sent):
                 continue
-            asked = sum(1 << url for url in set(self.web.seeds[me]))
+            needed = sum(1 << url for url in set(self.web.seeds[me]))
             for url, part in enumerate(self.web.part):
                 if part == me and not frontier.done >> url & 1:
-                    asked |= self.linked[url]
+                    needed |= self.linked[url]
             begun = client.begun and not state.ready >> me & 1
-            if (client.begun, client.told) != (begun, client.told & asked):
-                client = client._replace(begun=int(begun), told=client.told & asked)
+            if (client.begun, client.sent) != (begun, client.sent & needed):
+                client = client._replace(begun=int(begun), sent=client.sent & needed)
                 state = self.with_part(state, me, frontier, client)
         return state
 

@@ -103,7 +103,7 @@ def plain_web(pages: int, hosts: int, links: int, seed: int = 1) -> Web:
     return Web(web, urls[:1])
 
 
-def wanted_of(web: Web, program: str, folder: Path) -> Dict[str, bool]:
+def expected_of(web: Web, program: str, folder: Path) -> Dict[str, bool]:
     """Return each URL that has to be fetched, and whether it is a page, by `mercator crawl`."""
     file = folder / "web"
     file.write_bytes(web.saved())
@@ -116,7 +116,7 @@ def wanted_of(web: Web, program: str, folder: Path) -> Dict[str, bool]:
 
 
 def searched(web: Web) -> Dict[str, bool]:
-    """Return the same as `wanted_of`, by a search of this script."""
+    """Return the same as `expected_of`, by a search of this script."""
     import drawn
     found: Dict[str, bool] = {}
     rest = list(web.seeds)
@@ -337,10 +337,10 @@ class Crawling:
         self.parts = {part: forked(shared, part) for part in range(shared.crawl.parts)}
         self.stopped = self.losses = 0
 
-    def run(self, wanted: Iterable[str]) -> Stopped:
+    def run(self, expected: Iterable[str]) -> Stopped:
         """Run all parts until the crawl is complete, with failures at random moments."""
         faults, folder = self.shared.faults, self.shared.folder
-        whole = sum(len(url) + 3 for url in wanted)
+        whole = sum(len(url) + 3 for url in expected)
         what = ["part"] * faults.kills + ["redis"] * faults.losses + ["keys"] * faults.flushes
         moments = sorted((self.draw.random() * whole, word) for word in what)
         end = time.monotonic() + SECONDS
@@ -430,15 +430,15 @@ def fetched_by(shared: Shared) -> Tuple[Counter[str], Dict[str, Set[Tuple[int, i
     return count, hosts
 
 
-def check(shared: Shared, server: Server, wanted: Dict[str, bool], stopped: Stopped) -> int:
+def check(shared: Shared, server: Server, expected: Dict[str, bool], stopped: Stopped) -> int:
     """Compare the fetched URLs with the expected ones, and return how many were fetched again."""
     count, hosts = fetched_by(shared)
-    missing, more = set(wanted) - set(count), set(count) - set(wanted)
+    missing, more = set(expected) - set(count), set(count) - set(expected)
     some = sorted(url[:80] for url in missing)[:3]
-    expect(not missing, f"{len(missing)} of {len(wanted)} URLs were not fetched: {some}")
+    expect(not missing, f"{len(missing)} of {len(expected)} URLs were not fetched: {some}")
     expect(not more, f"{len(more)} URLs should not be fetched: {sorted(more)[:3]}")
     pages = {url for url in count if url in shared.web.pages}
-    other = pages ^ {url for url, is_page in wanted.items() if is_page}
+    other = pages ^ {url for url, is_page in expected.items() if is_page}
     expect(not other, f"pages that only one of the two found: {sorted(other)[:3]}")
     again = sum(count.values()) - len(count)
     most = stopped.parts * shared.crawl.workers
@@ -468,13 +468,13 @@ class Trial:
 
     def one(
         self, draw: random.Random, web: Web, parts: int, workers: int, faults: Faults = Faults(),
-        wanted: Optional[Dict[str, bool]] = None, **options: Any,
+        expected: Optional[Dict[str, bool]] = None, **options: Any,
     ) -> Shared:
         """Run a crawl and compare the URLs."""
         shared = self.new(web, parts, workers, faults, **options)
-        if wanted is None:
-            wanted = wanted_of(web, self.program, shared.folder)
-        self.compare(shared, wanted, Crawling(shared, self.server, draw).run(wanted))
+        if expected is None:
+            expected = expected_of(web, self.program, shared.folder)
+        self.compare(shared, expected, Crawling(shared, self.server, draw).run(expected))
         return shared
 
     def new(self, web: Web, parts: int, workers: int, faults: Faults, **options: Any) -> Shared:
@@ -486,13 +486,13 @@ class Trial:
         crawl = Crawl(parts, workers, "test", f"crawl {self.number}", self.server.url)
         return Shared(crawl, web, faults, self.program, folder, **options)
 
-    def compare(self, shared: Shared, wanted: Dict[str, bool], stopped: Stopped) -> None:
+    def compare(self, shared: Shared, expected: Dict[str, bool], stopped: Stopped) -> None:
         """Compare the URLs, and add to the totals."""
-        self.again += check(shared, self.server, wanted, stopped)
+        self.again += check(shared, self.server, expected, stopped)
         self.stopped += stopped.parts
         self.lost += stopped.redis
         self.crawls += 1
-        self.pages += len(wanted)
+        self.pages += len(expected)
         if not self.options.keep:
             for log in shared.folder.glob("log.*"):
                 log.unlink()
@@ -569,7 +569,7 @@ def reported_loss(trial: Trial) -> None:
     with mock.patch.object(mercator_cluster.logger, "warning") as warning:
         run(lambda: started(shared, 0), fetch)
     expect(is_complete(shared, trial.server), "`complete` is not set")
-    expect(set(fetches) == set(wanted_of(shared.web, trial.program, shared.folder)), "other URLs")
+    expect(set(fetches) == set(expected_of(shared.web, trial.program, shared.folder)), "other URLs")
     texts = [str(call.args[0]) % call.args[1:] for call in warning.call_args_list]
     is_right = len(texts) == 1 and "Redis has lost the keys of this crawl" in texts[0]
     expect(is_right, f"the warnings: {texts}")
@@ -578,7 +578,7 @@ def reported_loss(trial: Trial) -> None:
 def emptied_before_ready(trial: Trial) -> None:
     """Redis is emptied after a part has sent its seeds, and before the part is ready."""
     shared = trial.new(drawn_web(trial.draw("before ready"), 3, 20), 1, 2, Faults())
-    wanted = wanted_of(shared.web, trial.program, shared.folder)
+    expected = expected_of(shared.web, trial.program, shared.folder)
     make_ready, losses = mercator_cluster._Broker.make_ready, iter([True])
 
     def make_ready_without_keys(broker: Any) -> None:
@@ -588,7 +588,7 @@ def emptied_before_ready(trial: Trial) -> None:
 
     with mock.patch.object(mercator_cluster._Broker, "make_ready", make_ready_without_keys):
         work(shared, 0)
-    trial.compare(shared, wanted, Stopped())
+    trial.compare(shared, expected, Stopped())
 
 
 def reported_wait(trial: Trial) -> None:
@@ -653,14 +653,14 @@ def lost_at_the_end(trial: Trial) -> None:
             hosts, workers = ((1, 1), (20, 3))[number % 2]
             web = drawn_web(draw, hosts, draw.randrange(2, 60))
             shared = trial.new(web, 2, workers, Faults())
-            wanted = wanted_of(web, trial.program, shared.folder)
+            expected = expected_of(web, trial.program, shared.folder)
             parts = [ByHand(shared, part) for part in range(2)]
             try:
                 lose_at_the_end(shared, trial.server, parts)
             finally:
                 for by_hand in parts:
                     by_hand.made.close()
-            trial.compare(shared, wanted, Stopped(redis=2))
+            trial.compare(shared, expected, Stopped(redis=2))
 
 
 def lose_at_the_end(shared: Shared, server: Server, parts: List[ByHand]) -> None:
@@ -768,7 +768,7 @@ def full_redis(trial: Trial) -> None:
 
 def http(trial: Trial) -> None:
     """`examples/crawl_cluster.py` over HTTP: the example site as four hosts, by two parts."""
-    wanted, lines = set(), []
+    expected, lines = set(), []
     folder = trial.folder / "http"
     folder.mkdir()
     trial.server.empty()
@@ -780,7 +780,7 @@ def http(trial: Trial) -> None:
     try:
         seeds = [host.url for host in hosts]
         for url in seeds:
-            wanted |= set(found_by_search(url).items())
+            expected |= set(found_by_search(url).items())
         words = ["--delay", "0", "--workers", "3", "--redis", trial.server.url]
         words += ["--program", trial.program]
         processes = [
@@ -800,7 +800,7 @@ def http(trial: Trial) -> None:
             host.__exit__()
     ours = [(url, status) for status, _, url in lines]
     expect(len(ours) == len(set(ours)), "a URL was fetched twice")
-    expect(set(ours) == wanted, f"other URLs: {sorted(set(ours) ^ wanted)[:5]}")
+    expect(set(ours) == expected, f"other URLs: {sorted(set(ours) ^ expected)[:5]}")
     print(f"  {len(ours)} URLs over HTTP")
 
 
@@ -853,12 +853,12 @@ def reported_seeds(trial: Trial) -> None:
     """`examples/crawl_cluster.py` reports seeds that no part accepts, like `crawl_http.py`."""
     seeds = ["notaurl", "ftp://a.test/", "", "http://a.test/", "http://127.0.0.1:0/" + "x" * 5_000]
     whys = ["not a URL", "not http or https", "not a URL", "filtered", "line too long"]
-    wanted = [f"crawl_cluster: seed {seed}: {why}" for seed, why in zip(seeds, whys)]
+    expected = [f"crawl_cluster: seed {seed}: {why}" for seed, why in zip(seeds, whys)]
     words = ["--name", "seeds", "--log", str(trial.folder / "seeds"), "--within", "127.0.0.1"]
     process = crawler(trial, *words, *seeds, "http://127.0.0.1:0/", "HTTP://127.1:0")
     output, errors = process.communicate(timeout=SECONDS)
     expect(process.returncode == 0, f"status {process.returncode}: {errors}")
-    expect(errors.splitlines() == wanted, f"standard error: {errors}")
+    expect(errors.splitlines() == expected, f"standard error: {errors}")
     expect(output == "failed 0 http://127.0.0.1:0/\n", f"fetched: {output}")
 
 
@@ -920,10 +920,10 @@ def unix_socket(trial: Trial) -> None:
     draw = trial.draw("socket")
     web = drawn_web(draw, 20, 100)
     shared = trial.new(web, 2, 3, Faults())
-    wanted = wanted_of(web, trial.program, shared.folder)
+    expected = expected_of(web, trial.program, shared.folder)
     crawl = shared.crawl._replace(redis=f"unix://{trial.server.folder}/socket")
     shared = shared._replace(crawl=crawl)
-    trial.compare(shared, wanted, Crawling(shared, trial.server, draw).run(wanted))
+    trial.compare(shared, expected, Crawling(shared, trial.server, draw).run(expected))
 
 
 def interrupted(trial: Trial) -> None:
@@ -977,10 +977,10 @@ def speed(trial: Trial) -> None:
     """The speed of a crawl of 100,000 pages on 1,000 hosts, each with 5 links to random pages."""
     pages = trial.options.pages
     web = plain_web(pages, 1000, 5)
-    wanted = dict.fromkeys(web.pages, True)
+    expected = dict.fromkeys(web.pages, True)
     for parts, is_synced in ((1, False), (2, False), (4, False), (4, True)):
         before, begun = trial.server.processor(), time.monotonic()
-        shared = trial.one(trial.draw("speed"), web, parts, 128, wanted=wanted, is_synced=is_synced)
+        shared = trial.one(trial.draw("speed"), web, parts, 128, expected=expected, is_synced=is_synced)
         total: Counter[str] = Counter()
         seconds = 0.0
         for part in range(parts):

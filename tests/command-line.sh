@@ -32,8 +32,21 @@ expect() {
         passed=$((passed + 1))
     else
         failed=$((failed + 1))
-        echo "FAILED: $name: status $got, expected $status; output and standard error:"
-        head -c 400 "$scratch/out" "$scratch/err"
+        echo "FAILED: $name (line ${BASH_LINENO[0]} of tests/command-line.sh)"
+        echo "  status $got, expected $status"
+        echo "  output:"
+        head -c 400 "$scratch/out"
+        echo "  expected output:"
+        case $out in
+            @*) head -c 400 "${out#@}" ;;
+            *) echo "$out" ;;
+        esac
+        echo "  standard error:"
+        head -c 400 "$scratch/err"
+        case $err in
+            ~*) echo "  expected in standard error: ${err#\~}" ;;
+            *) echo "  expected standard error: $err" ;;
+        esac
     fi
 }
 

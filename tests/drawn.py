@@ -567,7 +567,7 @@ class Case(NamedTuple):
     words: list[str]
     data: bytes
     listed: Optional[bytes]
-    wanted: list[str]
+    expected: list[str]
     status: int
     has: list[str]
 
@@ -1111,11 +1111,11 @@ def difference(made: Case) -> str:
         return misshapen(done.returncode, output, other)
     if made.status:
         output, other = other, output
-    wanted = "".join(f"{line}\n" for line in made.wanted)
-    if (output, other, done.returncode) == (wanted.encode(), b"", made.status):
+    expected = "".join(f"{line}\n" for line in made.expected)
+    if (output, other, done.returncode) == (expected.encode(), b"", made.status):
         return ""
     lines = output.decode("utf-8", "backslashreplace").replace("\r", "\\r").split("\n")
-    differing = difflib.unified_diff(wanted.split("\n"), lines, "expected", "printed", lineterm="")
+    differing = difflib.unified_diff(expected.split("\n"), lines, "expected", "printed", lineterm="")
     stream = "standard output" if made.status else "standard error"
     return "\n".join([
         f"status {done.returncode}, expected {made.status}; {len(other)} bytes on {stream}",
@@ -1148,7 +1148,7 @@ def run(kind: str, number: int, seed: str, folder: str) -> tuple[Counter[str], l
     came: Counter[str] = Counter()
     differing = []
     for made in cases:
-        came.update({re.sub(r" (\d+|https?://\S*)", "", line) for line in made.wanted})
+        came.update({re.sub(r" (\d+|https?://\S*)", "", line) for line in made.expected})
         came.update(set(made.has))
         found = difference(made)
         if found:

@@ -19,6 +19,7 @@ from __future__ import annotations
 import argparse
 import os
 import shlex
+import shutil
 import subprocess
 import sys
 from collections import Counter
@@ -68,11 +69,11 @@ def replies(workers: int, room: int, events: list[str]) -> list[str]:
 
 def agree(workers: int, room: int, events: list[tuple[str, str]]) -> None:
     """Check that the machine replies to each event as expected; `*` matches any number."""
-    for (event, wanted), reply in zip(events, replies(workers, room, [event for event, _ in events])):
-        fits = len(wanted.split()) == len(reply.split()) and all(
-            want in ("*", word) for want, word in zip(wanted.split(), reply.split())
+    for (event, expected), reply in zip(events, replies(workers, room, [event for event, _ in events])):
+        fits = len(expected.split()) == len(reply.split()) and all(
+            one in ("*", word) for one, word in zip(expected.split(), reply.split())
         )
-        expect(fits, f"{event}: the machine's reply is {reply!r}, the frontier's {wanted!r}")
+        expect(fits, f"{event}: the machine's reply is {reply!r}, the frontier's {expected!r}")
 
 
 # ---------------------------------------------------------------- random calls
@@ -173,9 +174,9 @@ class Model:
 
     def turn(self, place: int, hand: Hand, answer: str) -> None:
         word, _, rest = answer.partition(" ")
-        wanted = {"idle": ("taken", "idle", "closed"), "busy": ("done",), "closed": ("closed",),
-                  "seeds": ("ended",), "sends": ("ended",)}[hand.kind]
-        expect(word in wanted, f"next in the state {hand.kind}: {answer}")
+        expected = {"idle": ("taken", "idle", "closed"), "busy": ("done",), "closed": ("closed",),
+                    "seeds": ("ended",), "sends": ("ended",)}[hand.kind]
+        expect(word in expected, f"next in the state {hand.kind}: {answer}")
         if hand.kind in ("closed", "sends"):
             return
         self.tally[word] += 1
@@ -241,10 +242,10 @@ class Note(NamedTuple):
     late: bool
 
 
-def notes_of(told: list[str]) -> list[Note]:
+def notes_of(printed: list[str]) -> list[Note]:
     """Return the notes of the threads among the results of a run."""
     notes = []
-    for line in told:
+    for line in printed:
         words = line.split()
         if len(words) == 6 and words[0].isdigit():
             place, word, number, first, second, late = words
@@ -252,8 +253,8 @@ def notes_of(told: list[str]) -> list[Note]:
     return notes
 
 
-def entries_of(told: list[str]) -> list[list[str]]:
-    return [line.split()[1:] for line in told if line.startswith("entry ")]
+def entries_of(printed: list[str]) -> list[list[str]]:
+    return [line.split()[1:] for line in printed if line.startswith("entry ")]
 
 
 class Plan(NamedTuple):
@@ -287,16 +288,16 @@ def ending(plan: Plan) -> list[str]:
 
 
 def check_ends(plan: Plan) -> None:
-    for told in answers([ending(plan)] * plan.rounds):
-        check_end(plan, told)
+    for printed in answers([ending(plan)] * plan.rounds):
+        check_end(plan, printed)
 
 
-def check_end(plan: Plan, told: list[str]) -> None:
-    notes, entries = notes_of(told), entries_of(told)
+def check_end(plan: Plan, printed: list[str]) -> None:
+    notes, entries = notes_of(printed), entries_of(printed)
     expect(not any(note.late for note in notes), "a call did not see the closed gate")
-    last = told[1 + len(notes):1 + len(notes) + plan.workers + 2]
+    last = printed[1 + len(notes):1 + len(notes) + plan.workers + 2]
     expect(last == ["none 0 0"] * plan.workers + ["closed 0 0"] * 2, f"offers after closing: {last}")
-    expect("account 0 0" in told, f"the end: {told[-1]}")
+    expect("account 0 0" in printed, f"the end: {printed[-1]}")
     urls = [entry[4] for entry in entries]
     expect(len(set(urls)) == len(urls), "a page is in the account twice")
     accepted = sorted(page(note.page) for note in notes if note.word == "accepted")
@@ -337,9 +338,9 @@ def leaving(row: Sequence[tuple[int, int]]) -> list[str]:
 
 
 def check_left(row: Sequence[tuple[int, int]]) -> None:
-    told = answers([leaving(row)])[0]
-    notes = notes_of(told)
-    expect(told[-1] == "missing 0 0", f"the end: {told[-1]}")
+    printed = answers([leaving(row)])[0]
+    notes = notes_of(printed)
+    expect(printed[-1] == "missing 0 0", f"the end: {printed[-1]}")
     expect(not any(note.word == "closed" for note in notes), "the gate closed with pages in progress")
     took = Counter(note.place for note in notes if note.word == "took")
     for place, (at, busy) in enumerate(row):
@@ -431,8 +432,8 @@ def other_than(note: Note) -> Note:
 
 
 def check_steps(pages: int, workers: int) -> None:
-    told = answers([steps_in_threads(pages, workers)])[0]
-    notes, entries = notes_of(told), entries_of(told)
+    printed = answers([steps_in_threads(pages, workers)])[0]
+    notes, entries = notes_of(printed), entries_of(printed)
     traces = [[note for note in notes if note.place == place and note.word != "closed"] for place in range(workers)]
     order: dict[int, int] = {}
     queues: dict[int, int] = {}
@@ -483,6 +484,9 @@ def main() -> None:
     parser.add_argument("--jobs", type=int, default=1, metavar="N", help="number of checks at a time (default: 1)")
     parser.add_argument("--only", metavar="NAME", help="make only the check with this name, which a failure prints")
     given = parser.parse_args()
+    for program, crate in ((CALLS[0], "library_calls"), (PROGRAM, "mercator_cli")):
+        if shutil.which(program) is None:
+            sys.exit(f"frontier.py: no program {program} (run `rt run` in crates/{crate} to build it)")
     checks: list[tuple[str, Callable[..., None], tuple[object, ...]]] = []
     for number in range(given.count):
         for row in ROWS:

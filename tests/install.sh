@@ -145,6 +145,8 @@ by_package() {
     local file=$scratch/mercator.deb
     expect "install.sh --deb" sh -c './install.sh --program "$1" --deb "$2" && mv "$2"/mercator_*.deb "$2/mercator.deb"' sh "$program" "$scratch"
     expect "the package's description" is_described "$file"
+    expect "the package's version is that of the program" sh -c \
+        '[ "$(dpkg-deb --field "$1" Version)" = "$("$2" --version | cut -d " " -f 2)" ]' sh "$file" "$program"
     if command -v lintian > /dev/null; then
         expect "lintian" lintian --allow-root --fail-on error "$file"
     fi

@@ -2,13 +2,14 @@
 """Crawl a large saved web from a file of seeds by the built program, and compare the report.
 
 Usage: large_crawl.py [PROGRAM [WORKERS..]]
-PROGRAM is the path of the program [default: crates/mercator_cli/out/mercator_cli, which `rt run` in its crate's folder
-builds], WORKERS the numbers of workers [default: 1 4].
+PROGRAM is the path of the program [default: that in the environment variable PROGRAM, or else the built one], WORKERS
+the numbers of workers [default: 1 4].
 
 The saved web has 1,100,000 pages that can be reached from the seeds, 20,000 that cannot, and links to missing pages. The
 file of seeds has more than 2^20 bytes and the report tens of megabytes, so tables, lists and texts are larger than in any
 other test. The expected report is that of a search by this script through the graph of the pages, in the format of
-docs/FORMATS.md. The random choices have a fixed seed. The script stops with status 1 at the first run that fails.
+docs/FORMATS.md. The random choices have a fixed seed. The script stops with status 1 at the first run that fails, and
+prints the first line that differs.
 """
 import os
 import random
@@ -18,7 +19,8 @@ import tempfile
 import time
 from typing import Iterator, Optional, Tuple
 
-from stress_crawl import PROGRAM
+from checking.loading import program as built_program
+from stress_crawl import first_difference
 
 PAGES = 1_100_000
 BESIDE = 20_000  # additional pages that no page links to
@@ -96,7 +98,7 @@ def main() -> None:
     if arguments[:1] in (["-h"], ["--help"]):
         print(__doc__)
         return
-    program = arguments[0] if arguments else PROGRAM
+    program = arguments[0] if arguments else built_program()
     with tempfile.TemporaryDirectory() as folder:
         web, seeds, report = made(folder)
         sizes = f"{os.path.getsize(web)} bytes, seeds of {os.path.getsize(seeds)} bytes, a report of {len(report)} bytes"
@@ -106,7 +108,8 @@ def main() -> None:
             done = subprocess.run(command, stdin=subprocess.DEVNULL, capture_output=True, timeout=TIME_LIMIT, check=False)
             if (done.returncode, done.stdout, done.stderr) != (0, report, b""):
                 errors = done.stderr[:400].decode("utf-8", "replace")
-                sys.exit(f"{workers} workers: status {done.returncode}, {len(done.stdout)} of {len(report)} bytes: {errors}")
+                print(f"{workers} workers: status {done.returncode}, expected 0; {first_difference(done.stdout, report)}")
+                sys.exit(f"standard error: {errors}")
             print(f"{workers} workers: {time.monotonic() - start:.1f} s", flush=True)
     print(f"a saved web of {sizes}: all runs have the expected report")
 

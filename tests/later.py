@@ -110,8 +110,8 @@ def a_crawl_of_retries() -> None:
         for fetcher in fetchers:
             fetcher.join(SECONDS)
             expect(not fetcher.is_alive(), "a fetcher waits forever")
-    wanted = {host + path for host in hosts for path in ("", "a", "b", "a/b")}
-    expect(fetched == {url: 1 + len(url) % 4 for url in wanted}, "other URLs")
+    expected = {host + path for host in hosts for path in ("", "a", "b", "a/b")}
+    expect(fetched == {url: 1 + len(url) % 4 for url in expected}, "other URLs")
 
 
 # ---------------------------------------------------------------- the crawler
@@ -301,10 +301,10 @@ def killed() -> None:
             if process.wait() >= 0:
                 break
         lines = [line.split(" ") for line in output.splitlines() if line]
-        wanted = {web.url(1), *(web.url(host, path) for host in (1, 2, 3) for path in paths)}
-        expect(process.returncode == 0 and {line[2] for line in lines} == wanted, "other URLs")
+        expected = {web.url(1), *(web.url(host, path) for host in (1, 2, 3) for path in paths)}
+        expect(process.returncode == 0 and {line[2] for line in lines} == expected, "other URLs")
         expect({line[0] for line in lines} == {"200"}, f"{output}")
-        expect(len(lines) <= len(wanted) + 4 * kills, f"{len(lines)} lines, {kills} kills")
+        expect(len(lines) <= len(expected) + 4 * kills, f"{len(lines)} lines, {kills} kills")
 
 
 TESTS: Tuple[Callable[[], None], ...] = (

@@ -14,7 +14,7 @@ made.
   other arguments.
 - bash and zsh complete the commands, the options of each, and files where a value is a file. zsh runs
   in a terminal, if it is installed.
-- The version of CHANGELOG.md is that of the program, of the page and of the clients.
+- The version of CHANGELOG.md is that of the program, of the page, of the package that the manual names, and of the clients.
 
 It prints each difference, with a command that makes only this comparison, and at the end `N passed,
 M failed`. The exit status is 1 if anything differs.
@@ -155,19 +155,19 @@ def described_by_page(helps: Dict[str, Described]) -> Dict[str, Described]:
     described = {}
     for section in sections:
         command, _, rest = section.partition("\n")
-        wanted = helps.get(command, NOTHING)
-        sentences = {option.name: option.sentence for option in wanted.options}
+        expected = helps.get(command, NOTHING)
+        sentences = {option.name: option.sentence for option in expected.options}
         head, *paragraphs = re.split(r"^\.TP\n", rest, flags=re.M)
         options = []
         for paragraph in paragraphs:
             tag, _, body = paragraph.partition("\n")
             found = PAGE_OPTION.match(plain(tag.replace("\\-", "-")))
             if found:
-                told = plain(body)
-                default = PAGE_DEFAULT.search(told)
-                sentence = sentence_in(told, sentences.get(found[1], ""))
+                body_text = plain(body)
+                default = PAGE_DEFAULT.search(body_text)
+                sentence = sentence_in(body_text, sentences.get(found[1], ""))
                 options.append(Option(found[1], found[2], default[1] if default else None, sentence))
-        about = sentence_in(plain(head), wanted.about)
+        about = sentence_in(plain(head), expected.about)
         described[command] = Described(about, options, arguments.get(command, set()))
     return described
 
@@ -196,31 +196,32 @@ def described_by_manual(helps: Dict[str, Described]) -> Dict[str, Described]:
     for heading in MANUAL_HEADING.finditer(text):
         rest = text[heading.end():]
         section = re.split(r"^#", rest, maxsplit=1, flags=re.M)[0]
-        wanted = helps.get(heading[1], NOTHING)
-        about = sentence_in(without_marks(section.strip()), wanted.about)
+        expected = helps.get(heading[1], NOTHING)
+        about = sentence_in(without_marks(section.strip()), expected.about)
         rows = [cells_of(line) for line in section.splitlines() if line.startswith("|")]
-        options = [option for row in rows[2:] if (option := option_of(rows[0], row, wanted))]
+        options = [option for row in rows[2:] if (option := option_of(rows[0], row, expected))]
         arguments = set(re.findall(r"\b[A-Z]+\b", heading[2])) - {"OPTIONS"}
         described[heading[1]] = Described(about, options, arguments)
     return described
 
 
 def without_marks(text: str) -> str:
-    return text.replace("`", "").replace("*", "")
+    """A text without the marks of code and of emphasis. A star in the middle of a word is no mark."""
+    return re.sub(r"(?<![\w/])\*+|\*+(?![\w.])", "", text.replace("`", ""))
 
 
 def cells_of(row: str) -> List[str]:
     return [without_marks(cell).strip() for cell in row.strip().strip("|").split("|")]
 
 
-def option_of(titles: List[str], cells: List[str], wanted: Described) -> Optional[Option]:
+def option_of(titles: List[str], cells: List[str], expected: Described) -> Optional[Option]:
     """The option of a row, whose cells have these titles."""
     row = dict(zip(titles, cells))
     found = MANUAL_OPTION.match(row.get("Option", ""))
     if not found:
         return None
     cell = row.get("What it does", "")
-    for option in wanted.options:
+    for option in expected.options:
         if option.name == found[1]:
             cell = sentence_in(cell, option.sentence)
     return Option(found[1], found[2], row.get("Default") or None, cell)
@@ -294,18 +295,18 @@ class Trial:
         self.passed = self.failed = 0
         self.program, self.only = program, only
 
-    def equal(self, what: str, found: object, wanted: object) -> None:
+    def equal(self, what: str, found: object, expected: object) -> None:
         if self.only not in (None, what):
             return
-        self.passed += found == wanted
-        if found != wanted:
+        self.passed += found == expected
+        if found != expected:
             self.failed += 1
             print(f"{what}: FAILED")
-            if isinstance(found, set) and isinstance(wanted, set):
-                print(f"    missing: {sorted(map(str, wanted - found))}")
-                print(f"    unknown: {sorted(map(str, found - wanted))}")
+            if isinstance(found, set) and isinstance(expected, set):
+                print(f"    missing: {sorted(map(str, expected - found))}")
+                print(f"    unknown: {sorted(map(str, found - expected))}")
             else:
-                print(f"    found:    {found}\n    expected: {wanted}")
+                print(f"    found:    {found}\n    expected: {expected}")
             words = [sys.argv[0], "--only", what, self.program]
             print(f"    to run only this: {shlex.join(words)}")
 
@@ -314,15 +315,15 @@ def compare_text(
     trial: Trial, text: str, found: Dict[str, Described], helps: Dict[str, Described]
 ) -> None:
     """Compares what a text says of each command with the help."""
-    for command, wanted in helps.items():
+    for command, expected in helps.items():
         ours = found.get(command, NOTHING)
-        trial.equal(f"{text}: description of {command}", ours.about, wanted.about)
-        names = [option.name for option in wanted.options]
+        trial.equal(f"{text}: description of {command}", ours.about, expected.about)
+        names = [option.name for option in expected.options]
         trial.equal(f"{text}: options of {command}", [option.name for option in ours.options], names)
         by_name = {option.name: option for option in ours.options}
-        for option in wanted.options:
+        for option in expected.options:
             trial.equal(f"{text}: {command} --{option.name}", by_name.get(option.name), option)
-        trial.equal(f"{text}: arguments of {command}", ours.arguments, wanted.arguments)
+        trial.equal(f"{text}: arguments of {command}", ours.arguments, expected.arguments)
 
 
 def compare_page(trial: Trial, about: str, helps: Dict[str, Described]) -> None:
@@ -348,15 +349,15 @@ def compare_manual(trial: Trial, helps: Dict[str, Described]) -> None:
 def compare_shell(trial: Trial, helps: Dict[str, Described], shell: str, offered: Offered) -> None:
     commands = offered(("",)) - {"--help", "--version"}
     trial.equal(f"{shell}: commands", commands, {*helps, "help"})
-    for command, wanted in helps.items():
-        options = {f"--{option.name}" for option in wanted.options} | {"--help"}
+    for command, expected in helps.items():
+        options = {f"--{option.name}" for option in expected.options} | {"--help"}
         trial.equal(f"{shell}: options of {command}", offered((command, "--")), options)
-        for option in wanted.options:
+        for option in expected.options:
             if option.value:
                 files = {FILE} if option.value in FILES else set()
                 found = offered((command, f"--{option.name}", FILE[:1])) & {FILE}
                 trial.equal(f"{shell}: files for {command} --{option.name}", found, files)
-        if "FILE" in wanted.arguments:
+        if "FILE" in expected.arguments:
             trial.equal(f"{shell}: files for {command}", offered((command, FILE[:1])), {FILE})
 
 
@@ -379,6 +380,8 @@ def compare_versions(trial: Trial, program: str) -> None:
     trial.equal("the version of the Python clients", clients, version)
     trial.equal("the version of the Node client", version_in("clients/node/package.json", '  "version": "'), f"{version}.0")
     trial.equal("the version of the Go client", version_in("clients/go/README.md", "go mod edit -require=mercator.example/frontier@v"), f"{version}.0")
+    packages = set(re.findall(r"mercator_([0-9.]+)_amd64\.deb", MANUAL.read_text()))
+    trial.equal("the manual: version of the package", packages, {version})
 
 
 def main() -> None:

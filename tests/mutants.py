@@ -1,15 +1,15 @@
 """Try mutants (wrong bodies), several in one check, for tests/mutants.sh.
 
 Usage: mutants.py CLONE AT_ONCE CRATE | CRATE/NAME ..
-CLONE is a clean clone whose libraries are built, AT_ONCE the number of crates that are tried at a time. A mutant is an
-edit, the file crates/CRATE/mutants/NAME.edit.
+CLONE is a clean clone whose libraries are built, with what checks have proved of CRATE, if any. AT_ONCE is the number of
+crates that are tried at a time. A mutant is an edit, the file crates/CRATE/mutants/NAME.edit.
 
 The prover must leave a goal open for each edit. A check of several edits shows only that an edit is refused, by such a
 goal, for these reasons:
 
 - A proof uses only the contracts of other functions, not their bodies, unless functions call each other in a cycle. So
   an edit of a body can only leave goals of its own function open, or of its cycle.
-- The modules of all edits are first proved without the edits, so an open goal is caused by an edit.
+- The functions or modules of all edits are first proved without the edits, so an open goal is caused by an edit.
 - The edits of one check are in functions with different names, so the function of a goal shows which edit causes it. A
   goal of a cycle shows nothing. If a goal of a function is open that no edit changes, the result of the check is ignored.
 - An error does not count as a goal if it only says that something that an edit removed is missing, or that a limit was
@@ -40,6 +40,8 @@ FUNCTION = re.compile(
     r"((?:\1 .*\n|\n)*)\1\}\n",
     re.MULTILINE,
 )
+# The line before the methods of a type, which are no methods of a trait.
+METHODS = re.compile(r"impl(?:<.*>)? (\w+)(?:<.*>)? \{")
 # A goal without a written proof that `search` does not prove, and one whose written proof is rejected.
 UNPROVED = re.compile(r"fn \S+: .*\bproofs/(\S+)/(?:Answers|Proof)\.antt; `search` did not prove `")
 REJECTED = re.compile(r"(?:note: )?(?:\./)?proofs/(\S+)/(?:Answers|Proof)\.antt:\d+:\d+: error: ")
@@ -64,10 +66,11 @@ class Edit(NamedTuple):
     name: str
     changes: Tuple[Change, ...]
     functions: FrozenSet[str]
+    paths: FrozenSet[str]  # of the functions as a check names them, or of the modules
 
-    def modules(self) -> List[str]:
+    def modules(self) -> FrozenSet[str]:
         """Return the modules of its files as a check names them; the name is empty if a file is not a module."""
-        return sorted({module_of(change.file) for change in self.changes})
+        return frozenset(module_of(change.file) for change in self.changes)
 
 
 def changes_of(edit: Path) -> Tuple[Change, ...]:
@@ -99,19 +102,30 @@ def applied(changes: Sequence[Change], texts: Texts) -> Optional[Texts]:
     return texts
 
 
-def functions_of(changes: Sequence[Change], texts: Texts) -> FrozenSet[str]:
-    """Return the functions whose bodies the changes are in; none if a change is elsewhere, or contains a function."""
-    names = set()
+def functions_of(changes: Sequence[Change], texts: Texts) -> Dict[str, str]:
+    """Return the functions whose bodies the changes are in, with their paths; none if a change is elsewhere, or contains a
+    function.
+    """
+    paths: Dict[str, str] = {}
     for change in changes:
         text = texts[change.file]
         start = text.index(change.old)
         end = start + len(change.old)
-        name = next((it[2] for it in FUNCTION.finditer(text) if it.start(3) <= start and end <= it.end(3)), None)
-        if name is None or re.search(r"\bfn\b", change.new):
-            return frozenset()
-        names.add(name)
+        found = next((it for it in FUNCTION.finditer(text) if it.start(3) <= start and end <= it.end(3)), None)
+        if found is None or re.search(r"\bfn\b", change.new):
+            return {}
+        paths[found[2]] = path_of(found, text, module_of(change.file))
         texts = {**texts, change.file: text.replace(change.old, change.new)}
-    return frozenset(names)
+    return paths
+
+
+def path_of(function: re.Match[str], text: str, module: str) -> str:
+    """Return the path of a function of this module, as a check names it. For a method of a trait it is that of the module."""
+    if not function[1]:
+        return f"{module}::{function[2]}"
+    *_, opened = re.findall(r"^\S.*\{$|^\{$", text[: function.start()], re.MULTILINE)
+    methods = METHODS.fullmatch(opened)
+    return f"{module}::{methods[1]}::{function[2]}" if methods else module
 
 
 def batches(edits: Sequence[Edit], texts: Texts) -> Iterator[List[Edit]]:
@@ -163,6 +177,7 @@ class Crate:
         self.tree = clone.parent / f"tree-{name}"
         self.folder = self.tree / "crates" / name
         self.work, self.proved = self.folder / "out/incremental", self.tree / "proved"
+        self.kept = clone / "crates" / name / "out/incremental"
         self.memory = memory_of(clone / "crates" / name)
 
     def try_all(self) -> int:
@@ -172,12 +187,12 @@ class Crate:
         refused = 0
         if self.is_proved(edits):
             for batch in batches(edits, self.texts(edits)):
-                refused += self.tell(self.tried(batch))
+                refused += self.print_results(self.tried(batch))
             for edit in edits:
                 if edit.name in self.paths:
-                    refused += self.tell(self.tried([edit]))
-            refused += self.tell(self.tried_by_ci())
-        self.tell(dict.fromkeys(self.paths, "NOT TRIED"))
+                    refused += self.print_results(self.tried([edit]))
+            refused += self.print_results(self.tried_by_ci())
+        self.print_results(dict.fromkeys(self.paths, "NOT TRIED"))
         shutil.rmtree(self.tree)
         return refused
 
@@ -187,17 +202,20 @@ class Crate:
             shutil.copy(self.clone / name, self.tree)
         left_out = shutil.ignore_patterns("must-fail", "mutants", "incremental")
         shutil.copytree(self.clone / "crates", self.tree / "crates", ignore=left_out, copy_function=os.link)
+        if self.kept.is_dir():
+            shutil.copytree(self.kept, self.work, copy_function=link_proved)
 
     def read(self, path: Path) -> Optional[Edit]:
         """Return the edit, or None if it can only be tried by `rt must-fail`."""
         changes = changes_of(path)
-        edit = Edit(path.stem, changes, frozenset())
+        edit = Edit(path.stem, changes, frozenset(), frozenset())
         if not changes or not all(edit.modules()):
             return None
         texts = self.texts([edit])
         if applied(changes, texts) in (None, texts):
             return None
-        return edit._replace(functions=functions_of(changes, texts))
+        paths = functions_of(changes, texts)
+        return edit._replace(functions=frozenset(paths), paths=frozenset(paths.values()) or edit.modules())
 
     def texts(self, edits: Sequence[Edit]) -> Texts:
         """Return the current texts of the edits' files."""
@@ -205,8 +223,11 @@ class Crate:
         return {file: path.read_text("utf-8") for file in files for path in [self.folder / file] if path.is_file()}
 
     def is_proved(self, edits: Sequence[Edit]) -> bool:
-        """Return whether the edits' modules are proved without the edits. The other checks start from its work."""
+        """Return whether the edits' functions are proved without the edits. The other checks start from its work."""
         status, output = self.check(edits)
+        if status and self.kept.is_dir():
+            shutil.rmtree(self.work, ignore_errors=True)
+            status, output = self.check(edits)
         if status:
             print(f"{self.name}: not proved without edits:\n{output[-2000:]}", flush=True)
             return False
@@ -232,9 +253,9 @@ class Crate:
         shutil.copytree(self.proved, self.work, copy_function=link_proved)
 
     def check(self, edits: Sequence[Edit]) -> Tuple[int, str]:
-        """Check the modules of the edits, or all if there are none, and return the status and the output."""
-        modules = sorted({module for edit in edits for module in edit.modules()})
-        only = [word for module in modules for word in ("--only", module)]
+        """Check the functions or modules of the edits, or all if there are none, and return the status and the output."""
+        paths = sorted({path for edit in edits for path in edit.paths})
+        only = [word for path in paths for word in ("--only", path)]
         return run(["rt", "check", "--jobs", "1", *only], self.folder)
 
     def write(self, texts: Texts) -> None:
@@ -258,7 +279,7 @@ class Crate:
             print(f"{self.name}: `rt must-fail` did not finish:\n{output[-2000:]}", flush=True)
         return dict(answers)
 
-    def tell(self, answers: Dict[str, str]) -> int:
+    def print_results(self, answers: Dict[str, str]) -> int:
         """Print the results of edits, and return how many are refused."""
         for name, answer in answers.items():
             print(f"{self.name}/{name}: {answer}", flush=True)
@@ -340,10 +361,10 @@ def main() -> int:
         if not found:
             print(f"{name}: NOT TRIED: there is no such mutant", flush=True)
             lost += 1
-    wanted = sum(map(len, by_crate.values()))
+    count = sum(map(len, by_crate.values()))
     crates = [Crate(clone, name, list(edits.values())) for name, edits in by_crate.items() if edits]
     refused = try_crates(crates, at_once)
-    failed = wanted - refused + lost
+    failed = count - refused + lost
     print(f"{refused} passed, {failed} failed")
     return 1 if failed else 0
 

@@ -1,6 +1,7 @@
 #!/bin/bash
 # Tries the mutants (wrong bodies) in crates/NAME/mutants, which are not part of CI: the prover must refuse each. It works on a
-# temporary clone of the last commit, and uses the libraries that are built here. tests/mutants.py tries and judges the mutants.
+# temporary clone of the last commit, and uses the libraries that are built here, and what checks of the crates here have proved.
+# tests/mutants.py tries and judges the mutants.
 #
 # Usage: tests/mutants.sh [-j N] [CRATE | CRATE/NAME ..]
 # CRATE is all mutants of a crate, CRATE/NAME one of them [default: all]. N is the number of crates that are tried at a time
@@ -21,6 +22,13 @@ git clone -q . "$clone" || exit 1
 # A library is proved again if its sources differ from the clone's, or if `rt ci` built it, which leaves no stamp.
 for library in crates/*/out/rlib; do
     if [ -f "$library/stamp" ]; then mkdir -p "$clone/${library%/rlib}" && cp -r "$library" "$clone/$library"; fi
+done
+
+# What checks of a crate here have proved need not be proved again.
+for crate in $(printf '%s\n' "${@%%/*}" | sort -u); do
+    if [ -d "crates/$crate/out/incremental" ]; then
+        mkdir -p "$clone/crates/$crate/out" && cp -r "crates/$crate/out/incremental" "$clone/crates/$crate/out"
+    fi
 done
 
 # The libraries are built first, because two checks could otherwise build the same one at the same time.

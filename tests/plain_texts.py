@@ -14,7 +14,7 @@ import sys
 import tempfile
 from typing import List
 
-PROGRAM = os.path.join(os.path.dirname(os.path.abspath(__file__)), "../crates/library_calls/out/library_calls")
+PROGRAM = os.path.join(os.path.dirname(os.path.dirname(os.path.abspath(__file__))), "crates/library_calls/out/library_calls")
 
 # One or more characters of each class that the scan or the parser treats differently. A line feed would end a line of the
 # output, so only the tab represents the characters that the parser removes.
@@ -114,6 +114,8 @@ def main() -> None:
     parser.add_argument("--count", type=int, default=100000, metavar="N", help="number of texts (default: 100000)")
     parser.add_argument("--seed", type=int, default=1, metavar="N", help="seed of the random texts (default: 1)")
     options = parser.parse_args()
+    if not os.path.isfile(PROGRAM):
+        sys.exit(f"no such file: {PROGRAM} (run `rt run` in crates/library_calls to build it)")
     draw = random.Random(options.seed)
     texts, lines = [], []
     for _ in range(options.count // 2):

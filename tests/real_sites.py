@@ -192,7 +192,8 @@ def option_of(site: Site) -> str:
 def is_named(option: str, site: Site, rows: List[Row]) -> bool:
     """Whether the report of a check names an option that the site needs."""
     if option == "BASE":
-        return any(row["kind"] == "hint" and row["base"] == "/" + site.base[len(generators.BASE):] for row in rows)
+        names = (site.base, "/" + site.base[len(generators.BASE):])
+        return any(row["kind"] == "hint" and row["base"] in names for row in rows)
     return any(option in (row.get("hint") or "") for row in rows)
 
 
@@ -205,8 +206,8 @@ def option_differences(program: str, site: Site) -> List[str]:
     found = differences(rows, Model(site.folder, settings_of(plain)).rows())
     if not option:
         found += planted_fault(plain, findings_of(rows, NOWHERE))
-    elif is_named(option, site, rows) != site.is_hinted:
-        found.append(f"{option} is {'not named' if site.is_hinted else 'named'}")
+    elif not is_named(option, site, rows):
+        found.append(f"{option} is not named")
     found = [f"without options: {one}" for one in found]
     if site.fallback:
         only = plain._replace(fallback=True)

@@ -139,18 +139,18 @@ class Growths:
     def all_of(self, command: Command, numbers: Iterable[int], pool: ThreadPoolExecutor) -> tuple[int, int]:
         """Return the number of the last allocation that the command made, and how many runs failed."""
         whole = self.run(command, 0, f"{self.scratch}/none")
-        failed = asked = 0
+        failed = last = 0
         rest = iter(numbers)
         while batch := list(islice(rest, 4 * AT_ONCE)):
             found = list(pool.map(lambda number: self.wrong(command, number, whole), batch))
             for number, (text, met) in zip(batch, found):
-                asked = max(asked, number) if met else asked
+                last = max(last, number) if met else last
                 if text:
                     failed += 1
                     print(f"{command.name(self.scratch)}: allocation {number}: {text}")
             if not all(met for _, met in found):
                 break
-        return asked, failed
+        return last, failed
 
     def commands(self) -> int:
         failed = 0
@@ -159,14 +159,14 @@ class Growths:
             first_page = next(web).split(" ", 1)[1].strip()
         with ThreadPoolExecutor(AT_ONCE) as pool:
             for command in commands_with(self.scratch):
-                asked, wrongs = self.all_of(command, range(1, 1_000_000), pool)
+                last, wrongs = self.all_of(command, range(1, 1_000_000), pool)
                 failed += wrongs
-                print(f"{asked:6} allocations: mercator {command.name(self.scratch)}", flush=True)
+                print(f"{last:6} allocations: mercator {command.name(self.scratch)}", flush=True)
             pages = Command(["crawl", "--workers", "2", f"{self.scratch}/pages.web", first_page])
-            asked, wrongs = self.all_of(pages, (1_000, 3_000, 10_000, 10_001, 10_002, 10_003), pool)
+            last, wrongs = self.all_of(pages, (1_000, 3_000, 10_000, 10_001, 10_002, 10_003), pool)
             failed += wrongs
-            print(f"a crawl of 2,000 pages: some allocations up to {asked} failed")
-            if asked < 10_000:
+            print(f"a crawl of 2,000 pages: some allocations up to {last} failed")
+            if last < 10_000:
                 failed += 1
                 print("it makes fewer than 10,000 allocations")
         return failed

@@ -2,24 +2,28 @@
 """Crawl random saved webs by the built program with different numbers of workers, many times, and compare each report.
 
 Usage: stress_crawl.py [PROGRAM [WEBS [TIMES]]]
-PROGRAM is the path of the program [default: crates/mercator_cli/out/mercator_cli, which `rt run` in its crate's folder
-builds], WEBS the number of saved webs [default: 50], TIMES the number of runs with each number of workers [default: 20].
+PROGRAM is the path of the program [default: that in the environment variable PROGRAM, or else the built one], WEBS the
+number of saved webs [default: 50], TIMES the number of runs with each number of workers [default: 20].
 
 Each saved web is crawled with 1, 2, 3, 8, 64 and 512 workers. The expected report is that of a search by this script
 through the graph of the pages, in the format of docs/FORMATS.md. The random choices have a fixed seed. The script stops
-with status 1 at the first run that fails, and prints which one it is.
+with status 1 at the first run that fails. It then prints the first line that differs, and a command that makes the same
+crawl of the saved web, which is kept.
 """
 from __future__ import annotations
 
+import itertools
 import os
 import random
+import shlex
 import subprocess
 import sys
+import tempfile
 import time
 from typing import Iterator
 
-ROOT = os.path.dirname(os.path.dirname(os.path.abspath(__file__)))
-PROGRAM = os.path.join(ROOT, "crates", "mercator_cli", "out", "mercator_cli")
+from checking.loading import program as built_program
+
 WORKERS = (1, 2, 3, 8, 64, 512)
 SEED = 20_261_122
 TIME_LIMIT = 60  # seconds per run
@@ -94,11 +98,31 @@ class Web:
             return f"ok {len(self.links[page]) + self.skipped[page]} {self.skipped[page]} {url}\n"
         return f"{'moved' if self.kinds[page] == MOVED else 'missing'} {url}\n"
 
+    def command(self, program: str, workers: int) -> list[str]:
+        """The command that crawls the web from standard input."""
+        return [program, "crawl", "--workers", str(workers), "-"] + [self.urls[page] for page in self.seeds]
+
     def crawled(self, program: str, workers: int) -> tuple[int, bytes]:
         """Crawl by the program, and return the status and the output."""
-        command = [program, "crawl", "--workers", str(workers), "-"] + [self.urls[page] for page in self.seeds]
+        command = self.command(program, workers)
         done = subprocess.run(command, input=self.bytes, stdout=subprocess.PIPE, timeout=TIME_LIMIT, check=False)
         return done.returncode, done.stdout
+
+
+def first_difference(actual: bytes, expected: bytes) -> str:
+    """The first line in which two reports differ."""
+    lines = itertools.zip_longest(actual.split(b"\n"), expected.split(b"\n"))
+    for number, (one, other) in enumerate(lines, 1):
+        if one != other:
+            return f"line {number} of the report is {one!r}, expected {other!r}"
+    return "the reports are the same"
+
+
+def kept(web: bytes) -> str:
+    """Write a saved web to a file that stays, and return its path."""
+    with tempfile.NamedTemporaryFile(prefix="stress-", suffix=".web", delete=False) as file:
+        file.write(web)
+        return file.name
 
 
 def main() -> None:
@@ -106,7 +130,7 @@ def main() -> None:
     if arguments[:1] in (["-h"], ["--help"]):
         print(__doc__)
         return
-    program = arguments[0] if arguments else PROGRAM
+    program = arguments[0] if arguments else built_program()
     webs, times = map(int, arguments[1:] + ["50", "20"][len(arguments[1:]) :])
     rng = random.Random(SEED)
     start, pages = time.monotonic(), 0
@@ -118,7 +142,8 @@ def main() -> None:
             for turn in range(times):
                 status, out = web.crawled(program, workers)
                 if status != 0 or out != report:
-                    sys.exit(f"web {number}, {workers} workers, run {turn}: status {status}, {len(out)} of {len(report)} bytes")
+                    print(f"web {number}, {workers} workers, run {turn}: status {status}, expected 0; {first_difference(out, report)}")
+                    sys.exit(f"the same crawl: {shlex.join(web.command(program, workers))} < {kept(web.bytes)}")
     runs = webs * len(WORKERS) * times
     print(f"{runs} runs on {webs} saved webs of {pages} pages: all have the expected report, in {time.monotonic() - start:.0f} s")
 

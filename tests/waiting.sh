@@ -28,5 +28,6 @@ hundredths() {
 
 one=$(hundredths 1)
 many=$(hundredths 64)
+most=$((3 * one + 100))
 echo "CPU time in hundredths of a second: $one with one worker, $many with 64 workers, of which 63 wait"
-[ "$many" -le $((3 * one + 100)) ]
+[ "$many" -le "$most" ] || { echo "FAILED: expected at most $most with 64 workers" >&2; exit 1; }

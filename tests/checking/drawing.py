@@ -15,6 +15,7 @@ from typing import Any, List, NamedTuple, Tuple
 from urllib.parse import quote as escaped
 
 from checking import feeds
+from checking.documents import TOOL
 from checking.model import HOSTS
 
 NAMES = """index.html index.html index.html a.html b.htm c d.txt e%20f.html g h.html \u00fc.html i?j.html k#l.html m+n.html [o].html p&q.html
@@ -379,6 +380,22 @@ def link_out(draw: Random, prefix: str, folder: Path, place: str) -> str:
     up = "../" * place.count("/") if prefix.startswith(".") else ""
     slash = "" if prefix.endswith("/") or not name and draw.random() < 0.5 else "/"
     return up + prefix + slash + spelled(draw, name) + draw.choice([*ENDS[:14], "#gone"])
+
+
+# URLs that are not that of the folder, below which a site may be
+WHOLE = ["http://other.test/", "https://docs.test/", "http://docs.test/p/q/", "HTTPS://Docs.Test:443/\u00fc/", "http://other.test/1/2/3/4/5/", "http://other.test/1/2/3/4/5/6/", "//other.test/p/"]
+
+
+def add_whole_links(draw: Random, top: Path) -> None:
+    """Adds a document with many links to the files of the folder as if these were below another URL, and with some below a second one."""
+    names = sorted(os.path.relpath(path, top) for path in top.rglob("*") if path.is_file())
+    urls, share, odd = draw.choices(WHOLE, k=2), draw.choice([0, 0, 0, 0.3, 0.5]), draw.choice([0.1, 0.1, 0.3, 0.6])
+    links = []
+    for _ in range(draw.choice([2, 4, 40, 80, 150, 150])):
+        name = draw.choice(names)
+        name = escaped(name.encode("utf-8", "surrogateescape"), TOOL.IN_NAME + "/") if draw.random() > odd else draw.choice([spelled(draw, name), "", "gone.html", "sub/gone", "index.html"])
+        links.append(urls[draw.random() < share] + name + draw.choice(ENDS[:12]))
+    write(top / "whole.html", "".join(f'<a href="{html.escape(link)}">' for link in links).encode("utf-8", "replace"))
 
 
 # Where files are moved

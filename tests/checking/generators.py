@@ -23,7 +23,6 @@ class Style(NamedTuple):
     path: str = ""  # the path of the site on its host
     fallback: bool = False  # whether links omit the suffix .html
     leaving: FrozenSet[str] = frozenset()  # the targets, on the host of the site, that are not below its path
-    is_hinted: bool = True  # whether a check without the option that the site needs names the option
 
 
 def style(name: str, broken: str, path: str = "", leaving: str = "", **settings: str) -> Style:
@@ -129,7 +128,7 @@ HUGO_STYLES = [
     # `relURL` does not add the path of the site to a path that begins with a slash
     style("path", "about/#missing about/#nowhere about/gone.gif gone/", "blog/", "/ /img/dot.gif /nothing/"),
     # All links are URLs with a host, so without BASE they lead to another site
-    style("canonical", "about/#missing about/#nowhere about/gone.gif gone/ nothing/", "blog/", canonifyURLs="true")._replace(is_hinted=False),
+    style("canonical", "about/#missing about/#nowhere about/gone.gif gone/ nothing/", "blog/", canonifyURLs="true"),
 ]
 
 
@@ -215,7 +214,7 @@ GENERATORS: Dict[str, Tuple[str, Callable[[Path, Style], Path], List[Style]]] = 
 def site_of(name: str, folder: Path, kind: Style) -> Site:
     """The site of this style in a folder."""
     leaving = frozenset(BASE[:-1] + path for path in kind.leaving)
-    return Site(name, str(folder), BASE + kind.path, (), kind.broken, leaving, kind.fallback, kind.is_hinted)
+    return Site(name, str(folder), BASE + kind.path, (), kind.broken, leaving, kind.fallback)
 
 
 def sites(scratch: Path, names: List[str]) -> Iterator[Site]:

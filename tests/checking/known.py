@@ -56,6 +56,7 @@ INDICES = (("indices", ("home.html", "index.htm")),)
 FALLBACK = (("fallback", True),)
 FOLLOW = (("follow", True),)
 LONG = "/".join(["%" * 200] * 8)  # a path with 1,607 bytes, and 4,807 in a URL
+ALMOST_LONG = 5 * ("\u00fc" * 127 + "/") + "\u00fc" * 43  # a path with 4,073 bytes in a URL
 NO_BASE = (("base", NOWHERE), ("front", NOWHERE), ("external", True))
 NO_STYLES = (("styles", False),)
 # A site with documents that the top does not lead to. Two of them lead to each other
@@ -334,6 +335,11 @@ KNOWN = [
         {"index.html": f"<a href={LONG}/>", f"{LONG}/index.html": "<a href=no>"},
         [f"{LONG}/ index.html:1:9", LONG.replace("%", "%25") + "/"],
         total(pages=1, links=1, redirects=0, aliases=0),
+    ),
+    Known(
+        "a link without the suffix to a page whose own URL is too long for a line", {"index.html": f"<a href={ALMOST_LONG}>", f"{ALMOST_LONG}.html": "<a href=no>"},
+        [ALMOST_LONG.replace("\u00fc", "%C3%BC") + " index.html:1:9", ALMOST_LONG.replace("\u00fc", "%C3%BC") + ".html"],
+        total(pages=1, links=1, redirects=0, aliases=0), settings=FALLBACK,
     ),
     Known(
         "escaped slashes",
@@ -813,6 +819,61 @@ KNOWN = [
         "the folder of a path from the root with signs of URLs", {"index.html": "<a href='/a b/x'><a href=/a-b_c.d~1/y><a href='\t/a-b_c.d~1/z'>"},
         ["a%20b/x index.html:1:10", "a-b_c.d~1/y index.html:1:26", "a-b_c.d~1/z index.html:1:48"],
         ({"kind": "hint", "base": "/a-b_c.d~1/", "paths": 2, "of": 2},), settings=NO_BASE,
+    ),
+    Known(
+        "links with the host of the site, without BASE",
+        {"index.html": "<a href=http://h.test/p/a.html#x><a href=http://h.test/p/?q><a href=d/gone>", "a.html": "<img src=http://h.test/p/gone.png><a href=mailto:x>"},
+        ["d/gone index.html:1:69"], ({"kind": "hint", "base": "http://h.test/p/", "paths": 3, "of": 4},), settings=NO_BASE,
+    ),
+    Known(
+        "links with the host of the site, at its top", {"index.html": "<a href=https://h.test/d/index.html><a href=https://h.test/d/>", "d/index.html": ""}, [],
+        ({"kind": "hint", "base": "https://h.test/", "paths": 2, "of": 2},), settings=NO_BASE,
+    ),
+    Known(
+        "as many links with a host as without one", {"index.html": "<a href=http://o.test/a.html><a href=http://o.test/b.html><a href=a.html><a href=b.html>", "a.html": "", "b.html": ""}, [],
+        settings=NO_BASE, without=("hint",),
+    ),
+    Known(
+        "links with a host, and an alias, which has a link to the file's own URL",
+        {"index.html": "<a href=http://o.test/a.html><a href=http://o.test/b.html><a href=a.html?x>", "a.html": "", "b.html": ""}, [], settings=NO_BASE, without=("hint",),
+    ),
+    Known(
+        "links to another site with few pages of the folder", {"index.html": "<a href=http://o.test/a.html><a href=http://o.test/b.html><a href=http://o.test/c.html>", "a.html": ""}, [],
+        settings=NO_BASE, without=("hint",),
+    ),
+    Known(
+        "links with a host that lead to redirects", {"index.html": "<a href=http://o.test/d><a href=http://o.test/e><a href=http://o.test/d/>", "d/index.html": "", "e/index.html": ""}, [],
+        settings=NO_BASE, without=("hint",),
+    ),
+    Known("one link with a host", {"index.html": "<a href=http://o.test/a.html>", "a.html": ""}, [], settings=NO_BASE, without=("hint",)),
+    Known(
+        "the first of two hosts", {"index.html": "<a href=http://o.test/a.html><a href=http://h.test/a.html><a href=http://h.test/b.html><a href=http://o.test/b.html>", "a.html": "", "b.html": ""}, [],
+        ({"kind": "hint", "base": "http://o.test/", "paths": 2, "of": 4},), settings=NO_BASE,
+    ),
+    Known(
+        "the first of two hosts, which has other pages",
+        {"index.html": "<a href=http://o.test/c.html><a href=http://h.test/a.html><a href=http://h.test/b.html><a href=http://o.test/d.html>", "a.html": "", "b.html": ""}, [],
+        settings=NO_BASE, without=("hint",),
+    ),
+    Known(
+        "links with a host and five folders", {"index.html": "<a href=http://h.test/1/2/3/4/5/a.html><a href=http://h.test/1/2/3/4/5/b/c>", "a.html": ""}, [],
+        ({"kind": "hint", "base": "http://h.test/1/2/3/4/5/", "paths": 2, "of": 2},), settings=NO_BASE,
+    ),
+    Known("links with a host and six folders", {"index.html": "<a href=http://h.test/1/2/3/4/5/6/a.html><a href=http://h.test/1/2/3/4/5/6/>", "a.html": ""}, [], settings=NO_BASE, without=("hint",)),
+    Known(
+        "paths from the root, and links with the host of the site",
+        {"index.html": "<a href=/p/a><a href=/p/b><a href=http://h.test/p/c.html><a href=http://h.test/p/><a href=http://h.test/p/c.html>", "c.html": ""},
+        ["p/a index.html:1:9", "p/b index.html:1:22"], ({"kind": "hint", "base": "/p/", "paths": 2, "of": 2},), settings=NO_BASE,
+    ),
+    Known("links above the folder", {"index.html": "<a href=../a.html><a href=../../b.html>", "a.html": ""}, ["../../b.html index.html:1:27", "../a.html index.html:1:9"], settings=NO_BASE, without=("hint",)),
+    Known(
+        "links with another scheme than BASE", {"index.html": "<a href=https://docs.test/a.html><a href=https://docs.test/#x><a href=a.html>", "a.html": ""}, [],
+        ({"kind": "hint", "base": "https://docs.test/", "paths": 2, "of": 3},),
+    ),
+    Known(
+        "links with another path than BASE", {"index.html": "<a href=/p/a.html><a href='/p/b%20c.html?q'><a href=d>", "a.html": "", "b c.html": ""},
+        ["http://docs.test/p/a.html index.html:1:9", "http://docs.test/p/b%20c.html?q index.html:1:28", "q/d index.html:1:53"],
+        ({"kind": "hint", "base": "http://docs.test/p/", "paths": 2, "of": 3},), settings=(("base", "http://docs.test/q/"),),
     ),
     Known(
         "documents that no sitemap lists",

@@ -25,6 +25,7 @@ ERROR_PAGE = "404.html"  # the last name of the URL of a page that no sitemap ha
 LEADS_OUT = "a symbolic link out of the folder: --follow"  # the hint of a symbolic link that is not followed
 LEADS_NOWHERE = "a symbolic link to nothing"
 ROOT_FOLDER = re.compile("/([A-Za-z0-9_~-][A-Za-z0-9_.~-]*)/")  # the first folder of a path from the root, if it has the same text in a URL
+SLASHES = range(3, 9)  # the slashes in a URL of a host and at most five folders
 LINE_LIMIT = 4096  # the most bytes in a line of a saved web
 FILE_LIMIT = 1 << 30  # the most bytes of a file that is read
 
@@ -565,9 +566,9 @@ class Mapped:
             top = url_of(one.prefix if one.prefix.endswith("/") else one.prefix + "/", drawn.url_of(settings.base))
             assert top is not None and top not in self.folders
             self.folders[top] = one.folder
-            # The top of a folder has no consecutive slashes, as that of BASE.
+            # The top of a folder ends with one slash, as that of BASE.
             host = origin_of(drawn.url_of(top))[:-1]
-            self.sites[top] = Site(one.folder, settings._replace(base=host + re.sub("/+", "/", top[len(host):])))
+            self.sites[top] = Site(one.folder, settings._replace(base=host + re.sub("/+$", "/", top[len(host):])))
 
     def top_of(self, url: str) -> Optional[str]:
         """The longest prefix under which a URL is."""
@@ -718,9 +719,10 @@ class Model:
         }
         worst = [{"kind": "worst", "file": file, "links": count} for file, count in files[:MOST_FILES]]
         names = [{"kind": "unreached", "name": name} for name in unreached] + [{"kind": "unlisted", "name": name} for name in unlisted]
-        return [total, *self.base_hint(broken), *broken, *invalid, *leaving, *worst, *redirects, *names, *external, *self.unused()]
+        base_hint = list(self.root_hint(broken)) or list(self.host_hint())
+        return [total, *base_hint, *broken, *invalid, *leaving, *worst, *redirects, *names, *external, *self.unused()]
 
-    def base_hint(self, broken: List[Row]) -> Iterator[Row]:
+    def root_hint(self, broken: List[Row]) -> Iterator[Row]:
         """The hint that BASE is missing: most links to missing pages that are paths from the root begin with the same folder, which does not exist."""
         paths = [row["written"] for row in broken if row["kind"] == "place" and row["missing"] == "page" and row["written"]]
         found = [path[1] for path in map(ROOT_FOLDER.match, paths) if path]
@@ -728,6 +730,30 @@ class Model:
         for name, count in most[:1] if self.settings.is_rooted() else ():
             if not any(url.startswith(f"{self.site.base}{name}/") for url in self.site.urls()):
                 yield {"kind": "hint", "base": f"/{name}/", "paths": count, "of": len(found)}
+
+    def host_hint(self) -> Iterator[Row]:
+        """The hint that BASE is missing or another one: most links begin with a URL below which the folder has most of them."""
+        links, top = self.link_urls(), str(self.site.base)
+        if 2 * sum(link.startswith(top) for link in links) >= len(links):
+            return
+        files = {url for url, _ in self.site.pages()}
+        for count in SLASHES:
+            folders = [found[0] for found in (re.match(f"(?:[^/]*/){{{count}}}", link) for link in links) if found]
+            often = [folder for folder, times in Counter(folders).items() if 2 * times >= max(len(links), 4)]
+            below = [link[len(often[0]):] for link in links if link.startswith(often[0])] if often else []
+            if below and 2 * sum(top + rest in files for rest in below) >= len(below):
+                yield {"kind": "hint", "base": often[0], "paths": len(below), "of": len(links)}
+                return
+
+    def link_urls(self) -> List[str]:
+        """The URLs, without queries, to which the links of each page lead, in the order of the pages. An alias has a link to its own URL."""
+        found: List[str] = []
+        for url, response in sorted(self.responses.items()):
+            if isinstance(response, Found):
+                found += [link.url for link in self.links[url]]
+            elif isinstance(response, Alias):
+                found.append(response.own)
+        return [url.partition("?")[0] for url in found]
 
     def linking(self) -> Dict[str, Set[str]]:
         """The pages that link to each URL. A redirect or an alias counts as a link to its target."""

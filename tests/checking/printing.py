@@ -172,8 +172,10 @@ HEADINGS = {
 
 
 def base_hint(row: Row) -> str:
-    """The line of a hint at a missing BASE."""
+    """The line of a hint at a missing BASE, which names a URL or a folder of paths from the root."""
     folder = row["base"]
+    if folder.startswith(("http://", "https://")):
+        return f"hint: {row['paths']} of {row['of']} links begin with {folder}: pass it as BASE"
     return f"hint: {row['paths']} of {row['of']} paths from the root begin with {folder}, which is not in the folder: pass BASE, such as https://HOST{folder}"
 
 
@@ -201,7 +203,7 @@ def escaped(text: str, is_property: bool) -> str:
 def as_annotations(rows: List[Row], folder: str) -> str:
     """The report as annotations. The paths begin with the folder. What has no location has an annotation of no file."""
     front = "" if folder == "." else folder.rstrip("/") + "/"
-    lines = []
+    lines = [f"::notice::{escaped(base_hint(row), False)}\n" for row in rows if row["kind"] == "hint"]
     for row, places in targets(rows):
         text = escaped(row["target"] + ": " + message(row) + advice(row, True), False)
         files = [f" file={escaped(front + place['file'], True)},line={place['line']},col={place['column']}" for place in places]

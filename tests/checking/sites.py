@@ -15,4 +15,3 @@ class Site(NamedTuple):
     broken: Optional[FrozenSet[str]] = None  # the targets of all broken links, without the base, if they are known
     leaving: FrozenSet[str] = frozenset()  # the URLs of all links that leave the base, if the broken links are known
     fallback: bool = False  # whether links omit the suffix .html
-    is_hinted: bool = True  # whether a check without the option that the site needs names the option

@@ -182,7 +182,7 @@ class Check:
             "site_check.Totals.totals_of", crawled.aliases, crawled.documents, crawled.own, report.broken, report.redirects)))
         yield Statement("worst_of", lambda: equal(report.worst, self.call("site_check.Worst.worst_of", report.broken)))
         yield Statement("base_hint_of", lambda: equal(report.hint, self.call(
-            "site_check.Base.base_hint_of", self.settings.is_rooted(), files, report.broken)))
+            "site_check.*.base_hint_of", self.settings.is_rooted(), files, crawled.own, report.broken)))
         if self.settings.unreached:
             yield Statement("unreached_of", lambda: equal(report.unreached, self.call("site_check.Unreached.unreached_of", self.front, files, crawled.reached)))
         if self.settings.sitemap:
@@ -193,8 +193,8 @@ class Check:
         yield Statement("AreReported", self.reported_fault)
         if self.library.has("site_check.*.in_row"):
             yield Statement("IsLocated", self.located_fault)
-        if self.library.has("mercator_site.*.is_false_miss"):
-            yield Statement("is_false_miss", self.false_miss_fault)
+        if self.library.has("mercator_site.*.is_long_file"):
+            yield Statement("IsRightlyMissed", self.false_miss_fault)
         if self.library.has("mercator_site.*.documents_in"):
             yield Statement("documents_in", lambda: equal(
                 listed(map(text, sorted(map(str.encode, [] if self.settings.reachable else self.model.site.own_starts())))),
@@ -248,10 +248,19 @@ class Check:
         return None
 
     def false_miss_fault(self) -> Optional[str]:
-        """A missing page for whose URL a server returns something."""
-        is_false_miss = self.library.function("mercator_site.*.is_false_miss")
-        found = [shown(one.url) for one in items(self.crawled.own) if is_false_miss(self.files.value, one)]
+        """A missing page for whose URL a server returns a page, if neither that URL nor the file's own one is too long."""
+        is_missing, fits = self.library.function("crawl_pages.Pages.is_missing"), self.library.function("document_links.Texts.fits")
+        found = [shown(one.url) for one in items(self.crawled.own) if is_missing(one.page) and fits(5, one.url) and self.is_returned(one.url)]
         return f"a page is at {found[0]}" if found else None
+
+    def is_returned(self, url: Value) -> bool:
+        """Whether a server returns a page for a URL, which is not a file whose own URL is too long."""
+        served = self.call("site_files.Serving.served_at", self.files.value, url)
+        if served == ("Missing",):
+            return False
+        response_of = self.library.function("site_files.*.response_of")
+        numbers = [number for number, entry in enumerate(items(self.files.value.pages)) if same(response_of(entry.source), served)]
+        return not any(self.call("mercator_site.*.is_long_file", self.files.value, number) for number in numbers)
 
     def ends_of(self, row: Record) -> Set[bytes]:
         """The URLs that lead to the missing page of a row, directly or by a redirect."""

@@ -51,7 +51,7 @@ def compacted(trial: Trial, log: Path, given: Words, new: Path) -> Tuple[int, st
 
 def changed_settings(trial: Trial) -> None:
     """A log that is compacted with other settings has the lines of the model. Both then go on alike."""
-    trial.want_log()
+    trial.require_log()
     if not trial.has_compact or not trial.has_list:
         raise Skipped("the program has no --compact or no --list")
     ends: Counter[str] = Counter()
@@ -66,24 +66,24 @@ def changed(trial: Trial, draw: Random, old: Words, given: Words, name: str) -> 
     """Compact the log of a random session with these options. Return how that ends."""
     log, new = trial.folder / f"old-{name}.log", trial.folder / f"new-{name}.log"
     count = draw.randrange(1, max(2, trial.lines // draw.choice((1, 4, 40))))
-    data, wanted = drawn_requests(draw, count, session_with(old), trial.has_link)
+    data, answers = drawn_requests(draw, count, session_with(old), trial.has_link)
     if draw.randrange(3) == 0:
-        data, wanted = ended(data, wanted, session_with(old))
+        data, answers = ended(data, answers, session_with(old))
     session = Serve(trial.program, (*old, "--log", str(log)))
-    compare(data, wanted, session.exchange(iter([data])))
+    compare(data, answers, session.exchange(iter([data])))
     expect(session.end()[0] == 0, "its end")
     before = lists_of(session_with(old), [read(line) for line in whole_lines(data)])
     words = merged(old, given)
-    status, told = compacted(trial, log, given, new)
+    status, errors = compacted(trial, log, given, new)
     model = session_with(words)
     try:
         lines, left_out, unfinished = lines_of(before, model)
     except Refused:
-        expect(status == 1 and told == f"mercator: log {log}: more unfinished URLs than --max-pending allows\n", f"{status}, {told!r}")
+        expect(status == 1 and errors == f"mercator: log {log}: more unfinished URLs than --max-pending allows\n", f"{status}, {errors!r}")
         expect(not new.exists(), "a new log without room")
         return "refused"
     note = f"mercator: log {log}: URLs left out by --within: {len(left_out)} ({unfinished} unfinished)\n" if left_out else ""
-    expect((status, told) == (0, note), f"{status}, {told!r}, expected {note!r}")
+    expect((status, errors) == (0, note), f"{status}, {errors!r}, expected {note!r}")
     written = [read(line) for line in requests_of(new.read_bytes())]
     expect(written == lines, f"other lines: {written[:9]!r}, expected {lines[:9]!r}")
     rebuilds(before, model.suffix, lists_of(session_with(words), lines))
@@ -95,7 +95,7 @@ def changed(trial: Trial, draw: Random, old: Words, given: Words, name: str) -> 
     return "narrower" if left_out else "closed" if before.closed else "kept"
 
 
-def ended(data: bytes, wanted: List[str], session: Known) -> Tuple[bytes, List[str]]:
+def ended(data: bytes, answers: List[str], session: Known) -> Tuple[bytes, List[str]]:
     """Return these requests, and those that end each URL and close the session, with all answers."""
     for line in whole_lines(data):
         session.answer(read(line))
@@ -105,4 +105,4 @@ def ended(data: bytes, wanted: List[str], session: Known) -> Tuple[bytes, List[s
         waiting = len(session.waiting[queue])
         lines += [b"done %d" % queue] + [b"next %d" % queue, b"done %d" % queue] * waiting
     lines.append(b"next %d" % first)
-    return data + b"".join(line + b"\n" for line in lines), [*wanted, *(session.answer(line) for line in lines)]
+    return data + b"".join(line + b"\n" for line in lines), [*answers, *(session.answer(line) for line in lines)]

@@ -60,7 +60,7 @@ def client_values(trial: Trial) -> None:
 
 def long_base(trial: Trial) -> None:
     """A page with a base of a megabyte: its links are too long, and need little memory."""
-    trial.want_link()
+    trial.require_link()
     with Frontier(1, program=trial.program) as frontier:
         tracemalloc.start()
         offers = frontier.links("http://a.test/" + "x" * 10**6, ["y"] * 200)
@@ -78,7 +78,7 @@ def client_ends(trial: Trial) -> None:
             frontier.end_seeds()
             raise Differs("513 workers are not rejected")
         except FrontierEnded as error:
-            expect(error.status == 3 and "513" in error.told and "513" in str(error), f"{error}")
+            expect(error.status == 3 and "513" in error.stderr and "513" in str(error), f"{error}")
     for is_killed in (True, False):
         with Frontier(2, program=trial.program) as frontier:
             ends: List[FrontierEnded] = []
@@ -99,15 +99,15 @@ def client_ends(trial: Trial) -> None:
 
 def log_in_use(trial: Trial) -> None:
     """Only one program uses a log at a time; the next one gives out the URL in progress again."""
-    trial.want_log()
+    trial.require_log()
     log = trial.folder / "used.log"
     with Frontier(1, log=log, sync=trial.has_sync, program=trial.program) as frontier:
         frontier.offer("http://a.test/")
         expect(frontier.take(0) == "http://a.test/", "take")
         error = expect_error(LogInUse, lambda: Frontier(1, log=log, program=trial.program))
-        told = f"mercator: log {log}: in use by another program"
-        expect((error.status, error.told) == (5, told), f"the exception: {error}")
-        expect(str(error).endswith(f" ended with status 5: {told}"), f"the message: {error}")
+        message = f"mercator: log {log}: in use by another program"
+        expect((error.status, error.stderr) == (5, message), f"the exception: {error}")
+        expect(str(error).endswith(f" ended with status 5: {message}"), f"the message: {error}")
     frontier = Frontier(1, log=log, program=trial.program)
     frontier.close()
     expect_error(FrontierEnded, lambda: frontier.take(0))
@@ -123,7 +123,7 @@ def log_in_use(trial: Trial) -> None:
 
 def log_that_cannot_be(trial: Trial) -> None:
     """A path that cannot be a log: the exception has the message of the program."""
-    trial.want_log()
+    trial.require_log()
     file = trial.folder / "file"
     file.touch()
     for log in (file / "log", trial.folder, trial.folder / "none" / "log", trial.folder / ("x" * 300)):
@@ -133,7 +133,7 @@ def log_that_cannot_be(trial: Trial) -> None:
 
 def words_like_options(trial: Trial) -> None:
     """The name of a log and a suffix may look like options."""
-    trial.want_log()
+    trial.require_log()
     before = os.getcwd()
     os.chdir(trial.folder)
     try:

@@ -25,7 +25,7 @@ TRIES = 20
 
 def stopped_compactions(trial: Trial) -> None:
     """A compaction that is killed or fails leaves no new log, or a whole one, and the next one succeeds."""
-    trial.want_log()
+    trial.require_log()
     if not trial.has_compact:
         raise Skipped("the program has no --compact")
     folder = trial.folder / "compactions"

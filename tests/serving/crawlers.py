@@ -93,14 +93,14 @@ def found_by_crawler(output: bytes) -> List[Tuple[str, str]]:
 
 def crawler(trial: Trial) -> None:
     """The example site: the crawler finds the same URLs and statuses as a search by this test."""
-    trial.want_link()
+    trial.require_link()
     with Folder(ROOT / "examples/site") as folder:
-        wanted = found_by_search(folder.url)
+        expected = found_by_search(folder.url)
         words = crawler_words(trial, "--delay", "0", "--within", "127.0.0.1", folder.url)
         done = run_crawler(words)
         found = found_by_crawler(done.stdout)
         expect(done.returncode == 0 and not done.stderr, f"status {done.returncode}: {done.stderr.decode()}")
-        expect(len(found) == len(wanted) and dict(found) == wanted, f"other URLs: {set(found) ^ set(wanted.items())}")
+        expect(len(found) == len(expected) and dict(found) == expected, f"other URLs: {set(found) ^ set(expected.items())}")
         print(f"  {len(found)} URLs")
     full_frontier(trial)
 
@@ -137,12 +137,12 @@ def full_frontier(trial: Trial) -> None:
         threading.Thread(target=servers[-1].serve_forever, daemon=True).start()
     seeds = [f"http://127.0.0.{host}:{Tree.port}/" for host in (1, 2, 3)]
     first = Tree.links("/")
-    wanted = {*seeds, *first, *(link for url in first for link in Tree.links(urlsplit(url).path))}
+    expected = {*seeds, *first, *(link for url in first for link in Tree.links(urlsplit(url).path))}
     for most in (2, 3, 20):
         log = trial.folder / f"full-{most}.log"
         argv = [str(CRAWLER), "--program", trial.program, "--delay", "0", "--log", str(log), *seeds]
         frontier = partial(crawl_http.Frontier, max_pending=most)
-        for left in (wanted, set()):  # in the second crawl, all of them are done
+        for left in (expected, set()):  # in the second crawl, all of them are done
             patches = mock.patch.object(crawl_http, "Frontier", frontier), mock.patch.object(sys, "argv", argv)
             with patches[0], patches[1], redirect_stdout(io.StringIO()) as output:
                 expect(crawl_http.main() == 0, "the status")
@@ -182,14 +182,14 @@ def bash_crawler(trial: Trial) -> None:
     It reads the links of a page that is not UTF-8, and URLs with brackets. A suffix may look like an
     option.
     """
-    trial.want_link()
+    trial.require_link()
     if not shutil.which("curl"):
         raise Skipped("curl is not installed")
     with Folder(ROOT / "examples/site") as folder:
-        wanted = found_by_search(folder.url)
+        expected = found_by_search(folder.url)
         found = found_by_bash(trial, folder.url)
-        other = {url for url in set(found) & set(wanted) if found[url] != wanted[url]}
-        expect(not other and len(set(wanted) - set(found)) <= 2, f"other URLs: {other or set(found) ^ set(wanted)}")
+        other = {url for url in set(found) & set(expected) if found[url] != expected[url]}
+        expect(not other and len(set(expected) - set(found)) <= 2, f"other URLs: {other or set(found) ^ set(expected)}")
     odd = trial.folder / "odd"
     odd.mkdir()
     (odd / "index.html").write_bytes(b'caf\xe9 <a href="a[1-2].html">\n')
@@ -204,11 +204,11 @@ def bash_crawler(trial: Trial) -> None:
 
 def killed_crawler(trial: Trial) -> None:
     """The crawler is killed again and again, and resumes from its log."""
-    trial.want_log()
-    trial.want_link()
+    trial.require_log()
+    trial.require_link()
     draw = trial.draw("crawler")
     with Folder(ROOT / "examples/site") as folder:
-        wanted = found_by_search(folder.url)
+        expected = found_by_search(folder.url)
         log = trial.folder / "crawler.log"
         found: List[Tuple[str, str]] = []
         status: Optional[int] = None
@@ -225,16 +225,16 @@ def killed_crawler(trial: Trial) -> None:
                 kills += 1
             found += found_by_crawler(process.stdout.read())
         expect(status == 0, f"status {status}")
-        expect(set(found) == set(wanted.items()), f"other URLs: {set(found) ^ set(wanted.items())}")
+        expect(set(found) == set(expected.items()), f"other URLs: {set(found) ^ set(expected.items())}")
         # The host has one fetcher, which has one URL in progress.
-        expect(len(found) <= len(wanted) + kills, f"{len(found)} lines for {len(wanted)} URLs and {kills} kills")
-        print(f"  {kills} kills; {len(found) - len(wanted)} lines were written again")
+        expect(len(found) <= len(expected) + kills, f"{len(found)} lines for {len(expected)} URLs and {kills} kills")
+        print(f"  {kills} kills; {len(found) - len(expected)} lines were written again")
 
 
 class Polite(http.server.BaseHTTPRequestHandler):
     """A host with robots.txt, redirects, an endless page, and a page that links to all of them."""
 
-    asked: List[Tuple[float, str, str]] = []
+    requests: List[Tuple[float, str, str]] = []
     pages = {
         "/robots.txt": "User-agent: *\nDisallow: /private\n",
         "/": "<a href=/private/x>x</a><A HREF='moved'>m</A><a href=endless>e</a><base href=/d/><a href=y&amp;z>y</a>",
@@ -242,7 +242,7 @@ class Polite(http.server.BaseHTTPRequestHandler):
     moved = {"/d/moved": "../to?q#f", "/to?q": "to/\u00fc".encode().decode("latin-1"), "/to/%C3%BC": "\u00e9"}
 
     def do_GET(self) -> None:
-        Polite.asked.append((time.monotonic(), self.path, self.headers["User-Agent"]))
+        Polite.requests.append((time.monotonic(), self.path, self.headers["User-Agent"]))
         page = Polite.pages.get(self.path)
         if self.path in Polite.moved:
             self.send_response(301)
@@ -269,29 +269,29 @@ class Polite(http.server.BaseHTTPRequestHandler):
 
 def polite_crawler(trial: Trial) -> None:
     """robots.txt, the delay, redirects, and an endless page."""
-    trial.want_link()
-    Polite.asked.clear()
+    trial.require_link()
+    Polite.requests.clear()
     server = http.server.ThreadingHTTPServer(("127.0.0.1", 0), Polite)
     threading.Thread(target=server.serve_forever, daemon=True).start()
     site = f"http://127.0.0.1:{server.server_port}"
     words = crawler_words(trial, "--delay", "0.2", "--largest", "100000", "--agent", "bell", "--within", "127.0.0.1", f"{site}/")
     done = run_crawler(words)
     server.shutdown()
-    wanted = {"/": "200", "/private/x": "robots", "/d/endless": "200", "/d/y&z": "404", "/n": "404"}
-    wanted.update({"/d/moved": "301", "/to?q": "301", "/to/%C3%BC": "301", "/to/%C3%A9": "404"})
+    expected = {"/": "200", "/private/x": "robots", "/d/endless": "200", "/d/y&z": "404", "/n": "404"}
+    expected.update({"/d/moved": "301", "/to?q": "301", "/to/%C3%BC": "301", "/to/%C3%A9": "404"})
     found = {url[len(site):]: status for url, status in found_by_crawler(done.stdout)}
-    expect(found == wanted and done.returncode == 0, f"{found}, status {done.returncode}: {done.stderr.decode()}")
-    paths = [path for _, path, _ in Polite.asked]
-    expect(paths[0] == "/robots.txt" and sorted(paths[1:]) == sorted(set(wanted) - {"/private/x"}), f"requests: {paths}")
-    expect({agent for _, _, agent in Polite.asked} == {"bell"}, "the agent")
-    times = [when for when, _, _ in Polite.asked]
+    expect(found == expected and done.returncode == 0, f"{found}, status {done.returncode}: {done.stderr.decode()}")
+    paths = [path for _, path, _ in Polite.requests]
+    expect(paths[0] == "/robots.txt" and sorted(paths[1:]) == sorted(set(expected) - {"/private/x"}), f"requests: {paths}")
+    expect({agent for _, _, agent in Polite.requests} == {"bell"}, "the agent")
+    times = [when for when, _, _ in Polite.requests]
     expect(all(later - earlier >= 0.19 for earlier, later in zip(times, times[1:])), f"the delay: {times}")
 
 
 def polite_to_ports(trial: Trial) -> None:
     """The delay holds for a host, not for each of its ports."""
-    trial.want_link()
-    Polite.asked.clear()
+    trial.require_link()
+    Polite.requests.clear()
     servers = [http.server.ThreadingHTTPServer(("127.0.0.1", 0), Polite) for _ in range(3)]
     for server in servers:
         threading.Thread(target=server.serve_forever, daemon=True).start()
@@ -300,7 +300,7 @@ def polite_to_ports(trial: Trial) -> None:
     for server in servers:
         server.shutdown()
     expect(dict(found_by_crawler(done.stdout)) == dict.fromkeys(seeds, "404"), f"{done.stdout!r}")
-    times = [when for when, _, _ in Polite.asked]
+    times = [when for when, _, _ in Polite.requests]
     expect(all(later - earlier >= 0.19 for earlier, later in zip(times, times[1:])), f"the delay: {times}")
 
 
@@ -333,7 +333,7 @@ def hostile_hosts(trial: Trial) -> None:
 
     An unknown charset, and one that is not for text, do not hide any link.
     """
-    trial.want_link()
+    trial.require_link()
     rules = dict.fromkeys(("Disallow: //[", "Crawl-delay: \u00b2", "Request-rate: 1/\u00b2"), "no-robots")
     rules["Crawl-delay: " + "9" * 400] = "robots"
     # Only old versions of Python read a number of 5,000 digits.
@@ -341,14 +341,14 @@ def hostile_hosts(trial: Trial) -> None:
     shut = {HostileHost(rule): status for rule, status in rules.items()}
     read = [HostileHost("Disallow: /y", charset) for charset in ("utf-8", "bogus", "base64", "idna", "x\0y")]
     read += [HostileHost("Disallow: /y", kind=kind) for kind in ("application/octet-stream", "text/robots")]
-    wanted = {host.url: status for host, status in shut.items()}
-    wanted.update({host.url + path: "robots" if path == "y" else "200" for host in read for path in ("", "x", "y")})
+    expected = {host.url: status for host, status in shut.items()}
+    expected.update({host.url + path: "robots" if path == "y" else "200" for host in read for path in ("", "x", "y")})
     hosts = [*shut, *read]
     done = run_crawler(crawler_words(trial, "--delay", "0", "--within", "127.0.0.1", *(host.url for host in hosts)))
     for host in hosts:
         host.shutdown()
     found = dict(found_by_crawler(done.stdout))
-    expect(found == wanted and done.returncode == 0, f"{found}, status {done.returncode}: {done.stderr.decode()}")
+    expect(found == expected and done.returncode == 0, f"{found}, status {done.returncode}: {done.stderr.decode()}")
     sys.path.insert(0, str(CRAWLER.parent))
     connected = importlib.import_module(CRAWLER.stem).connected
     ends = {"http://[::ab]/": ("::ab", 80), "https://[::1]/": ("::1", 443), "http://a.test:0/": ("a.test", 0)}
@@ -402,11 +402,11 @@ def hostile_pages(trial: Trial) -> None:
     lines = done.stderr.decode().splitlines()
     expect(done.returncode == 0 and set(found.values()) == {"200"}, f"status {done.returncode}, {found}: {lines}")
     for path in HostilePages.pages:
-        told = [line for line in lines if line.startswith(f"crawl_http: {site}{path}: links ")]
-        is_slow = path in HostilePages.slow and len(told) == 1
-        expect(f"{path}1" in found or is_slow, f"{path}: its links are lost: {told}")
-        expect(len(told) <= (path in HostilePages.slow or path == "/section"), f"{path}: {told}")
-        lines = [line for line in lines if line not in told]
+        reports = [line for line in lines if line.startswith(f"crawl_http: {site}{path}: links ")]
+        is_slow = path in HostilePages.slow and len(reports) == 1
+        expect(f"{path}1" in found or is_slow, f"{path}: its links are lost: {reports}")
+        expect(len(reports) <= (path in HostilePages.slow or path == "/section"), f"{path}: {reports}")
+        lines = [line for line in lines if line not in reports]
     expect(not lines, f"{lines}")
 
 
@@ -416,21 +416,21 @@ def odd_errors() -> None:
     options = mock.Mock(agent="bell", delay=0, largest=1000)
     for error in (NotImplementedError("a\nb"), TypeError("\x1b[31m"), AssertionError("\u202e"), RecursionError("a" * 5_000)):
         known = crawl_http.Known()
-        with mock.patch.object(crawl_http, "fetch", side_effect=error), mock.patch.object(logging, "warning") as told:
+        with mock.patch.object(crawl_http, "fetch", side_effect=error), mock.patch.object(logging, "warning") as warning:
             visits = [crawl_http.visited(f"http://a.test/{path}", known, options) for path in "xy"]
         expect([visit.status for visit in visits] == ["no-robots"] * 2, f"{visits}")
-        check_line(told, f"http://a.test/robots.txt: {type(error).__name__}: ")
+        check_line(warning, f"http://a.test/robots.txt: {type(error).__name__}: ")
         known.sites["http://a.test"].refusal_of = lambda url: None
-        with mock.patch.object(crawl_http, "fetch", side_effect=error), mock.patch.object(logging, "warning") as told:
+        with mock.patch.object(crawl_http, "fetch", side_effect=error), mock.patch.object(logging, "warning") as warning:
             visit = crawl_http.visited("http://a.test/x", known, options)
         expect(visit == ("failed", "http://a.test/x", []), f"{visit}")
-        check_line(told, f"http://a.test/x: {type(error).__name__}: ")
+        check_line(warning, f"http://a.test/x: {type(error).__name__}: ")
 
 
-def check_line(told: mock.Mock, start: str) -> None:
+def check_line(warning: mock.Mock, start: str) -> None:
     """Expect one printable line that was logged."""
-    expect(told.call_count == 1, f"{told.mock_calls}")
-    form, *words = told.call_args.args
+    expect(warning.call_count == 1, f"{warning.mock_calls}")
+    form, *words = warning.call_args.args
     line = form % tuple(words)
     expect(line.startswith(start) and len(line) < 300 and line.isascii() and line.isprintable(), f"{line!r}")
 
@@ -438,16 +438,16 @@ def check_line(told: mock.Mock, start: str) -> None:
 def moved_robots() -> None:
     """A redirect of robots.txt is resolved against its own URL, and is not followed to another scheme."""
     crawl_http = importlib.import_module(CRAWLER.stem)
-    asked = []
+    urls = []
 
     def fetch(url: str, *_: object, **__: object) -> object:
-        asked.append(url)
+        urls.append(url)
         moves = {"http://a.test/robots.txt": "http://b.test/x/y", "http://b.test/x/y": "z"}
         return crawl_http.Reply("301", moves[url]) if url in moves else crawl_http.Reply("200", body=b"User-agent: *\nDisallow: /")
 
     with mock.patch.object(crawl_http, "fetch", fetch):
         site = crawl_http.Site("http://a.test", {}, "bell", 0)
-    expect(asked == ["http://a.test/robots.txt", "http://b.test/x/y", "http://b.test/x/z"], f"{asked}")
+    expect(urls == ["http://a.test/robots.txt", "http://b.test/x/y", "http://b.test/x/z"], f"{urls}")
     expect(site.refusal_of("http://a.test/") == "robots", "the rule is not obeyed")
     with suppress(ValueError):
         crawl_http.connected(urlsplit("ftp://127.0.0.1:80/"))
@@ -457,12 +457,12 @@ def moved_robots() -> None:
 class FailingHost(http.server.BaseHTTPRequestHandler):
     """A host whose robots.txt cannot be read, or only the third time, or leads elsewhere."""
 
-    asked: List[str] = []
+    requests: List[str] = []
 
     def do_GET(self) -> None:
         host = self.connection.getsockname()[0][-1]
-        FailingHost.asked.append(host + self.path)
-        times = FailingHost.asked.count(host + self.path)
+        FailingHost.requests.append(host + self.path)
+        times = FailingHost.requests.count(host + self.path)
         is_robots = self.path == "/robots.txt"
         status = {"1": 503 if times < 3 else 404, "2": 500, "4": 301, "5": 301, "6": 301}.get(host, 200)
         self.send_response(status if is_robots else 200)
@@ -481,21 +481,21 @@ def failing_hosts(trial: Trial) -> None:
 
     A robots.txt that cannot be read is requested three times.
     """
-    FailingHost.asked.clear()
+    FailingHost.requests.clear()
     servers: List[http.server.ThreadingHTTPServer] = []
     for host in range(1, 7):
         port = servers[0].server_port if servers else 0
         servers.append(http.server.ThreadingHTTPServer((f"127.0.0.{host}", port), FailingHost))
         threading.Thread(target=servers[-1].serve_forever, daemon=True).start()
     statuses = ["200", "no-robots", "robots", "robots", "no-robots", "no-robots"]
-    wanted = {f"http://127.0.0.{host}:{port}/": status for host, status in enumerate(statuses, 1)}
-    wanted.update({"http://127.0.0.9:1/": "failed", "http://127.0.0.9:1/b": "failed"})
-    done = run_crawler(crawler_words(trial, "--delay", "0", *wanted))
+    expected = {f"http://127.0.0.{host}:{port}/": status for host, status in enumerate(statuses, 1)}
+    expected.update({"http://127.0.0.9:1/": "failed", "http://127.0.0.9:1/b": "failed"})
+    done = run_crawler(crawler_words(trial, "--delay", "0", *expected))
     for server in servers:
         server.shutdown()
     found = dict(found_by_crawler(done.stdout))
-    expect(found == wanted and done.returncode == 0, f"{found}, status {done.returncode}: {done.stderr.decode()}")
-    attempts = [FailingHost.asked.count(path) for path in ("1/robots.txt", "2/robots.txt", "2/")]
+    expect(found == expected and done.returncode == 0, f"{found}, status {done.returncode}: {done.stderr.decode()}")
+    attempts = [FailingHost.requests.count(path) for path in ("1/robots.txt", "2/robots.txt", "2/")]
     expect(attempts == [3, 3, 0], f"attempts: {attempts}")
     sys.path.insert(0, str(CRAWLER.parent))
     crawl_http = importlib.import_module(CRAWLER.stem)
@@ -529,7 +529,7 @@ def dribble(server: socket.socket, head: bytes) -> None:
 
 def saved_documentation(trial: Trial) -> None:
     """Python's documentation: the crawler finds over HTTP the same URLs as `mercator crawl` in the folder."""
-    trial.want_link()
+    trial.require_link()
     if subprocess.run([trial.program, "crawl", "--help"], capture_output=True, check=False).returncode:
         raise Skipped("the program has no `crawl`")
     installed = sorted(Path("/usr/share/doc").glob("python3*/html/library/index.html"))
@@ -537,7 +537,7 @@ def saved_documentation(trial: Trial) -> None:
         raise Skipped("Debian's python3-doc is not installed")
     site = installed[0].parent.parent.resolve()
     with Folder(site) as folder:
-        wanted = found_in_saved_web(trial, site, folder.url)
+        expected = found_in_saved_web(trial, site, folder.url)
         words = ("--delay", "0", "--largest", "100000000", "--within", "127.0.0.1", folder.url)
         done = run_crawler(crawler_words(trial, *words), LONG)
         found = found_by_crawler(done.stdout)
@@ -546,10 +546,10 @@ def saved_documentation(trial: Trial) -> None:
         expect(len(found) == len(statuses), "a URL is printed twice")
         # In the saved web, the page of `/x/index.html` or `/x/?y` has a link to `/x/`, which nothing else may link to.
         own = {url.partition("?")[0].removesuffix("index.html") for url in statuses}
-        other = sorted(set(statuses) - set(wanted)) + sorted(set(wanted) - set(statuses) - own)
+        other = sorted(set(statuses) - set(expected)) + sorted(set(expected) - set(statuses) - own)
         expect(not other, f"{len(other)} other URLs: {other[:5]}")
         status = {"ok": "200", "missing": "404", "moved": "301"}
-        other = [url for url in sorted(statuses) if statuses[url] != status[wanted[url]]]
+        other = [url for url in sorted(statuses) if statuses[url] != status[expected[url]]]
         expect(not other, f"{len(other)} other statuses: {other[:5]}")
         print(f"  {len(found)} URLs of {site}")
 

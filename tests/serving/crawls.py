@@ -134,7 +134,7 @@ def crawls(trial: Trial) -> None:
 
 def asyncio_crawls(trial: Trial) -> None:
     """A crawl with one task per queue, and more queues than asyncio has threads. If a task fails, the crawl ends."""
-    trial.want_link()
+    trial.require_link()
     web = Web(trial.draw("asyncio"))
     fetched = asyncio.run(crawl_by_tasks(web, trial.program, 64))
     expect(sorted(fetched) == sorted(web.reached), "other URLs")
@@ -169,7 +169,7 @@ def killed_crawls(trial: Trial) -> None:
 
     Each URL is fetched; only those that were in progress at a kill may be fetched more than once.
     """
-    trial.want_log()
+    trial.require_log()
     kills = again = number = 0
     while kills < trial.options.kills and number < 1000:
         number += 1

@@ -18,7 +18,7 @@ KINDS = ("pending", "in-progress", "done", "stats")
 
 def lists(trial: Trial) -> None:
     """The lists of a log are those of the model, also while a program uses the log. A compacted log has the same lists."""
-    trial.want_log()
+    trial.require_log()
     if not trial.has_list:
         raise Skipped("the program has no --list")
     sizes: List[int] = []
@@ -27,22 +27,22 @@ def lists(trial: Trial) -> None:
         model = session_of(words)
         log = trial.folder / f"listed-{number}.log"
         for quarter in range(4):
-            data, wanted = drawn_requests(draw, trial.lines // 4, model, trial.has_link)
+            data, answers = drawn_requests(draw, trial.lines // 4, model, trial.has_link)
             session = Serve(trial.program, (*words, "--log", str(log)))
             sender = threading.Thread(target=session.send, args=(data,), daemon=True)
             sender.start()
-            compare(data, wanted, b"".join(line + b"\n" for line in session.lines(len(wanted))))
+            compare(data, answers, b"".join(line + b"\n" for line in session.lines(len(answers))))
             sender.join(SECONDS)
-            wanted_lists = expected(model)
-            compare_lists(trial, log, wanted_lists)
+            expected_lists = expected(model)
+            compare_lists(trial, log, expected_lists)
             expect(session.end() == (0, ""), "its end")
             sizes.append(len(model.listed("pending")))
             short = trial.folder / f"listed-{number}-{quarter}.log"
             compact(trial, words, log, short)
-            compare_lists(trial, short, wanted_lists)
+            compare_lists(trial, short, expected_lists)
             torn = trial.folder / "listed-torn.log"
             torn.write_bytes(log.read_bytes() + b"offer http://a.test/not-answered"[:draw.randrange(1, 40)])
-            compare_lists(trial, torn, wanted_lists)
+            compare_lists(trial, torn, expected_lists)
     print(f"  {sum(sizes)} pending URLs in {len(sizes)} logs")
 
 
@@ -53,17 +53,17 @@ def compact(trial: Trial, words: Sequence[str], log: Path, new: Path) -> None:
     )
 
 
-def compare_lists(trial: Trial, log: Path, wanted: Dict[Tuple[str, bool], str]) -> None:
+def compare_lists(trial: Trial, log: Path, expected_lists: Dict[Tuple[str, bool], str]) -> None:
     """Compare all lists of a log with the expected ones. The log stays as it is."""
     before = log.read_bytes()
-    for (kind, is_json), text in wanted.items():
+    for (kind, is_json), text in expected_lists.items():
         words = ["serve", "--log", str(log), "--list", kind, *["--json"] * is_json]
         done = subprocess.run(
             [trial.program, *words], stdin=subprocess.DEVNULL, capture_output=True, timeout=SECONDS, check=False,
         )
         expect((done.returncode, done.stderr) == (0, b""), f"{words}: {done.returncode}, {done.stderr!r}")
-        for number, (want, line) in enumerate(zip(text.split("\n"), done.stdout.decode().split("\n")), 1):
-            expect(want == line, f"{words}, line {number}: {line!r}, expected {want!r}")
+        for number, (expected_line, line) in enumerate(zip(text.split("\n"), done.stdout.decode().split("\n")), 1):
+            expect(expected_line == line, f"{words}, line {number}: {line!r}, expected {expected_line!r}")
         expect(done.stdout.decode() == text, f"{words}: another number of lines")
     expect(log.read_bytes() == before, "a list changed the log")
 

@@ -44,11 +44,11 @@ def killed_sessions(trial: Trial) -> None:
 
     All answered requests are in the log, unless a crash of the machine lost the end of the log.
     """
-    trial.want_log()
+    trial.require_log()
     kills = torn = 0
     for number, words in enumerate((*SETTINGS, *PARTS[:2 * trial.has_part])):
         draw = trial.draw(f"killed session {number}")
-        data, wanted = drawn_session(draw, trial.lines, words, trial.has_link)
+        data, expected = drawn_session(draw, trial.lines, words, trial.has_link)
         lines = whole_lines(data)
         log = trial.folder / f"session-{number}.log"
         words = (*words, "--log", str(log))
@@ -57,7 +57,7 @@ def killed_sessions(trial: Trial) -> None:
             session = Serve(trial.program, words)
             answers = killed_after(session, b"".join(lines[begin:]), draw)
             kills += 1
-            compare_some(lines[begin:], wanted[begin:], answers)
+            compare_some(lines[begin:], expected[begin:], answers)
             least = begin + len(answers)
             if draw.randrange(3) == 0 and answered(log):
                 # Cut off the end of the last line, which has at least one byte; keep the first line.
@@ -69,7 +69,7 @@ def killed_sessions(trial: Trial) -> None:
             expect(least <= begin <= len(lines), f"{begin} lines in the log, but {least} were answered")
         session = Serve(trial.program, words)
         rest = b"".join(lines[begin:])
-        compare(rest, wanted[begin:], session.exchange(random_pieces(draw, rest)))
+        compare(rest, expected[begin:], session.exchange(random_pieces(draw, rest)))
         session.end()
     print(f"  {kills} kills, {torn} torn logs")
 
@@ -97,16 +97,16 @@ def killed_after(session: Serve, data: bytes, draw: Random) -> List[str]:
     return output.decode("utf-8", "backslashreplace").split("\n")[:-1]
 
 
-def compare_some(lines: Sequence[bytes], wanted: Sequence[str], answers: Sequence[str]) -> None:
+def compare_some(lines: Sequence[bytes], expected: Sequence[str], answers: Sequence[str]) -> None:
     """Compare the answers to the first of these lines with the expected ones."""
-    expect(len(answers) <= len(wanted), f"{len(answers)} answers to {len(wanted)} lines")
-    for line, want, answer in zip(lines, wanted, answers):
-        expect(want == answer, f"{line[:200]!r}: {answer!r}, expected {want!r}")
+    expect(len(answers) <= len(expected), f"{len(answers)} answers to {len(expected)} lines")
+    for line, expected_line, answer in zip(lines, expected, answers):
+        expect(expected_line == answer, f"{line[:200]!r}: {answer!r}, expected {expected_line!r}")
 
 
 def refused_logs(trial: Trial) -> None:
     """A log that has other settings or is not a log: status 1, no answer, the file unchanged. If it is in use, the status is 5."""
-    trial.want_log()
+    trial.require_log()
     log = trial.folder / "refused.log"
     words = ("--workers", "3", "--within", "test", "--log", str(log))
     session = Serve(trial.program, words)
@@ -132,7 +132,7 @@ def changed_logs(trial: Trial) -> None:
 
     It refuses a log whose first line is changed, or which has a wrong checksum.
     """
-    trial.want_log()
+    trial.require_log()
     counts = {"refused": 0, "resumed": 0, "damaged": 0, "torn": 0}
     for number, words in enumerate(SETTINGS):
         draw = trial.draw(f"changed log {number}")
@@ -188,7 +188,7 @@ def resumes_or_not(trial: Trial, words: Sequence[str], body: bytes, head: bytes,
 
 def damaged_logs(trial: Trial) -> None:
     """A log in which one byte was changed before its last checksum is refused. The message has the lines between which it is."""
-    trial.want_log()
+    trial.require_log()
     words, log = SETTINGS[0], trial.folder / "damaged.log"
     draw = trial.draw("damaged log")
     whole = logged(trial, words, log, draw)
@@ -212,9 +212,9 @@ def resumes(trial: Trial, words: Sequence[str], lines: Sequence[bytes], draw: Ra
             model.answer(read(line))
     except drawn.NotPlain:
         return False
-    data, wanted = drawn_requests(draw, CHANGED_LINES, model, trial.has_link)
+    data, expected = drawn_requests(draw, CHANGED_LINES, model, trial.has_link)
     session = Serve(trial.program, words)
-    compare(data, wanted, session.exchange(iter([data])))
+    compare(data, expected, session.exchange(iter([data])))
     status, errors = session.end()
     is_torn = errors.endswith(": incomplete last line removed")
     expect(status == 0 and (is_torn or not errors), f"status {status}, {errors!r}")
@@ -236,7 +236,7 @@ def refuses(trial: Trial, words: Sequence[str], log: Path, status: int = 1, mess
 
 def full_disk(trial: Trial) -> None:
     """A request that there is no room for in the log is not answered; with room, the crawl resumes."""
-    trial.want_log()
+    trial.require_log()
     with small_disk(trial.folder / "disk") as disk:
         if not disk:
             raise Skipped("this user cannot mount a file system")
@@ -276,19 +276,19 @@ def fill(trial: Trial, log: Path) -> List[str]:
                 if frontier.offer(f"http://a.test/{number}"):
                     accepted.append(f"http://a.test/{number}")
         except FrontierEnded as error:
-            expect(error.status == 1 and "cannot write" in error.told, f"the error: {error}")
+            expect(error.status == 1 and "cannot write" in error.stderr, f"the error: {error}")
             return accepted
     raise Differs("a full disk is not an error")
 
 
 def compacted_logs(trial: Trial) -> None:
     """A compacted log is shorter, and a session resumes from it as from the whole log."""
-    trial.want_log()
+    trial.require_log()
     if not trial.has_compact:
         raise Skipped("the program has no --compact")
     for number, words in enumerate((*SETTINGS, *PARTS[:3 * trial.has_part])):
         draw = trial.draw(f"compacted {number}")
-        data, wanted = drawn_session(draw, trial.lines, words, trial.has_link)
+        data, expected = drawn_session(draw, trial.lines, words, trial.has_link)
         lines = whole_lines(data)
         log = trial.folder / f"whole-{number}.log"
         before = log
@@ -296,7 +296,7 @@ def compacted_logs(trial: Trial) -> None:
             begin, end = (len(lines) * quarter // 4 for quarter in (part, part + 1))
             some = b"".join(lines[begin:end])
             session = Serve(trial.program, (*words, "--log", str(log)))
-            compare(some, wanted[begin:end], session.exchange(random_pieces(draw, some)))
+            compare(some, expected[begin:end], session.exchange(random_pieces(draw, some)))
             expect(session.end()[0] == 0, "its end")
             before, log = log, trial.folder / f"short-{number}-{part}.log"
             done = subprocess.run(
@@ -309,7 +309,7 @@ def compacted_logs(trial: Trial) -> None:
             heads = [file.read_bytes().partition(b"\n") for file in (before, log)]
             expect(heads[0][0] == heads[1][0], "the compacted log has another first line")
             again = elsewhere(Serve(trial.program, words).exchange(iter([heads[1][2]])).decode().split("\n"))
-            expect(again == elsewhere(wanted[:end]), "the URLs of other parts are not kept once each")
+            expect(again == elsewhere(expected[:end]), "the URLs of other parts are not kept once each")
             refuses(trial, (*words, "--log", str(before), "--compact", str(log)), log)
 
 
@@ -320,8 +320,8 @@ def elsewhere(answers: Iterable[str]) -> List[str]:
 
 def logs_of_parts(trial: Trial) -> None:
     """A log belongs to one part and keeps its identity, even if its first line is incomplete."""
-    trial.want_log()
-    trial.want_part()
+    trial.require_log()
+    trial.require_part()
     log = trial.folder / "part.log"
     words = ("--part", "1/2", "--workers", "2", "--log", str(log))
     named = identity(trial, words)

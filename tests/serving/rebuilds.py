@@ -102,9 +102,9 @@ def lines_of(old: Lists, new: Session) -> Tuple[List[bytes], List[str], int]:
     left_out: List[str] = []
     unfinished = 0
 
-    def give(line: bytes, *wanted: str) -> str:
+    def give(line: bytes, *allowed: str) -> str:
         answer = new.answer(line)
-        if answer.split(" ")[0] not in wanted:
+        if answer.split(" ")[0] not in allowed:
             raise Refused(f"{line!r}: {answer}")
         lines.append(line)
         return answer

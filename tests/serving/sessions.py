@@ -33,14 +33,14 @@ ANSWERS = {
 }
 
 
-def compare(data: bytes, wanted: List[str], output: bytes) -> None:
+def compare(data: bytes, expected: List[str], output: bytes) -> None:
     """Compare the output with the expected answers to these requests."""
     lines = output.decode("utf-8", "backslashreplace").split("\n")
     expect(lines.pop() == "", "the last answer has no line end")
     requests = data.split(b"\n")
-    for number, (request, want, line) in enumerate(zip(requests, wanted, lines), 1):
-        expect(want == line, f"line {number}, {request[:200]!r}: {line!r}, expected {want!r}")
-    expect(len(lines) == len(wanted), f"{len(lines)} answers, expected {len(wanted)}")
+    for number, (request, expected_line, line) in enumerate(zip(requests, expected, lines), 1):
+        expect(expected_line == line, f"line {number}, {request[:200]!r}: {line!r}, expected {expected_line!r}")
+    expect(len(lines) == len(expected), f"{len(lines)} answers, expected {len(expected)}")
 
 
 def random_pieces(draw: Random, data: bytes) -> Iterator[bytes]:
@@ -56,12 +56,12 @@ def random_pieces(draw: Random, data: bytes) -> Iterator[bytes]:
 
 def drawn_parts(trial: Trial) -> None:
     """Random sessions of parts; each URL has one part; and bad values of --part."""
-    trial.want_part()
+    trial.require_part()
     for number, words in enumerate(PARTS):
         draw = trial.draw(f"part {number}")
-        data, wanted = drawn_session(draw, trial.lines // 4, words, trial.has_link)
+        data, expected = drawn_session(draw, trial.lines // 4, words, trial.has_link)
         session = Serve(trial.program, words)
-        compare(data, wanted, session.exchange(random_pieces(draw, data)))
+        compare(data, expected, session.exchange(random_pieces(draw, data)))
         expect(session.end() == (0, ""), "it did not end like at the end of its input")
     one_owner(trial, parts=3)
     for text in ("2/2", "0/0", "1", "1/", "/2", "a/2", "-1/2", "0/524289", "0/4294967297", "1/2/3", ""):
@@ -93,58 +93,58 @@ def drawn_sessions(trial: Trial) -> None:
     came: Counter[str] = Counter()
     for number, words in enumerate(SETTINGS):
         draw = trial.draw(f"session {number}")
-        data, wanted = drawn_session(draw, trial.lines, words, trial.has_link)
-        came.update(re.sub(r"^(accepted|taken|pending|count|stats) .*", r"\1", line) for line in wanted)
+        data, expected = drawn_session(draw, trial.lines, words, trial.has_link)
+        came.update(re.sub(r"^(accepted|taken|pending|count|stats) .*", r"\1", line) for line in expected)
         session = Serve(trial.program, words)
-        compare(data, wanted, session.exchange(random_pieces(draw, data)))
+        compare(data, expected, session.exchange(random_pieces(draw, data)))
         expect(session.end() == (0, ""), "it did not end like at the end of its input")
     expect(set(came) == ANSWERS, f"these answers did not occur: {ANSWERS - set(came)}")
 
 
 def transcript(trial: Trial) -> None:
     """The example session in docs/SESSION.md."""
-    trial.want_link()
+    trial.require_link()
     text = (ROOT / "docs/SESSION.md").read_text("utf-8")
     shown = re.findall(r"^> (.*)\n(.*?)(?:  .*)?$", text.partition("```text\n")[2].partition("```")[0], re.M)
     expect(len(shown) > 10, "docs/SESSION.md has no transcript")
     session = Serve(trial.program, ("--workers", "2"))
-    for request, wanted in shown:
+    for request, expected in shown:
         answer = session.ask(request.encode())
-        expect(answer == wanted, f"{request}: {answer!r}, but docs/SESSION.md has {wanted!r}")
+        expect(answer == expected, f"{request}: {answer!r}, but docs/SESSION.md has {expected!r}")
     expect(session.end() == (0, ""), "its end")
 
 
 def all_at_once(trial: Trial) -> None:
     """A session whose input is a file, and whose last line has no line end."""
-    data, wanted = drawn_session(trial.draw("at once"), trial.lines, SETTINGS[0], trial.has_link)
+    data, expected = drawn_session(trial.draw("at once"), trial.lines, SETTINGS[0], trial.has_link)
     file = trial.folder / "requests"
     file.write_bytes(data.rstrip(b"\r\n"))
     with open(file, "rb") as requests:
         done = subprocess.run([trial.program, "serve", *SETTINGS[0]], stdin=requests, capture_output=True, timeout=SECONDS)
     ends = data.rstrip(b"\r\n").count(b"\n") + 1
-    compare(data, wanted[:ends], done.stdout)
+    compare(data, expected[:ends], done.stdout)
     expect(done.returncode == 0 and done.stderr == b"", f"status {done.returncode}")
 
 
 def byte_by_byte(trial: Trial) -> None:
     """Requests byte by byte; each answer comes before the next line begins."""
-    data, wanted = drawn_session(trial.draw("bytes"), trial.lines // 20, SETTINGS[3], trial.has_link)
+    data, expected = drawn_session(trial.draw("bytes"), trial.lines // 20, SETTINGS[3], trial.has_link)
     session = Serve(trial.program, SETTINGS[3])
-    for request, want in zip(data.split(b"\n"), wanted):
+    for request, expected_line in zip(data.split(b"\n"), expected):
         if len(request) < 500:
             for place in range(len(request)):
                 session.send(request[place:place + 1])
         else:
             session.send(request)
         line = session.ask(b"")
-        expect(line == want, f"{request!r}: {line!r}, expected {want!r}")
+        expect(line == expected_line, f"{request!r}: {line!r}, expected {expected_line!r}")
     expect(session.end() == (0, ""), "its end")
 
 
 def stopped_between(trial: Trial) -> None:
     """SIGSTOP and SIGCONT while requests and answers are being sent."""
     draw = trial.draw("stop")
-    data, wanted = drawn_session(draw, trial.lines, SETTINGS[5], trial.has_link)
+    data, expected = drawn_session(draw, trial.lines, SETTINGS[5], trial.has_link)
     session = Serve(trial.program, SETTINGS[5])
     ended = threading.Event()
 
@@ -156,7 +156,7 @@ def stopped_between(trial: Trial) -> None:
     stopper = threading.Thread(target=stop)
     stopper.start()
     try:
-        compare(data, wanted, session.exchange(random_pieces(draw, data)))
+        compare(data, expected, session.exchange(random_pieces(draw, data)))
     finally:
         ended.set()
         stopper.join()

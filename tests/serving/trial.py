@@ -194,19 +194,19 @@ class Trial:
         """Return a generator of random numbers, which depends on this name and the seed."""
         return Random(f"{name} of seed {self.options.seed}")
 
-    def want_log(self) -> None:
+    def require_log(self) -> None:
         if not self.has_log:
             raise Skipped("the program has no --log")
 
-    def want_wait(self) -> None:
+    def require_wait(self) -> None:
         if not self.has_wait:
             raise Skipped("the program has no --wait")
 
-    def want_part(self) -> None:
+    def require_part(self) -> None:
         if not self.has_part:
             raise Skipped("the program has no --part")
 
-    def want_link(self) -> None:
+    def require_link(self) -> None:
         if not self.has_link:
             raise Skipped("the program has no `link` and `again`")
 

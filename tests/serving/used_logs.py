@@ -20,8 +20,8 @@ LIMIT = 4_096  # the largest file that a limited process can write
 
 def waiting(trial: Trial) -> None:
     """With --wait, a program waits until the other one has ended, but not longer."""
-    trial.want_log()
-    trial.want_wait()
+    trial.require_log()
+    trial.require_wait()
     log = trial.folder / "waiting.log"
     words = (*WORDS, "--log", str(log))
     first = Serve(trial.program, words)
@@ -47,8 +47,8 @@ def waiting(trial: Trial) -> None:
 
 def replaced_while_waiting(trial: Trial) -> None:
     """A program that waits for a log uses the file that has its name when no other program uses it."""
-    trial.want_log()
-    trial.want_wait()
+    trial.require_log()
+    trial.require_wait()
     log, new = trial.folder / "replaced.log", trial.folder / "new.log"
     words = (*WORDS, "--log", str(log))
     first = Serve(trial.program, words)
@@ -78,7 +78,7 @@ def is_open(serve: Serve, file: Path) -> None:
 
 def changed_while_running(trial: Trial) -> None:
     """A program notices before its next answer that its log was changed, and leaves the log as it is."""
-    trial.want_log()
+    trial.require_log()
     if not trial.has_wait:
         raise Skipped("the program does not notice changes of its log")
     folder = trial.folder / "changed"
@@ -137,8 +137,8 @@ def changed(
     serve.stdin.close()
     expect(serve.stdout.read() == b"", f"{name}: it answers")
     status, errors = serve.wait()
-    told = f"mercator: log {log}: changed by another program"
-    expect((status, errors) == (1, told), f"{name}: {status}, {errors!r}")
+    message = f"mercator: log {log}: changed by another program"
+    expect((status, errors) == (1, message), f"{name}: {status}, {errors!r}")
     expect(bytes_of(log.parent) == files, f"{name}: it changed a file")
 
 
