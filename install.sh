@@ -111,11 +111,15 @@ END
     cat "$here/LICENSE-MIT"
 }
 
-# Prints the newest section of CHANGELOG.md as a Debian changelog, without its Markdown.
+# Prints the items of the newest section of CHANGELOG.md as a Debian changelog, without Markdown. Each heading is in brackets.
 changes() {
-    printf 'mercator (%s) unstable; urgency=medium\n\n' "$(version)"
-    awk '/^## / { sections++ } sections == 1 && sub(/^- /, "")' "$here/CHANGELOG.md" | sed 's/\*\*//g; s/`//g; s/\[\([^]]*\)\]([^)]*)/\1/g' | while read -r line; do
-        fold -s -w 74 <<< "$line" | sed '1s/^/  * /; 2,$s/^/    /; s/ *$//'
+    local line
+    printf 'mercator (%s) unstable; urgency=medium\n' "$(version)"
+    sed -n '/^## /,$p' "$here/CHANGELOG.md" | sed '1d; /^## /,$d; s/\*\*//g; s/`//g; s/\[\([^]]*\)\]([^)]*)/\1/g' | while IFS= read -r line; do
+        case $line in
+        '### '*) printf '\n  [ %s ]\n' "${line#\#\#\# }" ;;
+        '- '*) fold -s -w 74 <<< "${line#- }" | sed '1s/^/  * /; 2,$s/^/    /; s/ *$//' ;;
+        esac
     done
     printf '\n -- %s  %s\n' "$(maintainer)" "$(date -R -u -d "@$SOURCE_DATE_EPOCH")"
 }

@@ -151,10 +151,13 @@ class Site:
     """The robots.txt and the delay of a scheme, host and port."""
 
     def __init__(
-        self, site: str, asked: Dict[Optional[str], float], agent: str, delay: float
+        self, site: str, requested_at: Dict[Optional[str], float], agent: str, delay: float
     ) -> None:
-        """Fetch robots.txt. `asked` has the time of the last request to each host, on any port."""
-        self.host, self.asked = urlsplit(site).hostname, asked
+        """Fetch robots.txt.
+
+        `requested_at` has the time of the last request to each host, on any port.
+        """
+        self.host, self.requested_at = urlsplit(site).hostname, requested_at
         self.agent, self.delay = agent, delay
         self.robots = RobotFileParser()
         self.robots_url = site + "/robots.txt"
@@ -177,9 +180,9 @@ class Site:
                 self.failures, self.failed_at = failures + 1, time.monotonic()
                 return
             self.robots.parse(body.decode("utf-8", "replace").splitlines())
-            wanted = int(self.robots.crawl_delay(self.agent) or 0)
-            self.delay = max(self.delay, wanted)
-            self.refusal = "robots" if wanted > DAY else None
+            crawl_delay = int(self.robots.crawl_delay(self.agent) or 0)
+            self.delay = max(self.delay, crawl_delay)
+            self.refusal = "robots" if crawl_delay > DAY else None
         except Exception as error:
             report(self.robots_url, error)
 
@@ -190,9 +193,9 @@ class Site:
             if again > time.monotonic():
                 return again
             self.read_robots()
-        if self.host not in self.asked or self.refusal_of(url):
+        if self.host not in self.requested_at or self.refusal_of(url):
             return 0.0
-        return self.asked[self.host] + self.delay
+        return self.requested_at[self.host] + self.delay
 
     def fetch_robots(self, url: str) -> Tuple[bytes, Optional[str]]:
         """Return robots.txt, or if it cannot be read, the status of all URLs."""
@@ -216,12 +219,12 @@ class Site:
 
     def fetch(self, url: str, largest: int, is_robots: bool = False) -> Reply:
         """Fetch a URL after the delay since the last request to the host."""
-        if self.host in self.asked:
-            time.sleep(max(0.0, self.asked[self.host] + self.delay - time.monotonic()))
+        if self.host in self.requested_at:
+            time.sleep(max(0.0, self.requested_at[self.host] + self.delay - time.monotonic()))
         try:
             return fetch(url, self.agent, largest, is_robots)
         finally:
-            self.asked[self.host] = time.monotonic()
+            self.requested_at[self.host] = time.monotonic()
 
 
 class Known:
@@ -229,13 +232,13 @@ class Known:
 
     def __init__(self) -> None:
         self.sites: Dict[str, Site] = {}
-        self.asked: Dict[Optional[str], float] = {}
+        self.requested_at: Dict[Optional[str], float] = {}
 
     def site_of(self, url: str, options: argparse.Namespace) -> Site:
         """Return the site of a URL. If it is new, its robots.txt is requested."""
         name = "{0.scheme}://{0.netloc}".format(urlsplit(url))
         if name not in self.sites:
-            self.sites[name] = Site(name, self.asked, options.agent, options.delay)
+            self.sites[name] = Site(name, self.requested_at, options.agent, options.delay)
         return self.sites[name]
 
     def ready_at(self, url: str, options: argparse.Namespace) -> float:

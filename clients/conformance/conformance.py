@@ -38,7 +38,7 @@ from urllib.parse import quote, urljoin, urlsplit
 HERE = Path(__file__).resolve().parent
 HOSTS = 4
 SECONDS = float(os.environ.get("SECONDS", "60"))
-# How many times a queue may be asked in vain when nothing has changed.
+# How many times `next` may be sent in vain for a queue when nothing has changed.
 POLLS = 20
 MARKER = "/marker"
 

@@ -45,7 +45,7 @@ class Frontier:
         self.has_seeds, self.is_closed, self.is_replaying = True, False, False
         # The queues whose URL was in progress at the end of the log, until the client asks for it.
         self.resumed: Set[int] = set()
-        # How many times each queue was asked in vain since something changed for it.
+        # How many times `next` was sent in vain for each queue since something changed for it.
         self.polls = [0] * trap.workers
 
     def note(self, **fact: object) -> None:

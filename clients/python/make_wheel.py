@@ -19,7 +19,7 @@ from pathlib import Path
 from typing import Any, Dict, Optional
 
 HERE = Path(__file__).resolve().parent
-NAME, VERSION = "mercator_clients", "0.1"
+NAME, VERSION = "mercator_clients", "0.2"
 CLIENTS = ("mercator_frontier", "mercator_service", "mercator_cluster", "mercator_scrapy")
 INFO = f"{NAME}-{VERSION}.dist-info"
 

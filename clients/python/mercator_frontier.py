@@ -102,15 +102,15 @@ class ProgramMissing(FrontierError):
 class FrontierEnded(FrontierError):
     """Raised when the program has ended, or the frontier was closed."""
 
-    def __init__(self, why: str, status: Optional[int] = None, told: str = "") -> None:
+    def __init__(self, why: str, status: Optional[int] = None, stderr: str = "") -> None:
         """Create the exception with its message `why`.
 
         `status` is the exit status of the program, or minus the number of the signal that killed
-        it; None if neither is known. `told` is what the program wrote on standard error.
+        it; None if neither is known. `stderr` is what the program wrote on standard error.
         """
         super().__init__(why)
         self.status = status
-        self.told = told
+        self.stderr = stderr
 
 
 class LogInUse(FrontierEnded):
@@ -502,15 +502,15 @@ class Channel:
         """
         self._program = command[0]
         # Standard error goes to a file, since a pipe that nobody reads could fill up.
-        self._told = tempfile.TemporaryFile()
+        self._stderr = tempfile.TemporaryFile()
         try:
             # In a session of its own, so that Ctrl-C reaches only the crawler, which ends it.
             self._process = subprocess.Popen(
                 command, bufsize=0, stdin=subprocess.PIPE, stdout=subprocess.PIPE,
-                stderr=self._told, start_new_session=True,
+                stderr=self._stderr, start_new_session=True,
             )
         except OSError as error:
-            self._told.close()
+            self._stderr.close()
             raise ProgramMissing(
                 f"cannot start {self._program}: {error.strerror}"
                 " (the environment variable MERCATOR can name the program)"
@@ -533,7 +533,7 @@ class Channel:
         exception interrupts the call, the program is ended.
         """
         if self._end:
-            raise type(self._end)(str(self._end), self._end.status, self._end.told)
+            raise type(self._end)(str(self._end), self._end.status, self._end.stderr)
         self._received.clear()
         try:
             self._send_all(requests)
@@ -560,7 +560,7 @@ class Channel:
         """Give up the program in a forked process: it belongs to the process that started it."""
         if not self._end:
             self._end = FrontierEnded("a frontier cannot be used in a forked process")
-            for pipe in (self._process.stdin, self._process.stdout, self._told):
+            for pipe in (self._process.stdin, self._process.stdout, self._stderr):
                 assert pipe
                 pipe.close()
 
@@ -624,13 +624,13 @@ class Channel:
         except subprocess.TimeoutExpired:
             self._process.kill()
             status = self._process.wait()
-        self._told.seek(0)
-        told = self._told.read().decode("utf-8", "replace").strip()
-        self._told.close()
+        self._stderr.seek(0)
+        errors = self._stderr.read().decode("utf-8", "replace").strip()
+        self._stderr.close()
         how = f"by signal {-status}" if status < 0 else f"with status {status}"
         why = why or f"{self._program} ended {how}"
         kind = LogInUse if status == _LOG_IN_USE else FrontierEnded
-        self._end = kind(f"{why}: {told}" if told else why, status, told)
+        self._end = kind(f"{why}: {errors}" if errors else why, status, errors)
         return self._end
 
 
