@@ -63,8 +63,8 @@ def links(rng: random.Random, hosts: Hosts, pages_of: PagesOf, page: int) -> Ite
         yield spelled(hosts, page, target, spelling)
 
 
-def most_links(wanted: int) -> int:
-    return 8 * wanted // 5
+def most_links(average: int) -> int:
+    return 8 * average // 5
 
 
 def own_links(rng: random.Random, hosts: Hosts, pages_of: PagesOf, page: int, count: int) -> Iterator[str]:
@@ -81,14 +81,14 @@ def repeated(rng: random.Random, text: str) -> str:
 
 
 def many_links(
-    rng: random.Random, hosts: Hosts, pages_of: PagesOf, page: int, navigations: Navigations, wanted: int
+    rng: random.Random, hosts: Hosts, pages_of: PagesOf, page: int, navigations: Navigations, average: int
 ) -> List[str]:
     """Return links like those of a real page: the navigation of its folder, its own links, and repetitions."""
     folder = (hosts[page], page % SECTIONS)
     if folder not in navigations:
-        targets = rng.choices(pages_of[hosts[page]], k=most_links(wanted))
+        targets = rng.choices(pages_of[hosts[page]], k=most_links(average))
         navigations[folder] = [spelled(hosts, page, target, rng.choice((BY_PATH, RELATIVE))) for target in targets]
-    count = rng.randrange(3 * wanted // 4, most_links(wanted) + 1)
+    count = rng.randrange(3 * average // 4, most_links(average) + 1)
     repeats = count // 3
     own = list(own_links(rng, hosts, pages_of, page, (count - repeats) // 8))
     texts = navigations[folder][:count - repeats - len(own)] + own
@@ -111,9 +111,9 @@ def arguments() -> argparse.Namespace:
 
 
 def main() -> None:
-    wanted = arguments()
+    options = arguments()
     rng = random.Random(SEED)
-    hosts = random_hosts(rng, wanted.pages, HOSTS if wanted.links is None else wanted.pages // 1_000 + 1)
+    hosts = random_hosts(rng, options.pages, HOSTS if options.links is None else options.pages // 1_000 + 1)
     pages_of: PagesOf = {}
     navigations: Navigations = {}
     for page, host in enumerate(hosts):
@@ -122,10 +122,10 @@ def main() -> None:
     for page, host in enumerate(hosts):
         lines = [f"page http:{authority(host)}{path(page)}\n"]
         texts: Iterable[str]
-        if wanted.links is None:
+        if options.links is None:
             texts = links(rng, hosts, pages_of, page)
         else:
-            texts = many_links(rng, hosts, pages_of, page, navigations, wanted.links)
+            texts = many_links(rng, hosts, pages_of, page, navigations, options.links)
         lines += [f"link {text}\n" for text in texts]
         sys.stdout.write("".join(lines))
 

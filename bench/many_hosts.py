@@ -74,8 +74,8 @@ def main() -> int:
     command = [*options.command, "--delay", str(options.delay), *seeds]
     status = subprocess.run(command, stdout=subprocess.DEVNULL, check=False).returncode
     took = time.monotonic() - begun
-    wanted = sorted(["/robots.txt", *(f"/{page}" for page in range(options.pages))])
-    if status or any(sorted(path for _, path in site.requests[host]) != wanted for host in site.hosts):
+    expected = sorted(["/robots.txt", *(f"/{page}" for page in range(options.pages))])
+    if status or any(sorted(path for _, path in site.requests[host]) != expected for host in site.hosts):
         print(f"status {status}, or not every page was requested once", file=sys.stderr)
         return 1
     times = [[at for at, _ in site.requests[host]] for host in site.hosts]

@@ -62,8 +62,8 @@ WORD = re.compile(r"[A-Za-z_]\w*")
 # A placeholder for any name, and documents of the toolchain that pages name.
 PLACEHOLDERS = {"NAME_tests"}
 TOOLCHAIN = ("docs/NOT_COVERED.md", "docs/REFUSED.md")
-# Pages that also name what was rejected.
-WITH_REJECTED_NAMES = ("docs/DECISIONS.md", "docs/PROOFS.md")
+# Pages that also name what was rejected or is gone.
+WITH_REJECTED_NAMES = ("CHANGELOG.md", "docs/DECISIONS.md", "docs/PROOFS.md")
 
 
 # ---------------------------------------------------------------- the files
@@ -457,7 +457,7 @@ CEILINGS: Counts = {
     "asked": [0, 0, 0, 0],
     "go on": [0, 0, 0, 0],
     "mend": [0, 0, 0, 0],
-    "where (condition)": [1, 0, 1, 0],
+    "where (condition)": [1, 0, 0, 0],
     "behind": [0, 0, 0, 0],
     "beside": [0, 0, 0, 0],
     "at once": [0, 0, 0, 0],
