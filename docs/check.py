@@ -12,7 +12,8 @@ Each document is checked for:
 - names: a path in backticks exists in the document's folder, its crate, `crates/`, `docs/`,
   `tests/` or the root, unless a build makes it; a name in backticks occurs in a file that is no
   document.
-- quotations: code after a line that begins with "From `PATH`" is in that file, piece by piece.
+- quotations: code after a line that begins with "From `PATH`" is in that file, piece by piece. The
+  README of each library quotes a caller, so that its example is proved.
 - dates: only the figures and the change log say when something was so.
 - size: README is at most README_BYTES long, an entry of DECISIONS at most ENTRY_WORDS.
 
@@ -50,7 +51,7 @@ DATE = re.compile(
     r"|(?:November|December) 20\d\d)\b",
     re.I,
 )
-QUOTED = re.compile(r"^From `([^`]+)`.*\n\n```rust\n(.*?)^```$", re.M | re.S)
+QUOTED = re.compile(r"^From `([^`]+)`[^\n]*\n\n```rust\n(.*?)^```$", re.M | re.S)
 ENTRY = re.compile(r"^- .*\n(?:(?!- |#).+\n?)*", re.M)
 LINK = re.compile(r"\]\(([^)#\s]*)(?:#([^)\s]*))?\)")
 HEADING = re.compile(r"^#+ (.*)$", re.M)
@@ -516,6 +517,8 @@ class Checker:
             yield Result(f"{name}: links", list(self.links(name, text)))
             yield Result(f"{name}: names", list(self.wrong_names(name, text)))
             yield Result(f"{name}: quotations", list(self.quotations(name, text)))
+            if self.is_library(name) and not QUOTED.search(text):
+                yield Result(f"{name}: quotations", ["1: no code of a caller"])
             if name not in DATED:
                 yield Result(f"{name}: dates", list(dates(text)))
             if name == "README.md":
@@ -551,6 +554,12 @@ class Checker:
     def exists(self, folder: Path, path: str) -> bool:
         path = re.sub(r"(?<=/)out/.*", "", path)
         return any((place / path).exists() for place in (folder, *self.folders))
+
+    def is_library(self, name: str) -> bool:
+        """Whether the document is the README of a library: of a crate without `main` and tests."""
+        folder = (self.root / name).parent
+        is_crate = folder.parent == self.root / "crates" and name.endswith("/README.md")
+        return is_crate and not name.endswith("_tests/README.md") and (folder / "src/lib.rt").exists()
 
     def quotations(self, name: str, text: str) -> Iterator[str]:
         for quoted in QUOTED.finditer(text):
