@@ -7,6 +7,9 @@ COUNT is the number of documents [default: 2000], SEED the seed of the random ch
 Documents with balanced SVG and MathML are compared with the elements of html5lib's tree, too. All of these documents are
 also read as XML, and compared with the tokenizer of tests/checking/tags.py.
 
+The program reads each document a second time, until it has half of the links. If they are not the first ones, the document
+fails.
+
 The script makes a small program with a copy of `crates/html_links` in a temporary folder, and runs it by `rt try`. The
 model reads a document with html5lib's tokenizer (Debian's python3-html5lib), a refresh by the steps of the HTML
 Standard, and other values with the patterns of tests/checking/converter.py. All names of character references are compared
@@ -85,7 +88,7 @@ PROGRAM = """//! Prints the links of the documents in a file.
 
 ghost use Rattle.std.specs.Prelude.{map};
 
-use html_links::{Links, PlacedLinks, Syntax, read_places};
+use html_links::{CountedLinks, Links, PlacedLinks, Syntax, read_places};
 use std::alloc::{AllocError, Global};
 use std::io::Write;
 use std::{fs, io};
@@ -106,15 +109,35 @@ impl PlacedLinks for Texts {
     fn begin_at(&mut self, _: usize) {}
 }
 
+impl CountedLinks for Texts {
+    fn count(&self) -> usize {
+        self.1.len()
+    }
+}
+
+/// Whether the first `count` texts are the same.
+fn begin_same(some: &Texts, all: &Texts, count: usize) -> bool {
+    for (a, b) in some.1.iter().zip(&all.1).take(count) {
+        if a.as_slice() != b.as_slice() {
+            return false;
+        }
+    }
+    some.1.len() >= count
+}
+
 fn main(rt: HostRuntime) -> io::Result<()> {
     let documents = fs::read(&rt, "documents")?;
     let mut all = Vec::new(rt.alloc());
     for document in documents.as_slice().split(|byte| *byte == 0x1d) {
+        let in_xml = document.starts_with(b"\\x1c");
+        let syntax = if in_xml { Syntax::Xhtml } else { Syntax::Html };
         let mut texts = Texts(rt.alloc(), Vec::new(rt.alloc()));
-        if document.starts_with(b"\\x1c") {
-            read_places(rt.alloc(), Syntax::Xhtml, document, false, &mut texts)?;
-        } else {
-            read_places(rt.alloc(), Syntax::Html, document, true, &mut texts)?;
+        read_places(rt.alloc(), syntax, document, !in_xml, None, &mut texts)?;
+        let half = texts.1.len() / 2;
+        let mut first = Texts(rt.alloc(), Vec::new(rt.alloc()));
+        read_places(rt.alloc(), syntax, document, !in_xml, Some(half), &mut first)?;
+        if !begin_same(&first, &texts, half) {
+            all.extend_from_slice(b"other first links\\x1e")?;
         }
         for text in &texts.1 {
             all.extend_from_slice(text.as_slice())?;

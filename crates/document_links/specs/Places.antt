@@ -1,5 +1,5 @@
 -- Points in a text, by the line and the character in it, each from 1; and the locations of links in a file.
-use Rattle.std.specs.Prelude.{◌≡◌, ◌≤◌, map, ℕ, ◌+◌, ◌==◌, Bool, true, false, not, if◌then◌else◌, List, [], ◌∷◌, take, count_by, bit_and, length, slice_index_or, string_bytes, IsAscii}
+use Rattle.std.specs.Prelude.{◌≡◌, ◌<◌, ◌≤◌, map, ℕ, ◌+◌, ◌==◌, Bool, true, false, not, if◌then◌else◌, List, [], ◌∷◌, take, count_by, bit_and, length, slice_index_or, string_bytes, Option, None, Some, IsAscii}
 use Rattle.std.specs.List.{list_any}
 use Rattle.std.specs.Str.Lossy.{utf8_lossy}
 use Rattle.document_links.specs.declared.charset.Charset.{Charset}
@@ -46,6 +46,11 @@ keeps_ascii Windows1252 = true
 keeps_ascii Other = true
 
 -- ---- links
+
+-- a link with this index is one of the first `count` links, or of all links if no number is given
+abbrev pub IsAmong : Option ℕ → ℕ → Type 0
+IsAmong None index = Unit {0}
+IsAmong (Some count) index = index < count
 
 abbrev pub point_of_place : TextPlace → Point
 point_of_place place = record { line = place.line; column = place.column }

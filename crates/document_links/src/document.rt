@@ -256,7 +256,7 @@ fn read_all(
     if options.anchors {
         read_page(alloc, options.syntax, text, options.styles, raw, ids)
     } else if options.styles {
-        read_places(alloc, options.syntax, text, options.styles, raw)
+        read_places(alloc, options.syntax, text, options.styles, None, raw)
     } else {
         read_links(alloc, options.syntax, text, raw)
     }

@@ -1,5 +1,6 @@
 //! Reads files without a `base`: style sheets, feeds and lists of URLs.
 ghost use Rattle.std.specs.Prelude.{◌≡◌, ◌++◌, true, IfOk, OnOk};
+ghost use Rattle.html_links.specs.Links.{needed_texts};
 ghost use Rattle.document_links.specs.Encoding.{HasFeed, HasFile, HasFileLinks, HasFileTexts, HasSheet, HasUrlList, is_known, links_in};
 
 use crate::charset::{Charset, charset_of, named_in_sheet};
@@ -156,44 +157,53 @@ fn links_in_text(
     ensures { IfOk result (λ file. HasFileTexts reading.kind options.entry reading.charset text.now file.links) }
 {
     raw.clear()?;
-    find_links(alloc, text, reading, raw)?;
+    find_links(alloc, text, reading, None, raw)?;
     let base = add_root(options.root, url, None, raw)?;
     // Queries are in UTF-8, whatever the encoding of the file is.
     let mut writer = written_links(alloc, Charset::Utf8, base, url, options, raw)?;
     Ok(Document::written(&mut writer))
 }
 
-/// Finds the known links in a text in UTF-8, to which a file of this kind was converted from its encoding. `text_places` finds the
-/// same links.
+/// Finds the known links in a text in UTF-8, to which a file of this kind was converted from its encoding. If only a number of links
+/// is needed, those after them may be missing. `text_places` finds the same links.
 pub(crate) fn find_links(
     alloc: Global,
     text: &[u8],
     reading: Reading,
+    needed: Option<usize>,
     raw: &mut RawLinks,
 ) -> Result<(), AllocError>
-    ensures { is_known reading.charset ≡ true → OnOk result (raw.new.texts ≡ raw.old.texts ++ links_in reading.kind text.now) }
+    ensures { is_known reading.charset ≡ true → OnOk result (needed_texts needed raw.new.texts ≡ needed_texts needed (raw.old.texts ++ links_in reading.kind text.now)) }
 {
-    let base = push_links(alloc, text, reading.kind, raw)?;
     match reading.charset {
+        // All links are read, since the unknown ones do not count.
         Charset::Other => {
+            let base = push_links(alloc, text, reading.kind, None, raw)?;
             keep_known(base, raw)?;
             Ok(())
         }
-        _ => Ok(()),
+        _ => {
+            push_links(alloc, text, reading.kind, needed, raw)?;
+            Ok(())
+        }
     }
 }
 
-/// Appends the links in a text, and returns its base, which only a document can have.
+/// Appends the links in a text, and returns its base, which only a document can have. If only a number of links is needed, a
+/// document is read until there are enough.
 fn push_links(
     alloc: Global,
     text: &[u8],
     kind: TextKind,
+    needed: Option<usize>,
     raw: &mut RawLinks,
 ) -> Result<Base, AllocError>
-    ensures { OnOk result (raw.new.texts ≡ raw.old.texts ++ links_in kind text.now) }
+    ensures { OnOk result (needed_texts needed raw.new.texts ≡ needed_texts needed (raw.old.texts ++ links_in kind text.now)) }
 {
     match kind {
-        TextKind::Document { syntax, styles } => read_places(alloc, syntax, text, styles, raw),
+        TextKind::Document { syntax, styles } => {
+            read_places(alloc, syntax, text, styles, needed, raw)
+        }
         TextKind::StyleSheet => {
             read_style(alloc, text, 0, raw)?;
             Ok(None)

@@ -37,7 +37,6 @@ pub use file_links::{read_feed, read_style_sheet, read_url_list};
 pub use html_links::Syntax;
 pub use line_text::{LINK_FRONT, fits};
 pub use link_texts::LinkTexts;
-pub use page_base::{base_of, resolved};
 pub use places::{TextPlace, text_places};
 pub use positions::{InvalidLink, LinkPlaces};
 pub use raw_links::RawLinks;

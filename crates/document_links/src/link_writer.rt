@@ -130,7 +130,7 @@ impl LinkWriter {
         ensures written { keeps_links self.old.base self.old.charset ≡ true → can_write text.now ≡ true → OnOk result (self.new.links ≡ self.old.links ++ written text.now ∷ []) }
     {
         if self.keeps(text) {
-            return self.push_text(text);
+            return self.push_plain(text);
         }
         let text = trimmed(text);
         if !has_breaks(text) {
@@ -205,6 +205,19 @@ impl LinkWriter {
         }
         self.has_skipped = true;
         Ok(())
+    }
+
+    /// Does what `push_text` does, for a text without a colon.
+    fn push_plain(&mut self, text: &[u8]) -> Result<(), AllocError>
+        requires { fits 5 text.now ≡ true }
+        ensures base { self.new.base ≡ self.old.base }
+        ensures charset { self.new.charset ≡ self.old.charset }
+        ensures links { OnOk result (self.new.links ≡ self.old.links ++ text.now ∷ []) }
+    {
+        if let Some(positions) = &mut self.positions {
+            positions.push_plain(text)?;
+        }
+        self.links.push(text)
     }
 
     /// Appends a text that fits in a line, and keeps its index if the caller asks for indices.

@@ -4,7 +4,7 @@ ghost use Rattle.document_links.specs.Written.{has_no_base};
 
 use crate::cleaning::{trimmed, without_breaks};
 use crate::scheme::{is_web, scheme_of};
-use crawl_keys::{Base, CanonUrl, KeyError};
+use crawl_keys::{Base, CanonUrl};
 use std::alloc::{AllocError, Global};
 
 /// The base of the links of a page, which its `base` determines.
@@ -33,7 +33,7 @@ pub(crate) fn page_base(
     url: &CanonUrl,
 ) -> Result<PageBase, AllocError> {
     match base_target(alloc, url, href)? {
-        Some(target) => Ok(PageBase::Url(base_of(alloc, &target)?)),
+        Some(target) => Ok(PageBase::Url(Base::new(alloc, &target)?)),
         None => scheme_base(alloc, href),
     }
 }
@@ -45,7 +45,7 @@ pub(crate) fn base_target(
     href: &[u8],
 ) -> Result<Option<CanonUrl>, AllocError> {
     let text = without_breaks(alloc, trimmed(href))?;
-    resolved(alloc, &base_of(alloc, url)?, text.as_slice())
+    resolved(alloc, &Base::new(alloc, url)?, text.as_slice())
 }
 
 /// The base for an `href` that begins with another scheme.
@@ -100,30 +100,17 @@ fn meaning_behind(alloc: Global, front: &[u8], text: &[u8]) -> Result<LinkMeanin
     Ok(LinkMeaning::Text(link))
 }
 
-/// The base of the page at a URL.
-///
-/// # Errors
-/// Out of memory.
-pub fn base_of(alloc: Global, url: &CanonUrl) -> Result<Base, AllocError>
-    ensures { IfOk result (λ base. base ≡ url.now) }
-{
-    match Base::new(alloc, url) {
-        Ok(base) => Ok(base),
-        Err(_) => Err(AllocError),
-    }
-}
-
 /// The canonical URL of a link, if it has one.
 ///
 /// # Errors
 /// Out of memory.
-pub fn resolved(alloc: Global, base: &Base, text: &[u8]) -> Result<Option<CanonUrl>, AllocError> {
-    let Ok(text) = str::from_utf8(text) else {
-        return Ok(None);
-    };
-    match base.resolve(alloc, text) {
-        Ok(url) => Ok(Some(url)),
-        Err(KeyError::NoMemory) => Err(AllocError),
+pub(crate) fn resolved(
+    alloc: Global,
+    base: &Base,
+    text: &[u8],
+) -> Result<Option<CanonUrl>, AllocError> {
+    match str::from_utf8(text) {
+        Ok(text) => base.link(alloc, text),
         Err(_) => Ok(None),
     }
 }

@@ -1,7 +1,7 @@
 //! The locations of links in a file, and the links as written there.
-ghost use Rattle.std.specs.Prelude.{◌≡◌, [], IfOk, map, slice_index_or, string_bytes};
+ghost use Rattle.std.specs.Prelude.{◌≡◌, [], All, IfOk, map, slice_index_or, string_bytes};
 ghost use Rattle.std.specs.Str.Lossy.{utf8_lossy};
-ghost use Rattle.document_links.specs.Places.{ArePlaces, ArePlacesIn, point_at, point_of_place};
+ghost use Rattle.document_links.specs.Places.{ArePlaces, ArePlacesIn, IsAmong, point_at, point_of_place};
 ghost use Rattle.document_links.specs.Written.{clean};
 
 use crate::charset::charset_of;
@@ -26,7 +26,8 @@ pub struct TextPlace {
     pub written: String,
 }
 
-/// Finds the links with these indices among the links of a file. The locations are in the order of the indices.
+/// Finds the links with these indices among the links of a file. The locations are in the order of the indices. A document is read
+/// only up to the last of these links.
 ///
 /// # Errors
 /// Out of memory.
@@ -56,8 +57,19 @@ fn places_in(
     ensures { IfOk result (λ places. ArePlacesIn reading.kind reading.charset text.now indices.now places.items) }
 {
     let mut raw = RawLinks::new(alloc);
-    find_links(alloc, text, reading, &mut raw)?;
+    find_links(alloc, text, reading, needed_count(indices), &mut raw)?;
     places_of(alloc, text, &raw, indices)
+}
+
+/// The number of links up to the last of those with these indices, or `None` if it does not fit in a `usize`.
+fn needed_count(indices: &[usize]) -> Option<usize>
+    ensures { All (IsAmong result) indices.now }
+{
+    let mut last: usize = 0;
+    for index in indices {
+        last = last.max(*index);
+    }
+    last.checked_add(1)
 }
 
 /// The locations of these links of a text.
@@ -70,7 +82,7 @@ fn places_of(
     ensures placed { IfOk result (λ places. map point_of_place places.items ≡ map (λ index. point_at text.now (slice_index_or raw.now.positions.items index 0)) indices.now) }
     ensures written { IfOk result (λ places. map (λ place. string_bytes place.written) places.items ≡ map (λ index. utf8_lossy (clean (slice_index_or raw.now.texts index []))) indices.now) }
 {
-    let table = known_points(alloc, text)?;
+    let table = known_points(alloc, text, last_position(raw, indices))?;
     let mut places = Vec::new(alloc);
     for index in indices {
         let point = point_in(text, table.as_slice(), raw.position(*index));
@@ -82,6 +94,15 @@ fn places_of(
         })?;
     }
     Ok(places)
+}
+
+/// The greatest position of these links. The table of points may end there. No clause depends on it.
+fn last_position(raw: &RawLinks, indices: &[usize]) -> usize {
+    let mut last: usize = 0;
+    for index in indices {
+        last = last.max(raw.position(*index));
+    }
+    last
 }
 
 /// The text of the link with this index; empty if there is none.

@@ -27,13 +27,19 @@ pub(crate) struct KnownPoint {
     point: Point,
 }
 
-/// A table of the points at every `STEP` bytes of a text. With it `point_in` reads only a few bytes of the text.
-pub(crate) fn known_points(alloc: Global, text: &[u8]) -> Result<Vec<KnownPoint>, AllocError>
+/// A table of the points at every `STEP` bytes of a text, up to the position `end`. With it `point_in` reads only a few bytes of the
+/// text for each position up to `end`.
+pub(crate) fn known_points(
+    alloc: Global,
+    text: &[u8],
+    end: usize,
+) -> Result<Vec<KnownPoint>, AllocError>
     ensures { IfOk result (λ table. All (IsKnown text.now) table.items) }
 {
+    let last = end.min(text.len());
     let mut table = Vec::new(alloc);
     let mut known = first();
-    'steps: while text.len() - known.index > STEP {
+    'steps: while last - known.index > STEP {
         known = known_on(text, known, known.index + STEP);
         table.push(known)?;
     }

@@ -2,7 +2,7 @@
 ghost use Rattle.std.specs.Prelude.{◌≡◌, Some, string_bytes};
 ghost use Rattle.document_links.specs.Schemes.{invalid_kind};
 
-use crate::page_base::{base_of, resolved};
+use crate::page_base::resolved;
 use crate::scheme::{InvalidKind, invalid_kind, is_web, names_host, scheme_of};
 use crawl_keys::{Base, CanonUrl};
 use std::alloc::{AllocError, Global};
@@ -52,7 +52,7 @@ impl Positions {
     ) -> Result<Positions, AllocError> {
         Ok(Positions {
             alloc,
-            page: base_of(alloc, url)?,
+            page: Base::new(alloc, url)?,
             index: 0,
             kept: Vec::with_capacity(alloc, links)?,
             invalid: Vec::new(alloc),
@@ -67,9 +67,24 @@ impl Positions {
 
     /// Keeps the index of the link with this text if it leads to a canonical URL, and the link itself if it is invalid.
     pub(crate) fn push(&mut self, text: &[u8]) -> Result<(), AllocError> {
-        if !self.has_url(text)? {
-            return self.push_invalid(text);
+        if self.has_url(text)? {
+            self.keep()
+        } else {
+            self.push_invalid(text)
         }
+    }
+
+    /// Does what `push` does, for a text without a colon. It has no scheme, so if it names no host, it has a canonical URL.
+    pub(crate) fn push_plain(&mut self, text: &[u8]) -> Result<(), AllocError> {
+        if names_host(text) {
+            self.push(text)
+        } else {
+            self.keep()
+        }
+    }
+
+    /// Keeps the index of the link.
+    fn keep(&mut self) -> Result<(), AllocError> {
         match u32::try_from(self.index) {
             Ok(index) => self.kept.push(index)?,
             Err(_) => self.is_far = true,

@@ -1,7 +1,7 @@
 //! The links and ids of a document, as `html_links` finds them.
 ghost use Rattle.std.specs.Prelude.{◌≡◌, ◌<◌, ◌∷◌, ◌++◌, [], OnOk, length, slice_index_or};
 
-use html_links::{Links, PlacedLinks};
+use html_links::{CountedLinks, Links, PlacedLinks};
 use page_anchors::Ids;
 use std::alloc::{AllocError, Global};
 
@@ -87,6 +87,12 @@ impl Links for RawLinks {
 impl PlacedLinks for RawLinks {
     fn begin_at(&mut self, index: usize) {
         self.index = index;
+    }
+}
+
+impl CountedLinks for RawLinks {
+    fn count(&self) -> usize {
+        self.len()
     }
 }
 

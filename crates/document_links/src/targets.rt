@@ -1,6 +1,6 @@
 //! The URLs to which a document's links lead.
 use crate::link_writer::LinkWriter;
-use crate::page_base::{base_of, resolved};
+use crate::page_base::resolved;
 use crawl_keys::{Base, CanonUrl};
 use std::alloc::{AllocError, Global};
 use std::collections::BTreeMap;
@@ -28,7 +28,7 @@ impl<'t> Targets<'t> {
         Ok(Targets {
             alloc,
             writer,
-            base: base_of(alloc, url)?,
+            base: Base::new(alloc, url)?,
             numbers: BTreeMap::new(alloc),
             last: None,
             urls: Vec::new(alloc),

@@ -1,5 +1,7 @@
 -- What a reader of links sees, tag by tag, and the tags that it skips because they have no links.
-use Rattle.html_links.proofs.Prelude.{◌≡◌, ◌∙◌, ◌<◌, ◌≤◌, sym, ap, subst, refl, arith, ℕ, Bool, true, false, cond, List, Option, None, [], ◌∷◌, ◌++◌, length, map, Some, not-true, or_from, append-nil, cond-false, cond-true, codes, bytes_eq, bytes_eq-Decides, lower, tag_of, Tag, BeforeName, may_be, element_of, element_at, wanted_of, is_usual, Wanted, Data, InTag, Token, TemplateEnd, ends_template, end_tag, content_of, content_at, read, behind_start, tag_context, inner_context, Context, Html, Values, tag_with, values_in, Seen, seen_with, seen_within, seen_from, opened, links_in, ids_in, base_in, or_later, append_assoc, Element}
+use Rattle.html_links.proofs.Prelude.{◌≡◌, ◌∙◌, ◌<◌, ◌≤◌, sym, ap, subst, refl, arith, ℕ, Bool, true, false, cond, List, Option, None, [], ◌∷◌, ◌++◌, length, map, Some, not-true, or_from, append-nil, cond-false, cond-true, codes, bytes_eq, bytes_eq-Decides, lower, tag_of, Tag, BeforeName, may_be, element_of, element_at, wanted_of, is_usual, Wanted, Data, InTag, Token, TemplateEnd, ends_template, end_tag, content_of, content_at, read, behind_start, tag_context, inner_context, Context, Html, Values, tag_with, values_in, Seen, seen_with, seen_within, seen_from, opened, links_in, ids_in, base_in, or_later, append_assoc, Element, are_enough, needed_texts, false≢true}
+use Rattle.std.proofs.lemmas.Bool.{leb-true}
+use Rattle.std.proofs.lemmas.List.{take-append-le}
 use Rattle.html_links.specs.declared.element.Element.TheVariants as element
 use Rattle.html_links.specs.declared.element.TheConstants.{LENGTHS}
 use Rattle.html_links.specs.declared.document.Content.TheVariants as content
@@ -159,3 +161,20 @@ pub more_base : (old new whole : Option (List ℕ)) (all rest : List Seen) (seen
     or_later new (base_in rest) ≡ whole
 more_base old new whole all rest seen inv has taken =
     ap (λ b. or_later b (base_in rest)) taken ∙ or_last old (base_with seen.element seen.values) (base_in rest) ∙ ap (or_later old) (sym has.base) ∙ inv
+
+-- ---- the first links
+
+enough_texts : (needed : Option ℕ) (texts more : List (List ℕ)) → are_enough needed (length texts) ≡ true → needed_texts needed texts ≡ needed_texts needed (texts ++ more)
+enough_texts None texts more enough = absurd (false≢true enough)
+enough_texts (Some n) texts more enough = sym (take-append-le n texts more (leb-true n (length texts) enough))
+
+-- enough links, with those of one more tag
+pub enough_links : (styles : Bool) (needed : Option ℕ) (old new whole : List (List ℕ)) (all rest : List Seen) (seen : Seen) → old ++ links_in styles all ≡ whole → Has all (seen ∷ rest) →
+    new ≡ old ++ links_at styles seen → are_enough needed (length new) ≡ true → needed_texts needed new ≡ needed_texts needed whole
+enough_links styles needed old new whole all rest seen inv has pushed enough =
+    enough_texts needed new (links_in styles rest) enough ∙ ap (needed_texts needed) (more_links styles old new whole all rest seen inv has pushed)
+
+-- if all links are needed, no number of them is enough
+pub never_enough : (needed : Option ℕ) (count : ℕ) → are_enough needed count ≡ true → needed ≡ None → ⊥
+never_enough None count enough none = false≢true enough
+never_enough (Some n) count enough none = cc

@@ -5,7 +5,7 @@ pub use Rattle.html_links.specs.Contexts.{element_at, ends_template, inner_conte
 pub use Rattle.html_links.specs.Document.{Data, EndTagOpen, InTag, Start, TagOpen, TemplateEnd, Token, behind_start, behind_tag, content_at, content_of, end_tag, entered, passed, read, start_tags, tags_of}
 pub use Rattle.html_links.specs.Elements.{Wanted, element_of, has_rare_names, is_template, is_usual, wanted_of}
 pub use Rattle.html_links.specs.Lengths.{may_be}
-pub use Rattle.html_links.specs.Links.{base_in, base_of, ids_in, ids_of, is_link_type, links_in, links_of, or_later, types_behind}
+pub use Rattle.html_links.specs.Links.{are_enough, base_in, base_of, needed_texts, ids_in, ids_of, is_link_type, links_in, links_of, or_later, types_behind}
 pub use Rattle.html_links.specs.Markup.{in_tag_name, led_behind, led_front, read_rest, rest_of, start_tag_at}
 pub use Rattle.html_links.specs.Reads.{base_at}
 pub use Rattle.html_links.specs.Seen.{Seen, opened, seen_from, seen_rest, seen_with, seen_within}

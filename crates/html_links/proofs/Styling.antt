@@ -6,7 +6,7 @@ use Rattle.html_links.specs.declared.escapes.State.{State}
 use Rattle.html_links.specs.declared.escapes.State.TheVariants as state
 use Rattle.html_links.specs.Escapes.{state_after, unescaped}
 use Rattle.html_links.specs.Refresh.{behind_letter, and_then, is_quote}
-use Rattle.html_links.specs.Styles.{is_wide_space, in_word, Found, or_found, continues, behind_run, before, run_in, closed, quoted, behind_closed, behind_quoted, some_url, plain, in_brackets, behind_url, behind_import, opened, behind_comment, found_behind, found_at, behind_name, passed, pass, urls_after, urls_within, urls_of}
+use Rattle.html_links.specs.Styles.{is_wide_space, Found, or_found, continues, behind_run, before, run_in, closed, quoted, behind_closed, behind_quoted, some_url, plain, in_brackets, behind_url, behind_import, opened, behind_comment, found_behind, found_at, behind_name, passed, pass, urls_after, urls_within, urls_of}
 use Rattle.html_links.proofs.Jumps.{shorter}
 use Rattle.html_links.proofs.Sources.{front_all}
 

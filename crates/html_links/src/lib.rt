@@ -27,7 +27,7 @@ mod template;
 
 pub use context::Syntax;
 pub use document::{StartTagAt, tags};
-pub use links::{Links, PlacedLinks};
+pub use links::{CountedLinks, Links, PlacedLinks};
 pub use placed::read_places;
 pub use reader::{Base, read_links, read_page};
 pub use style::read_style;

@@ -1,5 +1,5 @@
 //! Receivers of the links of a document.
-ghost use Rattle.std.specs.Prelude.{◌≡◌, ◌∷◌, ◌++◌, [], OnOk, ℕ, List};
+ghost use Rattle.std.specs.Prelude.{◌≡◌, ◌∷◌, ◌++◌, [], OnOk, ℕ, List, length};
 
 use std::alloc::AllocError;
 
@@ -21,4 +21,11 @@ pub trait PlacedLinks: Links {
     /// The value of the next links begins at this index of the document.
     fn begin_at(&mut self, index: usize)
         ensures { Self.texts self.new ≡ Self.texts self.old };
+}
+
+/// A receiver of links that counts them, so that a document is read only until there are enough.
+pub trait CountedLinks: PlacedLinks {
+    /// Returns the number of links so far.
+    fn count(&self) -> usize
+        ensures { result ≡ length (Self.texts self.now) };
 }

@@ -1,16 +1,16 @@
 //! The links of a document, and the positions of their values in it.
-ghost use Rattle.std.specs.Prelude.{◌≡◌, ◌++◌, map, IfOk, OnOk};
+ghost use Rattle.std.specs.Prelude.{◌≡◌, ◌++◌, length, map, IfOk, OnOk, None};
 ghost use Rattle.html_links.specs.Tags.{lower};
 ghost use Rattle.html_links.specs.Comments.{bytes_at};
 ghost use Rattle.html_links.specs.Seen.{seen_at, sheet_of};
 ghost use Rattle.html_links.specs.Values.{values_at};
-ghost use Rattle.html_links.specs.Links.{links_at, links_of, links_with, style_links_with, value_links, base_of};
+ghost use Rattle.html_links.specs.Links.{are_enough, base_of, needed_texts, links_at, links_of, links_with, style_links_with, value_links};
 ghost use Rattle.html_links.specs.Reads.{base_at};
 
 use crate::bytes::is_space;
 use crate::context::{Syntax, context_of};
 use crate::found::Values;
-use crate::links::{Links, PlacedLinks};
+use crate::links::{CountedLinks, Links, PlacedLinks};
 use crate::next_tag::{NextTag, next_tag};
 use crate::reader::{Base, Form, push_first, push_second, push_third, push_value, take_base};
 use crate::references::is_coded;
@@ -20,17 +20,21 @@ use std::alloc::{AllocError, Global};
 /// Passes on the links of a document as `read_links` does, and if `styles` is set those of its styles. Before the links of each
 /// value it passes on the index at which the value begins. Returns the base.
 ///
+/// If only a number of links is needed, the document is read up to the tag after which `links` has that number, and the base may be
+/// missing.
+///
 /// # Errors
 /// If an allocation fails.
-pub fn read_places<L: PlacedLinks>(
+pub fn read_places<L: CountedLinks>(
     alloc: Global,
     syntax: Syntax,
     document: &[u8],
     styles: bool,
+    needed: Option<usize>,
     links: &mut L,
 ) -> Result<Base, AllocError>
-    ensures links { OnOk result (L.texts links.new ≡ L.texts links.old ++ links_of styles syntax document.now) }
-    ensures base { IfOk result (λ base. base_at base ≡ base_of syntax document.now) }
+    ensures links { OnOk result (needed_texts needed (L.texts links.new) ≡ needed_texts needed (L.texts links.old ++ links_of styles syntax document.now)) }
+    ensures base { needed ≡ None → IfOk result (λ base. base_at base ≡ base_of syntax document.now) }
 {
     let mut decoded = Vec::new(alloc);
     let mut base = None;
@@ -39,11 +43,25 @@ pub fn read_places<L: PlacedLinks>(
     let mut rest = document;
     'tags: while let Some(tag) = next_tag(context, rest, &mut values) {
         push_tag(styles, document.len(), tag, &values, &mut decoded, links)?;
+        if has_enough(needed, links) {
+            return Ok(base);
+        }
         take_base(alloc, &mut base, tag.element, &values)?;
         context = tag.context;
         rest = tag.rest;
     }
     Ok(base)
+}
+
+/// Whether there are enough links.
+#[inline(always)]
+fn has_enough<L: CountedLinks>(needed: Option<usize>, links: &L) -> bool
+    ensures { result ≡ are_enough needed (length (L.texts links.now)) }
+{
+    match needed {
+        Some(needed) => links.count() >= needed,
+        None => false,
+    }
 }
 
 /// Passes on the links of a tag in a document of this length, and if `styles` is set those of its styles before them.

@@ -1,28 +1,45 @@
-use Rattle.document_links.proofs.Prelude.{◌≡◌, ◌∙◌, ℕ, true, List, [], ◌++◌, Result, IfOk, ap, map, subst, clean, point_at}
-use Rattle.std.proofs.Common.{Ok, Err, slice_index_or, string_bytes}
+use Rattle.document_links.proofs.Prelude.{◌≡◌, ◌∙◌, ℕ, Option, None, Some, true, List, [], ◌∷◌, ◌++◌, Result, IfOk, ap, arith, map, refl, sym, clean, point_at}
+use Rattle.std.specs.List.{All}
+use Rattle.std.proofs.Common.{Ok, Err, ap₂, slice_index_or, string_bytes, suc}
+use Rattle.std.proofs.lemmas.List.{get_or-take}
 use Rattle.std.specs.Str.Lossy.{utf8_lossy}
+use Rattle.html_links.specs.Links.{needed_texts}
 use Rattle.document_links.specs.declared.charset.Charset.{Charset}
 use Rattle.document_links.specs.declared.places.TextPlace.{TextPlace}
 use Rattle.document_links.specs.declared.text_kind.TextKind.{TextKind}
 use Rattle.document_links.specs.Encoding.{is_known, links_in}
-use Rattle.document_links.specs.Places.{ArePlacesIn, point_of_place}
+use Rattle.document_links.specs.Places.{ArePlacesIn, IsAmong, point_of_place}
 use Rattle.document_links.proofs.places.places_in.Goals as goal
 
-of_links : {V E : Type 0} (items : V → List TextPlace) (kind : TextKind) (charset : Charset) (text indices : List ℕ) (texts : List (List ℕ)) (positions : List ℕ) (r : Result V E) →
-    (is_known charset ≡ true → texts ≡ links_in kind text) → IfOk r (λ places. map point_of_place (items places) ≡ map (λ index. point_at text (slice_index_or positions index 0)) indices) →
+same_text : (texts all : List (List ℕ)) (needed : Option ℕ) (index : ℕ) → needed_texts needed texts ≡ needed_texts needed all → IsAmong needed index → slice_index_or texts index [] ≡ slice_index_or all index []
+same_text texts all None index same among = ap (λ l. slice_index_or l index []) same
+same_text texts all (Some n) index same among =
+    sym (get_or-take n texts index [] among) ∙ ap (λ l. slice_index_or l index []) same ∙ get_or-take n all index [] among
+
+same_texts : (f : List ℕ → List ℕ) (texts all : List (List ℕ)) (needed : Option ℕ) (indices : List ℕ) → needed_texts needed texts ≡ needed_texts needed all → All (IsAmong needed) indices →
+    map (λ index. f (slice_index_or texts index [])) indices ≡ map (λ index. f (slice_index_or all index [])) indices
+same_texts f texts all needed [] same among = refl
+same_texts f texts all needed (index ∷ rest) same among =
+    ap₂ (λ x xs. x ∷ xs) (ap f (same_text texts all needed index same (among 0 index (omega arith))))
+    (same_texts f texts all needed rest same (λ k d within. among (suc k) d (omega arith)))
+
+of_links : {V E : Type 0} (items : V → List TextPlace) (kind : TextKind) (charset : Charset) (text indices : List ℕ) (texts : List (List ℕ)) (positions : List ℕ) (needed : Option ℕ) (r : Result V E) →
+    All (IsAmong needed) indices → (is_known charset ≡ true → needed_texts needed texts ≡ needed_texts needed (links_in kind text)) →
+    IfOk r (λ places. map point_of_place (items places) ≡ map (λ index. point_at text (slice_index_or positions index 0)) indices) →
     IfOk r (λ places. map (λ place. string_bytes place.written) (items places) ≡ map (λ index. utf8_lossy (clean (slice_index_or texts index []))) indices) →
     IfOk r (λ places. ArePlacesIn kind charset text indices (items places))
-of_links items kind charset text indices texts positions (Ok places) known placed written =
+of_links items kind charset text indices texts positions needed (Ok places) among known placed written =
     record {
       position = λ index. slice_index_or positions index 0;
       placed = placed;
-      written = λ is. subst (λ l. map (λ (place : TextPlace). string_bytes place.written) (items places) ≡ map (λ index. utf8_lossy (clean (slice_index_or l index []))) indices) (known is) written;
+      written = λ is. written ∙ same_texts (λ link. utf8_lossy (clean link)) texts (links_in kind text) needed indices (known is) among;
     }
-of_links items kind charset text indices texts positions (Err e) known placed written = tt
+of_links items kind charset text indices texts positions needed (Err e) among known placed written = tt
 
 pub returns : goal.returns
 returns c =
     let reading = c.args.reading in
     let text = c.args.text.now in
-    of_links (λ places. places.items) reading.kind reading.charset text c.args.indices.now c.find_links.new.raw.texts c.find_links.new.raw.positions.items c.places_of.result
-    (λ known. c.in_ok-find_links.ensures known ∙ ap (λ l. l ++ links_in reading.kind text) c.new-raw.ensures) c.places_of.ensures.placed c.places_of.ensures.written
+    let needed = c.needed_count.result in
+    of_links (λ places. places.items) reading.kind reading.charset text c.args.indices.now c.find_links.new.raw.texts c.find_links.new.raw.positions.items needed c.places_of.result c.needed_count.ensures
+    (λ known. c.in_ok-find_links.ensures known ∙ ap (λ l. needed_texts needed (l ++ links_in reading.kind text)) c.new-raw.ensures) c.places_of.ensures.placed c.places_of.ensures.written
