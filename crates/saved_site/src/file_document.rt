@@ -62,7 +62,7 @@ fn syntax_of(kind: FileKind) -> Syntax
 }
 
 /// The path of the top, if absolute paths are below it.
-fn root_of<'a>(files: &'a SiteFiles<'_>) -> Option<&'a str>
+pub fn root_of<'a>(files: &'a SiteFiles<'_>) -> Option<&'a str>
     ensures { IsRoot files.now result }
 {
     if files.rules().rooted {

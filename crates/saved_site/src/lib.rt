@@ -25,6 +25,7 @@ mod web;
 mod web_text;
 
 pub use all_pages::has_all_pages;
+pub use file_document::root_of;
 pub use linked::LinkedPages;
 pub use on_disk::OnDisk;
 pub use page::{LineText, SitePage, Under};

@@ -65,10 +65,11 @@ impl<S: PageSink> SiteData<S> {
 
     /// Adds an alias from the page's URL to the own URL of its file, if the page is an alias.
     fn push_alias(&mut self, page: &mut NewPage) -> Result<(), AllocError> {
+        let Some(own) = page.own.take() else {
+            return Ok(());
+        };
         let url = page.url.clone()?;
-        if let Some(own) = page.own.take() {
-            self.aliases.push(Alias { url, own })?;
-        }
+        self.aliases.push(Alias { url, own })?;
         Ok(())
     }
 
@@ -103,14 +104,15 @@ impl<S: PageSink> SiteData<S> {
 
     /// Adds the anchors of the page and the targets of its links to anchors, if they are known.
     fn push_anchors(&mut self, page: &mut NewPage) -> Result<(), AllocError> {
+        let Some(SiteAnchors { anchors, targets }) = page.anchors.take() else {
+            return Ok(());
+        };
         let url = page.url.clone()?;
-        if let Some(SiteAnchors { anchors, targets }) = page.anchors.take() {
-            self.anchors.push(PageAnchors {
-                url,
-                anchors,
-                targets,
-            })?;
-        }
+        self.anchors.push(PageAnchors {
+            url,
+            anchors,
+            targets,
+        })?;
         Ok(())
     }
 
