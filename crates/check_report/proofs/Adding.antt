@@ -1,5 +1,5 @@
 -- Bytes and rows that are appended one after another.
-use Rattle.check_report.proofs.Prelude.{common_steps, ◌≡◌, ℕ, ◌+◌, ◌<◌, ◌≤◌, List, [], ◌∷◌, ◌++◌, length, map, take, get_or, Result, OnOk, append-nil, sym, ap, refl, subst, ◌∙◌, arith, Bor, Bool, Option, append_assoc, flat_map-map, map-map, map_more, take_more, take_all, flat_map-append, flat_map, Adds, Line, bare_lines, begin, edge, file_lines, finish, in_section, link_line, place, place_lines, rest_lines, target_lines}
+use Rattle.check_report.proofs.Prelude.{common_steps, ◌≡◌, ℕ, ◌+◌, ◌<◌, ◌≤◌, List, [], ◌∷◌, ◌++◌, length, map, take, get_or, Result, OnOk, append-nil, sym, ap, refl, subst, ◌∙◌, arith, Bor, Bool, append_assoc, flat_map-map, map-map, map_more, take_more, take_all, flat_map-append, flat_map, Adds, Line, bare_lines, begin, edge, file_lines, finish, in_section, link_line, place, place_lines, rest_lines, target_lines}
 use Rattle.check_report.specs.Order.{link_of, links_by_file, shown_places}
 use Rattle.check_report.specs.declared.form.Form.{Form}
 use Rattle.check_report.specs.Pieces.{piece_text, text_from, text_of}

@@ -1,7 +1,7 @@
 -- The names that most proofs cite, passed on from one place. Declares nothing.
 pub use Rattle.check_report.specs.Escape.{data_char, escaped, escaped_char, has_no_c1, html_char, is_c1, is_in_property, is_inert, is_markup, is_ordinary, property_char}
 pub use Rattle.check_report.specs.Printing.{Adds, bytes_of}
-pub use Rattle.check_report.specs.Rows.{Line, bare_lines, begin, broken_lines, broken_section, counts_of, edge, external, external_of, external_section, file_lines, finish, hint_lines, in_section, last, link_line, listed, name, name_section, place, place_lines, redirect, redirect_section, rest_lines, rows_of, sections_of, target_lines, total, worst, worst_section}
+pub use Rattle.check_report.specs.Rows.{Line, bare_lines, begin, broken_lines, broken_section, counts_of, edge, external, external_of, external_section, file_lines, finish, hint_lines, in_section, last, link_line, listed, name, name_section, other_rows, place, place_lines, redirect, redirect_section, rest_lines, rows_of, sections_of, target_lines, total, worst, worst_section}
 pub use Rattle.check_report.specs.Text.{code, counted, counted_some, plain, same_name_text, verdict}
 pub use Rattle.check_report.specs.declared.escape.Escape.{Escape}
 pub use Rattle.shown_text.specs.Shown.{escape_of, is_hidden, is_printed, is_visible, shown, shown_char}

@@ -1,11 +1,13 @@
 -- A row as a GitHub annotation.
 use Rattle.std.specs.Prelude.{ℕ, ◌-◌, List, [], ◌++◌, codes, length, nat_lt, slice_get, string_bytes, if◌then◌else◌, bytes_eq}
 use Rattle.check_report.specs.Escape.{escaped}
+use Rattle.check_report.specs.Hints.{base_hint}
 use Rattle.check_report.specs.Names.{target_in}
 use Rattle.check_report.specs.Paths.{slash_after, without_here}
 use Rattle.check_report.specs.Rows as line
 use Rattle.check_report.specs.Rows.{Line}
-use Rattle.check_report.specs.Text.{advised, base_hint, counted, message}
+use Rattle.check_report.specs.Schemes.{scheme_note}
+use Rattle.check_report.specs.Text.{advised, counted, message, noted}
 use Rattle.check_report.specs.declared.escape.Escape.TheVariants as escape
 use Rattle.check_report.specs.declared.row.Section.{Section}
 use Rattle.check_report.specs.declared.row.Section.TheVariants as section
@@ -13,9 +15,9 @@ use Rattle.check_report.specs.declared.value.BaseHint.{BaseHint}
 use Rattle.check_report.specs.declared.value.Broken.{Broken}
 use Rattle.check_report.specs.declared.value.Place.{Place}
 
--- a target, what is wrong with it, and what is suggested
-abbrev pub message_line : Broken → List ℕ
-message_line b = advised escape.Data b (target_in escape.Data b ++ codes ": " ++ message b.kind) ++ codes "\n"
+-- a target, what is wrong with it, a note about the link, and what is suggested
+abbrev pub message_line : List ℕ → Broken → List ℕ
+message_line note b = advised escape.Data b (target_in escape.Data b ++ codes ": " ++ message b.kind ++ noted (codes " ") note) ++ codes "\n"
 
 -- a hint at BASE, which is no error
 abbrev pub hint_annotation : BaseHint → List ℕ
@@ -29,11 +31,11 @@ file_start folder =
 -- the location of a link, and the message
 abbrev pub place_annotation : List ℕ → Broken → Place → List ℕ
 place_annotation folder b p =
-    file_start (without_here folder) ++ (escaped escape.Property (string_bytes p.file) ++ counted (codes ",line=") p.line ++ counted (codes ",col=") p.column ++ codes "::") ++ message_line b
+    file_start (without_here folder) ++ (escaped escape.Property (string_bytes p.file) ++ counted (codes ",line=") p.line ++ counted (codes ",col=") p.column ++ codes "::") ++ message_line (scheme_note b p) b
 
 -- a target without locations
 abbrev pub broken_annotation : Broken → List ℕ
-broken_annotation b = if nat_lt 0 (length b.places.items) then [] else codes "::error::" ++ message_line b
+broken_annotation b = if nat_lt 0 (length b.places.items) then [] else codes "::error::" ++ message_line [] b
 
 -- a document that no sitemap lists
 abbrev pub unlisted_annotation : List ℕ → List ℕ

@@ -1,14 +1,17 @@
 -- A report as JUnit XML: a test suite for each file with broken links, and a failed test case for each link and for each document that
--- no sitemap lists.
-use Rattle.std.specs.Prelude.{ℕ, zero, suc, ◌==◌, Bool, true, ◌||◌, List, [], ◌∷◌, ◌++◌, bytes_eq, chars, codes, decimal, flat_map, length, nat_lt, String, string_bytes, if◌then◌else◌}
+-- no sitemap lists. A hint at BASE is a test case that was skipped.
+use Rattle.std.specs.Prelude.{ℕ, zero, suc, ◌==◌, Bool, true, ◌||◌, List, [], ◌∷◌, ◌++◌, bytes_eq, chars, codes, decimal, flat_map, length, nat_lt, String, string_bytes, if◌then◌else◌, Option, None, Some}
+use Rattle.std.specs.Borrow.{Bor}
 use Rattle.std.specs.List.{take_while}
 use Rattle.std.specs.declared.alloc.Global.{Global}
 use Rattle.check_report.specs.Escape.{html_char}
+use Rattle.check_report.specs.Hints.{base_hint_text}
 use Rattle.check_report.specs.Messages.{link_message, not_in_sitemap, rule_id, target_message, unlisted_message}
 use Rattle.check_report.specs.Names.{page_name, target_name}
 use Rattle.check_report.specs.Paths.{path_in}
 use Rattle.check_report.specs.Order.{bare_targets, links_by_file}
 use Rattle.check_report.specs.Text.{counted}
+use Rattle.check_report.specs.declared.value.BaseHint.{BaseHint}
 use Rattle.check_report.specs.declared.value.Broken.{Broken}
 use Rattle.check_report.specs.declared.value.Place.{Place}
 
@@ -36,9 +39,13 @@ unfoldable pub failure : List ℕ → List ℕ → List ℕ
 failure rule message =
     codes "><failure" ++ attribute (codes "type") rule ++ attribute (codes "message") message ++ codes ">" ++ xml message ++ codes "</failure></testcase>\n"
 
+-- the line and the column of a link
+abbrev pub position : Place → List ℕ
+position p = decimal p.line ++ codes ":" ++ decimal p.column ++ codes ": "
+
 -- the name of a link's test case
 abbrev pub case_name : Broken → Place → List ℕ
-case_name b p = decimal p.line ++ codes ":" ++ decimal p.column ++ codes ": " ++ target_name b
+case_name b p = position p ++ target_name b
 
 -- a link, with the path of its file
 abbrev pub link_case : List ℕ → Broken × Place → List ℕ
@@ -113,6 +120,23 @@ suites folder targets documents =
     then suites_from folder 0 (links_by_file true targets) ++ bare_suite (bare_targets targets) ++ unlisted_suite documents
     else good_suite
 
-abbrev pub junit : List ℕ → List Broken → List (String Global) → List ℕ
-junit folder targets documents =
-    codes "<?xml version=\"1.0\" encoding=\"UTF-8\"?>\n<testsuites name=\"mercator check\">\n" ++ suites folder targets documents ++ codes "</testsuites>\n"
+-- ---- the hint at BASE
+
+-- the suite of the hint
+unfoldable pub skipped_suite : List ℕ → List ℕ
+skipped_suite text =
+    codes "<testsuite name=\"hint\" tests=\"1\" failures=\"0\" errors=\"0\" skipped=\"1\">\n<testcase name=\"BASE\" classname=\"hint\"><skipped" ++ attribute (codes "message") text
+    ++ codes "/></testcase>\n</testsuite>\n"
+
+abbrev pub hint_suite : Option (Bor BaseHint) → List ℕ
+hint_suite None = []
+hint_suite (Some hint) = skipped_suite (base_hint_text hint.now)
+
+-- ---- the document
+
+-- the start of the document, and the hint if there is one
+abbrev pub junit_start : Option (Bor BaseHint) → List ℕ
+junit_start hint = codes "<?xml version=\"1.0\" encoding=\"UTF-8\"?>\n<testsuites name=\"mercator check\">\n" ++ hint_suite hint
+
+abbrev pub junit : List ℕ → Option (Bor BaseHint) → List Broken → List (String Global) → List ℕ
+junit folder hint targets documents = junit_start hint ++ suites folder targets documents ++ codes "</testsuites>\n"

@@ -1,5 +1,6 @@
 pub mod Annotations
 pub mod Escape
+pub mod Hints
 pub mod Json
 pub mod Junit
 pub mod Messages
@@ -13,4 +14,5 @@ pub mod Pieces
 pub mod Printing
 pub mod Rows
 pub mod Sarif
+pub mod Schemes
 pub mod Text

@@ -1,7 +1,8 @@
 -- The messages about findings in JUnit XML and SARIF.
 use Rattle.std.specs.Prelude.{List, [], ◌++◌, ℕ, codes, string_bytes, if◌then◌else◌, Option, None, Some, option_map}
 use Rattle.check_report.specs.Names.{ends_with_link, page_name, target_name}
-use Rattle.check_report.specs.Text.{message}
+use Rattle.check_report.specs.Schemes.{scheme_note}
+use Rattle.check_report.specs.Text.{message, noted}
 use Rattle.check_report.specs.declared.value.Broken.{Broken}
 use Rattle.check_report.specs.declared.value.Kind.{Kind}
 use Rattle.check_report.specs.declared.value.Kind.TheVariants.{NoPage, NoAnchor, NotUrl, UnknownScheme, LocalFile, Leaves, OutsideBase, NotInMap}
@@ -57,4 +58,4 @@ target_message b = message_start b ++ advice_part b
 
 -- the message about a link
 unfoldable pub link_message : Broken → Place → List ℕ
-link_message b p = message_start b ++ written_part b (option_map string_bytes p.written) ++ advice_part b
+link_message b p = message_start b ++ written_part b (option_map string_bytes p.written) ++ noted (codes " ") (scheme_note b p) ++ advice_part b

@@ -1,11 +1,13 @@
 -- A row of the HTML page. Untrusted texts are only in elements, and escaped.
 use Rattle.std.specs.Prelude.{ℕ, ◌==◌, Bool, ◌&&◌, ◌||◌, List, [], ◌++◌, codes, length, nat_lt, string_bytes, if◌then◌else◌, Option, None, Some, option_map}
 use Rattle.check_report.specs.Escape.{escaped}
+use Rattle.check_report.specs.Hints.{base_hint}
 use Rattle.check_report.specs.Names.{page_in, target_in}
 use Rattle.check_report.specs.Rows as line
 use Rattle.check_report.specs.Rows.{Line}
 use Rattle.check_report.specs.Paths.{base_url, path_uri}
-use Rattle.check_report.specs.Text.{advised, base_hint, counted, is_broken, message, name_in, noun, pages_noun, redirect_target, written_text}
+use Rattle.check_report.specs.Schemes.{scheme_note}
+use Rattle.check_report.specs.Text.{advised, counted, is_broken, message, name_in, noted, noun, pages_noun, redirect_target, written_text}
 use Rattle.check_report.specs.declared.as_page.parts.TheConstants.{HEAD, SCRIPT, STYLE, TAIL, TOOLS}
 use Rattle.check_report.specs.declared.escape.Escape.TheVariants as escape
 use Rattle.check_report.specs.declared.row.Counts.{Counts}
@@ -97,8 +99,8 @@ hint_paragraph h = codes "<p>" ++ base_hint escape.Html h ++ codes "</p>\n"
 
 abbrev pub section_start : Section → List ℕ
 section_start section.Broken = codes "<section id=broken aria-labelledby=h-broken>\n<h2 id=h-broken>Broken links</h2>\n<pre class=plain>\n"
-section_start section.Worst = codes "<section id=worst aria-labelledby=h-worst>\n<h2 id=h-worst>Files with the most broken links</h2>\n<pre>\n"
-section_start section.Redirects = codes "<section id=redirects aria-labelledby=h-redirects>\n<h2 id=h-redirects>Links to redirects (not errors)</h2>\n<pre>\n"
+section_start section.Worst = codes "<section id=worst aria-labelledby=h-worst>\n<h2 id=h-worst>Files with the most broken, invalid and leaving links</h2>\n<pre>\n"
+section_start section.Redirects = codes "<section id=redirects aria-labelledby=h-redirects>\n<h2 id=h-redirects>Links to redirects (not errors; --fix --dry-run shows where)</h2>\n<pre>\n"
 section_start section.Unreached = codes "<section id=unreached aria-labelledby=h-unreached>\n<h2 id=h-unreached>Unreached files</h2>\n<pre>\n"
 section_start section.Unlisted = codes "<section id=unlisted aria-labelledby=h-unlisted>\n<h2 id=h-unlisted>Documents that no sitemap lists</h2>\n<pre>\n"
 section_start section.External = codes "<section id=external aria-labelledby=h-external>\n<h2 id=h-external>External links (not checked)</h2>\n<pre>\n"
@@ -109,21 +111,27 @@ section_start section.Unused = codes "<section id=unused aria-labelledby=h-unuse
 abbrev pub broken_row : Broken → List ℕ
 broken_row b = advised escape.Html b (codes "<b>" ++ target_in escape.Html b ++ codes "</b>\t" ++ message b.kind) ++ codes "\n"
 
+-- a tab, and the start of a link up to the URL of the sources
+abbrev pub source_start : List ℕ → List ℕ
+source_start source_url = codes "\t<a href=\"" ++ html (base_url source_url)
+
+-- the path of a file, a line in it, and the end of the start tag
+abbrev pub source_line : Place → List ℕ
+source_line p = html (path_uri (string_bytes p.file)) ++ counted (codes "#L") p.line ++ codes "\">"
+
 -- a tab, and the start of the link of a location to its sources, if there is one
 abbrev pub link_start : List ℕ → Place → List ℕ
-link_start source_url p =
-    if length source_url == 0 then codes "\t"
-    else codes "\t<a href=\"" ++ html (base_url source_url) ++ html (path_uri (string_bytes p.file)) ++ counted (codes "#L") p.line ++ codes "\">"
+link_start source_url p = if length source_url == 0 then codes "\t" else source_start source_url ++ source_line p
 
 -- the end of that link
 abbrev pub link_end : List ℕ → List ℕ
 link_end source_url = if length source_url == 0 then [] else codes "</a>"
 
--- a location, and the link as it is written
+-- a location, the link as it is written, and the note about its scheme
 abbrev pub place_row : List ℕ → Broken → Place → List ℕ
 place_row source_url b p =
     link_start source_url p ++ html (string_bytes p.file) ++ counted (codes ":") p.line ++ counted (codes ":") p.column ++ link_end source_url
-    ++ written_text escape.Html (codes "\t(written as ") b (option_map string_bytes p.written) ++ codes "\n"
+    ++ written_text escape.Html (codes "\t(written as ") b (option_map string_bytes p.written) ++ noted (codes "\t") (scheme_note b p) ++ codes "\n"
 
 abbrev pub worst_row : FileCount → List ℕ
 worst_row c = html (string_bytes c.file) ++ counted (codes "\t") c.links ++ codes "\n"

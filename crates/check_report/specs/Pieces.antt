@@ -5,7 +5,7 @@ use Rattle.check_report.specs.Escape.{escaped}
 use Rattle.check_report.specs.Junit.{attribute, xml}
 use Rattle.check_report.specs.Names.{page_in, target_in}
 use Rattle.check_report.specs.Page.{item_if, item_some, total_item}
-use Rattle.check_report.specs.Text.{code, counted, counted_if, counted_some, hint_text, name_in, redirect_target, same_name_text, written_text}
+use Rattle.check_report.specs.Text.{code, counted, counted_if, counted_some, hint_text, name_in, noted, redirect_target, same_name_text, written_text}
 use Rattle.check_report.specs.declared.piece.Piece.{Piece}
 use Rattle.check_report.specs.declared.piece.Piece.TheVariants as piece
 
@@ -24,6 +24,7 @@ piece_text (piece.Moved how page) = redirect_target how (option_map string_bytes
 piece_text (piece.SameName how page) = same_name_text how (option_map string_bytes page.now)
 piece_text (piece.Hint how hint) = hint_text how (option_map string_bytes hint.now)
 piece_text (piece.Written how word b link) = written_text how word.now b.now (option_map string_bytes link.now)
+piece_text (piece.Note blank note) = noted blank.now note.now
 piece_text (piece.Item word count) = total_item word.now count
 piece_text (piece.ItemIf word count) = item_if word.now count
 piece_text (piece.ItemSome word count) = item_some word.now count

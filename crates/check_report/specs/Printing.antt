@@ -49,11 +49,11 @@ printed_annotations contents f = printed (form.Annotations contents.folder) (rec
 
 -- as JUnit XML, by file, with all locations
 abbrev pub printed_junit : Contents → Findings → List ℕ
-printed_junit contents f = junit contents.folder.now (ordered_targets order.File f.broken.now) (if_listed contents.lists.unlisted f.unlisted).now
+printed_junit contents f = junit contents.folder.now f.base_hint (ordered_targets order.File f.broken.now) (if_listed contents.lists.unlisted f.unlisted).now
 
 -- as SARIF, by file, with all locations
 abbrev pub printed_sarif : Contents → Findings → List ℕ
-printed_sarif contents f = sarif contents (ordered_targets order.File f.broken.now) (if_listed contents.lists.unlisted f.unlisted).now
+printed_sarif contents f = sarif contents f.base_hint (ordered_targets order.File f.broken.now) (if_listed contents.lists.unlisted f.unlisted).now
 
 -- as an HTML page, by target, with all locations
 abbrev pub printed_page : Contents → Findings → List ℕ

@@ -172,11 +172,15 @@ abbrev pub hint_lines : Option (Bor BaseHint) → List Line
 hint_lines None = []
 hint_lines (Some at) = hint at.now ∷ []
 
+-- the lists of other things than broken links, and the end
+abbrev pub other_rows : List External → Findings → List Line
+other_rows urls f =
+    redirect_section f.redirects.now ++ name_section section.Unreached f.unreached.now ++ name_section section.Unlisted f.unlisted.now ++ external_section urls
+    ++ name_section section.Unused f.unused_ignores.now ++ last ∷ []
+
 -- the hint, and the sections of these findings and external links
 abbrev pub sections_of : View → List External → Findings → List Line
-sections_of view urls f =
-    hint_lines f.base_hint ++ broken_section view f.broken.now ++ worst_section f.worst.now ++ redirect_section f.redirects.now ++ name_section section.Unreached f.unreached.now
-    ++ name_section section.Unlisted f.unlisted.now ++ external_section urls ++ name_section section.Unused f.unused_ignores.now ++ last ∷ []
+sections_of view urls f = hint_lines f.base_hint ++ broken_section view f.broken.now ++ worst_section f.worst.now ++ other_rows urls f
 
 abbrev pub rows_of : View → Contents → Findings → List Line
 rows_of view contents f = total f.base.now f.totals (counts_of contents f) ∷ sections_of view (external_of contents) (listed contents.lists f)

@@ -1,15 +1,19 @@
--- A report as SARIF 2.1.0: a result for each broken link and for each document that no sitemap lists.
-use Rattle.std.specs.Prelude.{ℕ, ◌==◌, true, List, [], ◌∷◌, ◌++◌, codes, decimal, length, map, String, string_bytes, if◌then◌else◌}
+-- A report as SARIF 2.1.0: a result for each broken link and for each document that no sitemap lists, and a notification of the hint at
+-- BASE.
+use Rattle.std.specs.Prelude.{ℕ, ◌==◌, true, List, [], ◌∷◌, ◌++◌, codes, decimal, length, map, String, string_bytes, if◌then◌else◌, Option, None, Some}
+use Rattle.std.specs.Borrow.{Bor}
 use Rattle.std.specs.declared.alloc.Global.{Global}
 use Rattle.json.specs.Json.{Json, Items, Members, array, item, member, no_items, no_members, number, object, string}
 use Rattle.json.specs.Print.{print}
 use Rattle.json.specs.Token.{Token}
 use Rattle.json.specs.Tree.{json_tokens}
 use Rattle.shown_text.specs.Shown.{shown}
+use Rattle.check_report.specs.Hints.{base_hint_text}
 use Rattle.check_report.specs.Messages.{link_message, not_in_sitemap, rule_id, target_message, unlisted_message}
 use Rattle.check_report.specs.Order.{bare_targets, links_by_file}
 use Rattle.check_report.specs.Paths.{base_url, path_in, path_uri}
 use Rattle.check_report.specs.declared.as_sarif.TheConstants.{HEAD}
+use Rattle.check_report.specs.declared.value.BaseHint.{BaseHint}
 use Rattle.check_report.specs.declared.value.Broken.{Broken}
 use Rattle.check_report.specs.declared.value.Contents.{Contents}
 use Rattle.check_report.specs.declared.value.Place.{Place}
@@ -92,6 +96,26 @@ bases url =
     if length url == 0 then []
     else codes "\"originalUriBaseIds\":" ++ print (json_tokens (base_object url)) ++ codes ","
 
-abbrev pub sarif : Contents → List Broken → List (String Global) → List ℕ
-sarif contents targets documents =
-    sarif_head ++ bases contents.source_url.now ++ codes "\"results\":" ++ print (json_tokens (results contents targets documents)) ++ codes "}]}\n"
+-- a notification of the hint at BASE
+abbrev pub notification : BaseHint → Json
+notification h =
+    object (member (codes "level") (string (codes "note")) (member (codes "message") (text_object (codes "text") (shown (base_hint_text h))) no_members))
+
+unfoldable pub invocations_start : List ℕ
+invocations_start = codes "\"invocations\":[{\"executionSuccessful\":true,\"toolConfigurationNotifications\":["
+
+-- the member with the hint, which is about how the tool was called
+abbrev pub hint_member : BaseHint → List ℕ
+hint_member h = invocations_start ++ print (json_tokens (notification h)) ++ codes "]}],"
+
+abbrev pub invocations : Option (Bor BaseHint) → List ℕ
+invocations None = []
+invocations (Some hint) = hint_member hint.now
+
+-- the document up to the results
+abbrev pub sarif_start : List ℕ → Option (Bor BaseHint) → List ℕ
+sarif_start source_url hint = sarif_head ++ bases source_url ++ invocations hint ++ codes "\"results\":"
+
+abbrev pub sarif : Contents → Option (Bor BaseHint) → List Broken → List (String Global) → List ℕ
+sarif contents hint targets documents =
+    sarif_start contents.source_url.now hint ++ print (json_tokens (results contents targets documents)) ++ codes "}]}\n"

@@ -2,9 +2,11 @@
 use Rattle.std.specs.Prelude.{ℕ, ◌==◌, Bool, true, false, ◌||◌, List, [], ◌∷◌, ◌++◌, codes, length, nat_lt, decimal, string_bytes, if◌then◌else◌, Option, None, Some, option_map}
 use Rattle.shown_text.specs.Shown.{shown}
 use Rattle.check_report.specs.Escape.{escaped}
-use Rattle.check_report.specs.Names.{ends_with_link, has_host, page_in, target_in}
+use Rattle.check_report.specs.Hints.{base_hint}
+use Rattle.check_report.specs.Names.{ends_with_link, page_in, target_in}
 use Rattle.check_report.specs.Rows as line
 use Rattle.check_report.specs.Rows.{Line}
+use Rattle.check_report.specs.Schemes.{scheme_note}
 use Rattle.check_report.specs.declared.escape.Escape.{Escape}
 use Rattle.check_report.specs.declared.escape.Escape.TheVariants as escape
 use Rattle.check_report.specs.declared.row.Counts.{Counts}
@@ -72,6 +74,10 @@ abbrev pub written_text : Escape → List ℕ → Broken → Option (List ℕ) �
 written_text how word b None = []
 written_text how word b (Some link) = if ends_with_link b link then [] else bracketed how word link
 
+-- a blank and a note; nothing if the note is empty
+abbrev pub noted : List ℕ → List ℕ → List ℕ
+noted blank note = if length note == 0 then [] else blank ++ note
+
 abbrev pub redirect_target : Escape → Option (List ℕ) → List ℕ
 redirect_target how None = codes "-"
 redirect_target how (Some page) = page_in how page
@@ -105,10 +111,13 @@ target_text colour b = advised escape.Shown b (target_start colour b) ++ codes "
 abbrev pub place_head : Bool → Place → List ℕ
 place_head colour p = code colour bold ++ shown (string_bytes p.file) ++ counted (codes ":") p.line ++ counted (codes ":") p.column ++ codes ": " ++ code colour plain
 
--- a location, the target of its link, and the link as it is written
+-- the link as it is written, and the note about its scheme
+abbrev pub link_text : Broken → Place → List ℕ
+link_text b p = written_text escape.Shown (codes " (written as ") b (option_map string_bytes p.written) ++ noted (codes " ") (scheme_note b p)
+
+-- a location, the target of its link, and the link
 abbrev pub place_text : Bool → Broken → Place → List ℕ
-place_text colour b p =
-    place_head colour p ++ target_start colour b ++ (advised escape.Shown b (written_text escape.Shown (codes " (written as ") b (option_map string_bytes p.written)) ++ codes "\n")
+place_text colour b p = place_head colour p ++ target_start colour b ++ (advised escape.Shown b (link_text b p) ++ codes "\n")
 
 -- a target without locations has its own line
 abbrev pub broken_text : Bool → Broken → List ℕ
@@ -141,23 +150,14 @@ total_text colour t c = site_total t c ++ broken_total colour t
 
 abbrev pub title : Section → List ℕ
 title section.Broken = []
-title section.Worst = codes "files with the most broken links:\n"
-title section.Redirects = codes "links to redirects (not errors):\n"
+title section.Worst = codes "files with the most broken, invalid and leaving links:\n"
+title section.Redirects = codes "links to redirects (not errors; --fix --dry-run shows where):\n"
 title section.Unreached = codes "unreached files:\n"
 title section.Unlisted = codes "documents that no sitemap lists:\n"
 title section.External = codes "external links (not checked):\n"
 title section.Unused = codes "unused --ignore entries:\n"
 
--- a folder that is not in the site, with which many paths begin, or a URL with which many links begin
-abbrev pub hint_end : Escape → List ℕ → List ℕ
-hint_end how start =
-    if has_host start then codes " links begin with " ++ escaped how start ++ codes ": pass it as BASE"
-    else codes " paths from the root begin with " ++ escaped how start ++ codes ", which is not in the folder: pass BASE, such as https://HOST" ++ escaped how start
-
--- how many begin with it, and of how many
-abbrev pub base_hint : Escape → BaseHint → List ℕ
-base_hint how h = counted (codes "hint: ") h.paths ++ counted (codes " of ") h.of ++ hint_end how (string_bytes h.folder)
-
+-- the hint at BASE
 abbrev pub base_hint_line : BaseHint → List ℕ
 base_hint_line h = base_hint escape.Shown h ++ codes "\n"
 

@@ -3,12 +3,14 @@ ghost use Rattle.std.specs.Prelude.{◌≡◌, ◌++◌, OnOk};
 ghost use Rattle.check_report.specs.Annotations.{annotation_line, broken_annotation, file_start, hint_annotation, message_line, name_annotation, place_annotation, unlisted_annotation};
 ghost use Rattle.check_report.specs.Rows.{line_of};
 
-use crate::as_text::{message, put_base_hint};
+use crate::as_text::message;
 use crate::escape::Escape;
+use crate::hints::put_base_hint;
 use crate::paths::{slash_after, without_here};
 use crate::piece::{Piece, put_all};
 use crate::put::{NoMemory, put};
 use crate::row::{Row, Section};
+use crate::schemes::scheme_note;
 use crate::value::{BaseHint, Broken, Place};
 
 /// Appends the annotation of a row, if it has one; the path of its file starts with the folder.
@@ -49,7 +51,7 @@ fn put_broken(out: &mut Vec<u8>, broken: &Broken) -> Result<(), NoMemory>
         return Ok(());
     }
     put(out, "::error::")?;
-    put_message(out, broken)
+    put_message(out, broken, "")
 }
 
 /// Appends an `::error` command for a broken link: the file, the line and the column, and the message.
@@ -71,7 +73,7 @@ fn put_place(
             Piece::Text("::"),
         ],
     )?;
-    put_message(out, broken)
+    put_message(out, broken, scheme_note(broken, place))
 }
 
 /// Appends `::error file=` with the folder and a slash, or without them for the current folder.
@@ -120,9 +122,9 @@ fn put_unlisted(out: &mut Vec<u8>, document: &str) -> Result<(), NoMemory>
     )
 }
 
-/// Appends the target, what is wrong with it, and what is suggested, and ends the line.
-fn put_message(out: &mut Vec<u8>, broken: &Broken) -> Result<(), NoMemory>
-    ensures { OnOk result (out.new.items ≡ out.old.items ++ message_line broken.now) }
+/// Appends the target, what is wrong with it, the note about the link, and what is suggested, and ends the line.
+fn put_message(out: &mut Vec<u8>, broken: &Broken, note: &'static str) -> Result<(), NoMemory>
+    ensures { OnOk result (out.new.items ≡ out.old.items ++ message_line note.now broken.now) }
 {
     put_all(
         out,
@@ -130,6 +132,7 @@ fn put_message(out: &mut Vec<u8>, broken: &Broken) -> Result<(), NoMemory>
             Piece::Target(Escape::Data, broken),
             Piece::Text(": "),
             Piece::Text(message(broken.kind)),
+            Piece::Note(" ", note),
             Piece::SameName(Escape::Data, &broken.same_name),
             Piece::Hint(Escape::Data, &broken.hint),
             Piece::Text("\n"),

@@ -1,20 +1,20 @@
 //! Prints a report as JUnit XML.
-ghost use Rattle.std.specs.Prelude.{◌≡◌, ◌<◌, ◌≤◌, ◌++◌, IfOk, OnOk, decimal, drop, flat_map, length, map, take_while, string_bytes, true};
-ghost use Rattle.check_report.specs.Junit.{bare_case, bare_suite, case_name, case_start, failure, first_suite, is_in, link_case, suite_len, suite_start, suites, suites_from, unlisted_case, unlisted_cases, unlisted_suite};
+ghost use Rattle.std.specs.Prelude.{◌≡◌, ◌<◌, ◌≤◌, ◌++◌, IfOk, OnOk, drop, flat_map, length, map, take_while, string_bytes, true};
+ghost use Rattle.check_report.specs.Junit.{bare_case, bare_suite, case_name, case_start, failure, first_suite, hint_suite, is_in, junit_start, link_case, position, skipped_suite, suite_len, suite_start, suites, suites_from, unlisted_case, unlisted_cases, unlisted_suite};
 ghost use Rattle.check_report.specs.Order.{bare_targets, link_of, links_by_file};
 ghost use Rattle.check_report.specs.Printing.{printed_junit};
 
+use crate::hints::base_hint_text;
 use crate::messages::{NOT_IN_SITEMAP, link_message, rule_id, target_message, unlisted_message};
 use crate::names::{page_name, target_name};
 use crate::ordered::{Link, bare_targets, links_by_file, ordered_targets};
 use crate::paths::path_in;
 use crate::piece::{Piece, put_all};
 use crate::printing::if_listed;
-use crate::put::{NoMemory, put};
-use crate::value::{Broken, Contents, Findings, Place};
+use crate::put::{NoMemory, push_count, put};
+use crate::value::{BaseHint, Broken, Contents, Findings, Place};
 use crate::view::Order;
 use crate::xml::put_attribute;
-use itoa::Buffer;
 use std::alloc::Global;
 
 /// The name of the suite, and the class, of targets without locations.
@@ -24,7 +24,8 @@ const NO_FILE: &str = "no file";
 const SITEMAP: &str = "sitemap";
 
 /// Prints a report as JUnit XML: a test suite for each file with broken links, and a failed test case for each link. The
-/// documents that no sitemap lists have a suite of their own. A report without findings has one test case, which passed.
+/// documents that no sitemap lists have a suite of their own, and so has the hint at BASE, as a test case that was skipped. A report
+/// without findings has one test case, which passed.
 ///
 /// # Errors
 /// Out of memory.
@@ -37,14 +38,52 @@ pub fn print_junit(
 {
     let targets = ordered_targets(alloc, findings.broken, Order::File)?;
     let mut out = Vec::new(alloc);
-    put(
-        &mut out,
-        "<?xml version=\"1.0\" encoding=\"UTF-8\"?>\n<testsuites name=\"mercator check\">\n",
-    )?;
+    put_start(&mut out, findings.base_hint)?;
     let unlisted = if_listed(contents.lists.unlisted, findings.unlisted);
     put_suites(&mut out, contents.folder, targets.as_slice(), unlisted)?;
     put(&mut out, "</testsuites>\n")?;
     Ok(out)
+}
+
+/// Appends the start of the document, and the suite of the hint at BASE, if there is one.
+fn put_start(out: &mut Vec<u8>, hint: Option<&BaseHint>) -> Result<(), NoMemory>
+    ensures { OnOk result (out.new.items ≡ out.old.items ++ junit_start hint.entry) }
+{
+    put(
+        out,
+        "<?xml version=\"1.0\" encoding=\"UTF-8\"?>\n<testsuites name=\"mercator check\">\n",
+    )?;
+    put_hint_suite(out, hint)
+}
+
+/// Appends the suite of the hint at BASE, if there is one.
+fn put_hint_suite(out: &mut Vec<u8>, hint: Option<&BaseHint>) -> Result<(), NoMemory>
+    ensures { OnOk result (out.new.items ≡ out.old.items ++ hint_suite hint.entry) }
+{
+    match hint {
+        Some(hint) => {
+            let text = base_hint_text(*out.allocator(), hint)?;
+            put_skipped_suite(out, text.as_str())
+        }
+        None => Ok(()),
+    }
+}
+
+/// Appends the suite of a hint with this text: a test case that was skipped, because viewers list those.
+#[tactic(auto, unfolding(crate::specs::Junit::skipped_suite))]
+fn put_skipped_suite(out: &mut Vec<u8>, text: &str) -> Result<(), NoMemory>
+    ensures { OnOk result (out.new.items ≡ out.old.items ++ skipped_suite text.now) }
+{
+    put_all(
+        out,
+        &[
+            Piece::Text(
+                "<testsuite name=\"hint\" tests=\"1\" failures=\"0\" errors=\"0\" skipped=\"1\">\n<testcase name=\"BASE\" classname=\"hint\"><skipped",
+            ),
+            Piece::Attribute("message", text),
+            Piece::Text("/></testcase>\n</testsuite>\n"),
+        ],
+    )
 }
 
 /// Appends the suites: those of the files, that of the targets without locations and that of the documents that no sitemap lists, or
@@ -191,22 +230,22 @@ fn put_link_case(
 fn case_name(alloc: Global, target: &Broken, place: &Place) -> Result<String, NoMemory>
     ensures { IfOk result (λ name. string_bytes name ≡ case_name target.now place.now) }
 {
+    let mut name = position(alloc, place)?;
     let shown = target_name(alloc, target)?;
-    let mut name = String::new(alloc);
-    push_count(&mut name, place.line)?;
-    name.push_str(":")?;
-    push_count(&mut name, place.column)?;
-    name.push_str(": ")?;
     name.push_str(shown.as_str())?;
     Ok(name)
 }
 
-/// Appends a count in decimal digits.
-fn push_count(text: &mut String, count: u64) -> Result<(), NoMemory>
-    ensures { OnOk result (string_bytes text.new ≡ string_bytes text.old ++ decimal count) }
+/// The line and the column of a link, each with a colon after it, and a space.
+fn position(alloc: Global, place: &Place) -> Result<String, NoMemory>
+    ensures { IfOk result (λ text. string_bytes text ≡ position place.now) }
 {
-    let mut buffer = Buffer::new();
-    text.push_str(buffer.format(count))
+    let mut text = String::new(alloc);
+    push_count(&mut text, place.line)?;
+    text.push_str(":")?;
+    push_count(&mut text, place.column)?;
+    text.push_str(": ")?;
+    Ok(text)
 }
 
 /// Appends the start of a test case: its name and its class.

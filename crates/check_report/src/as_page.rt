@@ -1,18 +1,20 @@
 //! Prints a row in the HTML page.
 ghost use Rattle.std.specs.Prelude.{◌≡◌, ◌++◌, OnOk, codes};
-ghost use Rattle.check_report.specs.Page.{broken_row, count_items, counts_links, external_row, head_part, hint_paragraph, link_end, link_start, page_line, page_start, page_total, place_row, redirect_row, script_part, section_start, style_part, tail_part, title_count, title_noun, tools_part, verdict_start, worst_row};
+ghost use Rattle.check_report.specs.Page.{broken_row, count_items, counts_links, external_row, head_part, hint_paragraph, link_end, link_start, page_line, page_start, page_total, place_row, redirect_row, script_part, section_start, source_line, source_start, style_part, tail_part, title_count, title_noun, tools_part, verdict_start, worst_row};
 ghost use Rattle.check_report.specs.Rows.{line_of};
 ghost use Rattle.check_report.specs.Text.{name_in};
 ghost use Rattle.check_report.specs.declared.escape.Escape.TheVariants as escape;
 
 mod parts;
 
-use crate::as_text::{message, put_base_hint};
+use crate::as_text::message;
 use crate::escape::Escape;
+use crate::hints::put_base_hint;
 use crate::paths::{base_url, path_uri};
 use crate::piece::{Piece, put_all};
 use crate::put::{NoMemory, noun, put};
 use crate::row::{Counts, Row, Section};
+use crate::schemes::scheme_note;
 use crate::value::{BaseHint, Broken, External, FileCount, Place, Redirect, Totals, is_broken};
 use parts::{HEAD, SCRIPT, STYLE, TAIL, TOOLS};
 
@@ -94,9 +96,9 @@ fn section_start(section: Section) -> &'static str
         Section::Broken =>
             "<section id=broken aria-labelledby=h-broken>\n<h2 id=h-broken>Broken links</h2>\n<pre class=plain>\n",
         Section::Worst =>
-            "<section id=worst aria-labelledby=h-worst>\n<h2 id=h-worst>Files with the most broken links</h2>\n<pre>\n",
+            "<section id=worst aria-labelledby=h-worst>\n<h2 id=h-worst>Files with the most broken, invalid and leaving links</h2>\n<pre>\n",
         Section::Redirects =>
-            "<section id=redirects aria-labelledby=h-redirects>\n<h2 id=h-redirects>Links to redirects (not errors)</h2>\n<pre>\n",
+            "<section id=redirects aria-labelledby=h-redirects>\n<h2 id=h-redirects>Links to redirects (not errors; --fix --dry-run shows where)</h2>\n<pre>\n",
         Section::Unreached =>
             "<section id=unreached aria-labelledby=h-unreached>\n<h2 id=h-unreached>Unreached files</h2>\n<pre>\n",
         Section::Unlisted =>
@@ -246,8 +248,8 @@ fn put_broken(out: &mut Vec<u8>, broken: &Broken) -> Result<(), NoMemory>
     )
 }
 
-/// Appends the line of a location: a tab, the location, and after another tab the link as it is written. The location is a link if the
-/// URL of the sources is not empty.
+/// Appends the line of a location. A tab is before the location, before the link as it is written, and before the note about its scheme.
+/// The location is a link if the URL of the sources is not empty.
 fn put_place<'r>(
     out: &mut Vec<u8>,
     source_url: &str,
@@ -265,6 +267,7 @@ fn put_place<'r>(
             Piece::Counted(":", place.column),
             Piece::Text(link_end(source_url)),
             Piece::Written(Escape::Html, WRITTEN, broken, &place.written),
+            Piece::Note("\t", scheme_note(broken, place)),
             Piece::Text("\n"),
         ],
     )
@@ -277,16 +280,29 @@ fn put_link_start(out: &mut Vec<u8>, source_url: &str, place: &Place) -> Result<
     if source_url.is_empty() {
         return put(out, "\t");
     }
-    let alloc = *out.allocator();
-    let base = base_url(alloc, source_url)?;
+    put_source_start(out, source_url)?;
+    put_source_line(out, place)
+}
+
+/// Appends a tab, and the start of a link up to the URL of the sources.
+fn put_source_start(out: &mut Vec<u8>, source_url: &str) -> Result<(), NoMemory>
+    ensures { OnOk result (out.new.items ≡ out.old.items ++ source_start source_url.now) }
+{
+    let base = base_url(*out.allocator(), source_url)?;
     put_all(
         out,
         &[
             Piece::Text("\t<a href=\""),
             Piece::Escaped(Escape::Html, base.as_str()),
         ],
-    )?;
-    let path = path_uri(alloc, place.file.as_str())?;
+    )
+}
+
+/// Appends the path of the file of a location, its line, and the end of the start tag.
+fn put_source_line(out: &mut Vec<u8>, place: &Place) -> Result<(), NoMemory>
+    ensures { OnOk result (out.new.items ≡ out.old.items ++ source_line place.now) }
+{
+    let path = path_uri(*out.allocator(), place.file.as_str())?;
     put_all(
         out,
         &[
@@ -304,7 +320,7 @@ fn link_end(source_url: &str) -> &'static str
     if source_url.is_empty() { "" } else { "</a>" }
 }
 
-/// Appends the line of a file: its name, a tab, and the number of broken links in it.
+/// Appends the line of a file: its name, a tab, and the number of broken, invalid and leaving links in it.
 fn put_worst(out: &mut Vec<u8>, count: &FileCount) -> Result<(), NoMemory>
     ensures { OnOk result (out.new.items ≡ out.old.items ++ worst_row count.now) }
 {

@@ -1,18 +1,21 @@
 //! Prints a report as SARIF 2.1.0.
-ghost use Rattle.std.specs.Prelude.{◌≡◌, ◌++◌, IfOk, OnOk, codes, flat_map, map, string_bytes, true};
+ghost use Rattle.std.specs.Prelude.{◌≡◌, ◌++◌, IfOk, OnOk, flat_map, map, string_bytes, true};
 ghost use Rattle.json.specs.Print.{print};
 ghost use Rattle.json.specs.Tree.{json_tokens, members_tokens};
+ghost use Rattle.shown_text.specs.Shown.{shown};
+ghost use Rattle.check_report.specs.Hints.{base_hint_text};
 ghost use Rattle.check_report.specs.Order.{bare_targets, link_of, links_by_file};
 ghost use Rattle.check_report.specs.Printing.{printed_sarif};
-ghost use Rattle.check_report.specs.Sarif.{artifact, bare_result, base_object, bases, folder_file, link_result, locations, results, sarif_head, source_file, start_tokens, unlisted_result};
+ghost use Rattle.check_report.specs.Sarif.{artifact, bare_result, base_object, bases, folder_file, hint_member, invocations, invocations_start, link_result, locations, notification, results, sarif_head, sarif_start, source_file, start_tokens, unlisted_result};
 
+use crate::hints::base_hint_text;
 use crate::mark::{Mark, put_marks};
 use crate::messages::{NOT_IN_SITEMAP, link_message, rule_id, target_message, unlisted_message};
 use crate::ordered::{Link, bare_targets, links_by_file, ordered_targets};
 use crate::paths::{base_url, path_in, path_uri};
 use crate::printing::if_listed;
 use crate::put::{NoMemory, put};
-use crate::value::{Broken, Contents, Findings, Place};
+use crate::value::{BaseHint, Broken, Contents, Findings, Place};
 use crate::view::Order;
 use json::Writer;
 use shown_text::shown;
@@ -22,8 +25,8 @@ use std::alloc::Global;
 pub static HEAD: &str =
     r#"{"$schema":"https://json.schemastore.org/sarif-2.1.0.json","version":"2.1.0","runs":[{"tool":{"driver":{"name":"mercator","rules":[{"id":"missing-page","shortDescription":{"text":"A link to a page that does not exist"}},{"id":"missing-anchor","shortDescription":{"text":"A link to an anchor that its page does not have"}},{"id":"not-a-url","shortDescription":{"text":"A link that is not a URL"}},{"id":"unknown-scheme","shortDescription":{"text":"A link with an unknown scheme"}},{"id":"local-file","shortDescription":{"text":"A link to a file of the reader's computer"}},{"id":"leaves-the-folder","shortDescription":{"text":"A link that leads above the folder"}},{"id":"outside-base","shortDescription":{"text":"A link to the host of BASE that does not lead below BASE"}},{"id":"not-in-map","shortDescription":{"text":"A link to a page that a mapped folder does not have"}},{"id":"not-in-sitemap","shortDescription":{"text":"A document that no sitemap lists"}}]}},"columnKind":"unicodeCodePoints","#;
 
-/// Prints a report as SARIF: a result for each broken link and for each document that no sitemap lists. The path of a file starts with
-/// the folder, unless the URL of the sources is given.
+/// Prints a report as SARIF: a result for each broken link and for each document that no sitemap lists, and a notification of the hint
+/// at BASE. The path of a file starts with the folder, unless the URL of the sources is given.
 ///
 /// # Errors
 /// Out of memory.
@@ -35,7 +38,7 @@ pub fn print_sarif(
     ensures { IfOk result (λ text. text.items ≡ printed_sarif contents.entry findings.now) }
 {
     let targets = ordered_targets(alloc, findings.broken, Order::File)?;
-    let begun = with_head(alloc, contents.source_url)?;
+    let begun = with_head(alloc, contents.source_url, findings.base_hint)?;
     let unlisted = if_listed(contents.lists.unlisted, findings.unlisted);
     let mut all = with_results(begun, contents, targets.as_slice(), unlisted)?;
     put(&mut all, "}]}\n")?;
@@ -43,14 +46,15 @@ pub fn print_sarif(
 }
 
 /// The document up to the results.
-fn with_head(alloc: Global, source_url: &str) -> Result<Vec<u8>, NoMemory>
-    ensures { IfOk result (λ text. text.items ≡ sarif_head ++ bases source_url.now ++ codes "\"results\":") }
+fn with_head(alloc: Global, source_url: &str, hint: Option<&BaseHint>) -> Result<Vec<u8>, NoMemory>
+    ensures { IfOk result (λ text. text.items ≡ sarif_start source_url.now hint.entry) }
 {
     let mut out = Vec::new(alloc);
     put(&mut out, head())?;
-    let mut based = with_bases(out, source_url)?;
-    put(&mut based, "\"results\":")?;
-    Ok(based)
+    let based = with_bases(out, source_url)?;
+    let mut noted = with_invocations(based, hint)?;
+    put(&mut noted, "\"results\":")?;
+    Ok(noted)
 }
 
 /// The text before the names of base URLs.
@@ -92,6 +96,63 @@ fn with_base(out: Vec<u8>, source_url: &str) -> Result<Vec<u8>, NoMemory>
         ],
     )?;
     Ok(writer.into_inner())
+}
+
+/// Appends the member with the hint at BASE, if there is one.
+fn with_invocations(out: Vec<u8>, hint: Option<&BaseHint>) -> Result<Vec<u8>, NoMemory>
+    ensures { IfOk result (λ more. more.items ≡ out.items ++ invocations hint.entry) }
+{
+    match hint {
+        Some(hint) => with_hint(out, hint),
+        None => Ok(out),
+    }
+}
+
+/// Appends the member with the hint at BASE, and a comma.
+fn with_hint(mut out: Vec<u8>, hint: &BaseHint) -> Result<Vec<u8>, NoMemory>
+    ensures { IfOk result (λ more. more.items ≡ out.items ++ hint_member hint.now) }
+{
+    put(&mut out, invocations_start())?;
+    let mut more = with_notification(out, hint)?;
+    put(&mut more, "]}],")?;
+    Ok(more)
+}
+
+/// The text before the object of the hint.
+#[tactic(auto, unfolding(crate::specs::Sarif::invocations_start))]
+fn invocations_start() -> &'static str
+    ensures { result.now ≡ invocations_start }
+{
+    "\"invocations\":[{\"executionSuccessful\":true,\"toolConfigurationNotifications\":["
+}
+
+/// Appends the object of the hint at BASE.
+fn with_notification(out: Vec<u8>, hint: &BaseHint) -> Result<Vec<u8>, NoMemory>
+    ensures { IfOk result (λ more. more.items ≡ out.items ++ print (json_tokens (notification hint.now))) }
+{
+    let text = shown_hint(*out.allocator(), hint)?;
+    let mut writer = Writer::new(out);
+    put_marks(
+        &mut writer,
+        &[
+            Mark::BeginObject,
+            Mark::Text("level", "note"),
+            Mark::Key("message"),
+            Mark::BeginObject,
+            Mark::Text("text", text.as_str()),
+            Mark::EndObject,
+            Mark::EndObject,
+        ],
+    )?;
+    Ok(writer.into_inner())
+}
+
+/// The text of the hint, with escapes for hidden characters.
+fn shown_hint(alloc: Global, hint: &BaseHint) -> Result<String, NoMemory>
+    ensures { IfOk result (λ text. string_bytes text ≡ shown (base_hint_text hint.now)) }
+{
+    let text = base_hint_text(alloc, hint)?;
+    shown(alloc, text.as_str())
 }
 
 /// Appends the array of the results.

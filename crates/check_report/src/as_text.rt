@@ -1,13 +1,14 @@
 //! Prints a row as text.
 ghost use Rattle.std.specs.Prelude.{◌≡◌, ◌++◌, OnOk};
 ghost use Rattle.check_report.specs.Rows.{line_of};
-ghost use Rattle.check_report.specs.Text.{base_hint, base_hint_line, begin_text, broken_text, broken_total, external_text, hint_end, message, more_links, more_text, name_text, place_head, place_text, redirect_text, rest_text, site_total, target_start, text_line, title, total_text, verdict, worst_text};
+ghost use Rattle.check_report.specs.Text.{base_hint_line, begin_text, broken_text, broken_total, external_text, message, more_links, more_text, name_text, place_head, place_text, redirect_text, rest_text, site_total, target_start, text_line, title, total_text, verdict, worst_text};
 
 use crate::escape::Escape;
-use crate::names::has_host;
+use crate::hints::put_base_hint;
 use crate::piece::{Piece, put_all};
 use crate::put::{NoMemory, noun, put};
 use crate::row::{Counts, Row, Section};
+use crate::schemes::scheme_note;
 use crate::value::{
     BaseHint, Broken, External, FileCount, Kind, Place, Redirect, Totals, is_broken,
 };
@@ -111,46 +112,6 @@ fn put_hint_line(out: &mut Vec<u8>, hint: &BaseHint) -> Result<(), NoMemory>
     put(out, "\n")
 }
 
-/// Appends the hint at BASE: how many links begin with the folder or the URL, and what to pass.
-pub fn put_base_hint(out: &mut Vec<u8>, how: Escape, hint: &BaseHint) -> Result<(), NoMemory>
-    ensures { OnOk result (out.new.items ≡ out.old.items ++ base_hint how hint.now) }
-{
-    put_all(
-        out,
-        &[
-            Piece::Counted("hint: ", hint.paths),
-            Piece::Counted(" of ", hint.of),
-        ],
-    )?;
-    put_hint_end(out, how, hint.folder.as_str())
-}
-
-/// Appends the start that these links share, and what to pass as BASE: a URL itself, or one that ends with the folder.
-fn put_hint_end(out: &mut Vec<u8>, how: Escape, start: &str) -> Result<(), NoMemory>
-    ensures { OnOk result (out.new.items ≡ out.old.items ++ hint_end how start.now) }
-{
-    if has_host(start) {
-        put_all(
-            out,
-            &[
-                Piece::Text(" links begin with "),
-                Piece::Escaped(how, start),
-                Piece::Text(": pass it as BASE"),
-            ],
-        )
-    } else {
-        put_all(
-            out,
-            &[
-                Piece::Text(" paths from the root begin with "),
-                Piece::Escaped(how, start),
-                Piece::Text(", which is not in the folder: pass BASE, such as https://HOST"),
-                Piece::Escaped(how, start),
-            ],
-        )
-    }
-}
-
 /// Appends an empty line and the title of the section, which is bold if the report has colour.
 fn put_begin(out: &mut Vec<u8>, section: Section, colour: bool) -> Result<(), NoMemory>
     ensures { OnOk result (out.new.items ≡ out.old.items ++ begin_text colour section) }
@@ -172,8 +133,8 @@ fn title(section: Section) -> &'static str
 {
     match section {
         Section::Broken => "",
-        Section::Worst => "files with the most broken links:\n",
-        Section::Redirects => "links to redirects (not errors):\n",
+        Section::Worst => "files with the most broken, invalid and leaving links:\n",
+        Section::Redirects => "links to redirects (not errors; --fix --dry-run shows where):\n",
         Section::Unreached => "unreached files:\n",
         Section::Unlisted => "documents that no sitemap lists:\n",
         Section::External => "external links (not checked):\n",
@@ -200,7 +161,8 @@ fn put_broken(out: &mut Vec<u8>, broken: &Broken, colour: bool) -> Result<(), No
     )
 }
 
-/// Appends the line of a broken link: the location, the target, the link as it is written, and what is suggested.
+/// Appends the line of a broken link: the location, the target, the link as it is written, the note about its scheme, and what is
+/// suggested.
 fn put_place<'r>(
     out: &mut Vec<u8>,
     broken: &'r Broken,
@@ -215,6 +177,7 @@ fn put_place<'r>(
         out,
         &[
             Piece::Written(Escape::Shown, WRITTEN, broken, &place.written),
+            Piece::Note(" ", scheme_note(broken, place)),
             Piece::SameName(Escape::Shown, &broken.same_name),
             Piece::Hint(Escape::Shown, &broken.hint),
             Piece::Text("\n"),
@@ -306,7 +269,7 @@ fn put_rest(out: &mut Vec<u8>, broken: &Broken, count: u64, colour: bool) -> Res
     )
 }
 
-/// Appends the line of a file: the number of broken links in it, and its name.
+/// Appends the line of a file: the number of broken, invalid and leaving links in it, and its name.
 fn put_worst(out: &mut Vec<u8>, count: &FileCount) -> Result<(), NoMemory>
     ensures { OnOk result (out.new.items ≡ out.old.items ++ worst_text count.now) }
 {

@@ -9,6 +9,7 @@ mod as_sarif;
 mod as_text;
 mod escape;
 mod form;
+mod hints;
 /// Laws about escaped texts and about the natural order.
 pub mod laws;
 mod mark;
@@ -22,6 +23,7 @@ mod piece;
 mod printing;
 mod put;
 mod row;
+mod schemes;
 mod value;
 mod view;
 mod xml;

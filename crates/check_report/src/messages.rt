@@ -1,10 +1,12 @@
 //! The messages about findings in JUnit XML and SARIF.
-ghost use Rattle.std.specs.Prelude.{◌≡◌, ◌++◌, IfOk, OnOk, Some, option_map, string_bytes};
-ghost use Rattle.check_report.specs.Messages.{advice_part, bracketed, hint_part, link_message, message_start, rule_id, same_name_part, target_message, unlisted_message, written_part};
+ghost use Rattle.std.specs.Prelude.{◌≡◌, ◌++◌, IfOk, OnOk, Some, codes, option_map, string_bytes};
+ghost use Rattle.check_report.specs.Messages.{advice_part, hint_part, link_message, message_start, rule_id, same_name_part, target_message, unlisted_message, written_part};
+ghost use Rattle.check_report.specs.Text.{noted};
 
 use crate::as_text::message;
 use crate::names::{ends_with_link, page_name, target_name};
-use crate::put::NoMemory;
+use crate::put::{NoMemory, push_around};
+use crate::schemes::scheme_note;
 use crate::value::{Broken, Kind, Place};
 use std::alloc::Global;
 
@@ -37,13 +39,15 @@ pub fn unlisted_message(alloc: Global, document: &str) -> Result<String, NoMemor
     Ok(text)
 }
 
-/// The message about a link: its target, what is wrong with it, the link as it is written, and what is suggested.
+/// The message about a link: its target, what is wrong with it, the link as it is written, the note about its scheme, and what is
+/// suggested.
 #[tactic(auto, unfolding(crate::specs::Messages::link_message))]
 pub fn link_message(alloc: Global, broken: &Broken, place: &Place) -> Result<String, NoMemory>
     ensures { IfOk result (λ text. string_bytes text ≡ link_message broken.now place.now) }
 {
     let mut text = message_start(alloc, broken)?;
     push_written(alloc, &mut text, broken, &place.written)?;
+    push_note(&mut text, scheme_note(broken, place))?;
     push_advice(alloc, &mut text, broken)?;
     Ok(text)
 }
@@ -90,8 +94,19 @@ fn push_link(alloc: Global, text: &mut String, broken: &Broken, link: &str) -> R
     if ends_with_link(alloc, broken, link)? {
         Ok(())
     } else {
-        push_bracketed(text, " (written as ", link)
+        push_around(text, " (written as ", link, ")")
     }
+}
+
+/// Appends a space and a note, or nothing if the note is empty.
+fn push_note(text: &mut String, note: &str) -> Result<(), NoMemory>
+    ensures { OnOk result (string_bytes text.new ≡ string_bytes text.old ++ noted (codes " ") note.now) }
+{
+    if note.is_empty() {
+        return Ok(());
+    }
+    text.push_str(" ")?;
+    text.push_str(note)
 }
 
 /// Appends the page that is suggested, and the hint.
@@ -110,7 +125,7 @@ fn push_same_name(alloc: Global, text: &mut String, page: &Option<String>) -> Re
         Some(page) => {
             let mut name = page_name(alloc, page.as_str())?;
             name.push_str("?")?;
-            push_bracketed(text, " (did you mean ", name.as_str())
+            push_around(text, " (did you mean ", name.as_str(), ")")
         }
         None => Ok(()),
     }
@@ -121,16 +136,7 @@ fn push_hint(text: &mut String, hint: &Option<String>) -> Result<(), NoMemory>
     ensures { OnOk result (string_bytes text.new ≡ string_bytes text.old ++ hint_part (option_map string_bytes hint.now)) }
 {
     match hint {
-        Some(hint) => push_bracketed(text, " (", hint.as_str()),
+        Some(hint) => push_around(text, " (", hint.as_str(), ")"),
         None => Ok(()),
     }
-}
-
-/// Appends a word with the opening parenthesis, a text, and the closing parenthesis.
-fn push_bracketed(text: &mut String, word: &str, inner: &str) -> Result<(), NoMemory>
-    ensures { OnOk result (string_bytes text.new ≡ string_bytes text.old ++ bracketed word.now inner.now) }
-{
-    text.push_str(word)?;
-    text.push_str(inner)?;
-    text.push_str(")")
 }

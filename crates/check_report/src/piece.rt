@@ -6,7 +6,9 @@ ghost use Rattle.check_report.specs.Text.{bracketed, hint_text, name_in, redirec
 
 use crate::escape::{Escape, put_escaped};
 use crate::names::{ends_with_link, put_page_name, put_target_name};
-use crate::put::{NoMemory, put, put_code, put_counted, put_counted_if, put_counted_some};
+use crate::put::{
+    NoMemory, put, put_code, put_counted, put_counted_if, put_counted_some, put_note,
+};
 use crate::row::Section;
 use crate::value::Broken;
 use crate::xml::{put_attribute, put_xml};
@@ -44,6 +46,8 @@ pub enum Piece<'a> {
     /// A fixed text with an opening parenthesis, the link to a target as it is written, and a closing parenthesis; nothing if the link
     /// is not known, or if the name of the target ends with it.
     Written(Escape, &'static str, &'a Broken, &'a Option<String>),
+    /// A blank and a note; nothing if the note is empty.
+    Note(&'static str, &'static str),
     /// An item of the HTML page's list of counts: the HTML before the count, and the count.
     Item(&'static str, u64),
     /// Such an item if there is a count, otherwise nothing.
@@ -85,6 +89,7 @@ fn put_piece(out: &mut Vec<u8>, piece: Piece<'_>) -> Result<(), NoMemory>
         Piece::SameName(how, page) => put_same_name(out, how, page),
         Piece::Hint(how, hint) => put_hint(out, how, hint),
         Piece::Written(how, word, broken, link) => put_written(out, how, word, broken, link),
+        Piece::Note(blank, note) => put_note(out, blank, note),
         Piece::Item(word, count) => put_item(out, word, count),
         Piece::ItemIf(word, count) => put_item_if(out, word, count),
         Piece::ItemSome(word, count) => put_item_some(out, word, count),

@@ -3,7 +3,7 @@ ghost use Rattle.std.specs.Prelude.{◌≡◌, ℕ, [], ◌∷◌, IfOk, OnOk, f
 ghost use Rattle.check_report.specs.Printing.{Adds, printed, printed_annotations, printed_json, printed_page, printed_text, text_order};
 ghost use Rattle.check_report.specs.Order.{link_of, ordered_places, shown_places};
 ghost use Rattle.check_report.specs.Rows as line;
-ghost use Rattle.check_report.specs.Rows.{line_of, bare_lines, broken_lines, broken_section, counts_of, edge, external_of, external_section, file_lines, hint_lines, if_listed, left_out, lines_in, link_line, listed, name_section, place_lines, redirect_section, rest_lines, rows_of, target_lines, worst_section};
+ghost use Rattle.check_report.specs.Rows.{line_of, bare_lines, broken_lines, broken_section, counts_of, edge, external_of, external_section, file_lines, hint_lines, if_listed, left_out, lines_in, link_line, listed, name_section, other_rows, place_lines, redirect_section, rest_lines, rows_of, target_lines, worst_section};
 
 use crate::as_annotations::put_annotation;
 use crate::as_json::put_json;
@@ -150,11 +150,23 @@ fn put_rows(
     put_hint(out, form, findings.base_hint)?;
     put_broken(out, form, shown.broken, view)?;
     put_worst(out, form, shown.worst)?;
-    put_redirects(out, form, shown.redirects)?;
-    put_names(out, form, Section::Unreached, shown.unreached)?;
-    put_names(out, form, Section::Unlisted, shown.unlisted)?;
-    put_external(out, form, external_of(contents))?;
-    put_names(out, form, Section::Unused, shown.unused_ignores)?;
+    put_others(out, form, &shown, external_of(contents))
+}
+
+/// Appends the lists of other things than broken links, each if it has rows, and the last row.
+fn put_others(
+    out: &mut Vec<u8>,
+    form: Form<'_>,
+    findings: &Findings<'_>,
+    external: &[External],
+) -> Result<(), NoMemory>
+    ensures { OnOk result (Adds form.entry out.old.items out.new.items (other_rows external.now findings.now)) }
+{
+    put_redirects(out, form, findings.redirects)?;
+    put_names(out, form, Section::Unreached, findings.unreached)?;
+    put_names(out, form, Section::Unlisted, findings.unlisted)?;
+    put_external(out, form, external)?;
+    put_names(out, form, Section::Unused, findings.unused_ignores)?;
     put_row(out, form, Row::Last)
 }
 

@@ -1,6 +1,6 @@
 //! Appends texts and numbers.
-ghost use Rattle.std.specs.Prelude.{◌≡◌, ◌++◌, OnOk, decimal};
-ghost use Rattle.check_report.specs.Text.{code, counted, counted_if, counted_some, noun};
+ghost use Rattle.std.specs.Prelude.{◌≡◌, ◌++◌, OnOk, decimal, string_bytes};
+ghost use Rattle.check_report.specs.Text.{code, counted, counted_if, counted_some, noted, noun};
 
 use itoa::Buffer;
 use std::alloc::AllocError;
@@ -50,6 +50,39 @@ pub fn put_counted_some(out: &mut Vec<u8>, word: &str, count: u64) -> Result<(),
     } else {
         put_counted(out, word, count)
     }
+}
+
+/// Appends a count in decimal digits to a text in memory.
+pub fn push_count(text: &mut String, count: u64) -> Result<(), NoMemory>
+    ensures { OnOk result (string_bytes text.new ≡ string_bytes text.old ++ decimal count) }
+{
+    let mut buffer = Buffer::new();
+    text.push_str(buffer.format(count))
+}
+
+/// Appends a text between two others.
+pub fn push_around(
+    text: &mut String,
+    before: &str,
+    inner: &str,
+    after: &str,
+) -> Result<(), NoMemory>
+    ensures { OnOk result (string_bytes text.new ≡ string_bytes text.old ++ (before.now ++ inner.now ++ after.now)) }
+{
+    text.push_str(before)?;
+    text.push_str(inner)?;
+    text.push_str(after)
+}
+
+/// Appends a blank and a note, or nothing if the note is empty.
+pub fn put_note(out: &mut Vec<u8>, blank: &str, note: &str) -> Result<(), NoMemory>
+    ensures { OnOk result (out.new.items ≡ out.old.items ++ noted blank.now note.now) }
+{
+    if note.is_empty() {
+        return Ok(());
+    }
+    put(out, blank)?;
+    put(out, note)
 }
 
 /// Appends an escape code if the report has colour.

@@ -10,7 +10,7 @@ pub struct Findings<'a> {
     pub totals: Totals,
     /// The missing pages and anchors, then the invalid links, then the links that lead out of the site.
     pub broken: &'a [Broken],
-    /// The files with the most broken links, most first. All of them are printed, so a caller passes ten, say.
+    /// The files with the most broken, invalid and leaving links, most first. All of them are printed, so a caller passes ten, say.
     pub worst: &'a [FileCount],
     /// The redirects that pages link to.
     pub redirects: &'a [Redirect],
@@ -146,7 +146,8 @@ pub struct BaseHint {
     /// The number of locations of links to missing pages whose path begins with the folder; or the number of links that begin with the
     /// URL.
     pub paths: u64,
-    /// The number of locations of links to missing pages that are a path from the root; or the number of links.
+    /// The number of locations of links to missing pages that are a path from the root; or the number of links that lead to http or
+    /// https URLs.
     pub of: u64,
 }
 
@@ -168,7 +169,7 @@ pub struct External {
     pub links: u64,
 }
 
-/// A file and the number of broken links in it.
+/// A file and the number of broken, invalid and leaving links in it.
 #[derive(Drop)]
 pub struct FileCount {
     pub file: String,

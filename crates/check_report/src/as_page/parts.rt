@@ -9,7 +9,7 @@ pub static HEAD: &str = r#"<!doctype html>
 <meta name=color-scheme content="light dark">
 <meta name=format-detection content="telephone=no">
 <meta name=referrer content=no-referrer>
-<meta http-equiv=Content-Security-Policy content="default-src 'none'; style-src 'unsafe-inline'; script-src 'sha256-qSS4QjvYXRNfJI2v+DK7HJoWJuz8PrqfemGtbSqja5U='; base-uri 'none'; form-action 'none'">
+<meta http-equiv=Content-Security-Policy content="default-src 'none'; style-src 'unsafe-inline'; script-src 'sha256-Qn5kCQFbxuoiasNAf/mmD099YbhsARqf2kmG+E/YyrI='; base-uri 'none'; form-action 'none'">
 <title>"#;
 
 /// The text from the title to the script.
@@ -107,9 +107,9 @@ const sources = section.querySelectorAll('pre a'); // one for each location, or 
 let place = 0;
 for (const line of section.querySelector('pre').textContent.split('\n')) {
   if (line[0] === '\t') {
-    const [location, written] = line.slice(1).split('\t'), file = location.replace(/:\d+:\d+$/, '');
+    const [location, ...asides] = line.slice(1).split('\t'), file = location.replace(/:\d+:\d+$/, '');
     const target = targets[targets.length - 1], source = sources[place++];
-    const href = source && source.href, aside = written ? ' ' + written : '';
+    const href = source && source.href, aside = asides.map((one) => ' ' + one).join('');
     target.list.push({ text: location + aside, href });
     target.links++;
     if (!files.has(file)) files.set(file, { name: file, note: '', links: 0, list: [] });

@@ -87,10 +87,10 @@ start.html: no such page
 ../: leaves the folder
 down.html: no such page: 1 more link (--all-sources lists it)
 
-files with the most broken links:
+files with the most broken, invalid and leaving links:
   2 b.html
 
-links to redirects (not errors):
+links to redirects (not errors; --fix --dry-run shows where):
   guide -> guide/ (linked from 7 pages)
   old.html -> - (linked from 1 page)
 
@@ -186,6 +186,9 @@ const ANNOTATIONS: &str =
 /// The JUnit XML.
 const JUNIT: &str = "<?xml version=\"1.0\" encoding=\"UTF-8\"?>
 <testsuites name=\"mercator check\">
+<testsuite name=\"hint\" tests=\"1\" failures=\"0\" errors=\"0\" skipped=\"1\">
+<testcase name=\"BASE\" classname=\"hint\"><skipped message=\"hint: 3 of 4 paths from the root begin with /d&amp;/, which is not in the folder: pass BASE, such as https://HOST/d&amp;/\"/></testcase>
+</testsuite>
 <testsuite name=\"a.html\" tests=\"4\" failures=\"4\" errors=\"0\">
 <testcase name=\"7:9: C:\\x\" classname=\"a.html\" file=\"s:te/a.html\"><failure type=\"local-file\" message=\"C:\\x: local file\">C:\\x: local file</failure></testcase>
 <testcase name=\"8:9: http://[&lt;b&gt;\" classname=\"a.html\" file=\"s:te/a.html\"><failure type=\"not-a-url\" message=\"http://[&lt;b&gt;: not a URL\">http://[&lt;b&gt;: not a URL</failure></testcase>
@@ -222,6 +225,30 @@ const SARIF: &str =
     ",{\"ruleId\":\"missing-anchor\",\"level\":\"error\",\"message\":{\"text\":\"a<b>&\\\"'.html#x\\\\u{a}: no such anchor\"},\"locations\":[{\"physicalLocation\":{\"artifactLocation\":{\"uri\":\"s%3Ate/d%2Ce%3Af%25%0D.html\"},\"region\":{\"startLine\":1,\"startColumn\":2}}}]},{\"ruleId\":\"missing-page\",\"level\":\"error\",\"message\":{\"text\":\"start.html: no such page\"}},{\"ruleId\":\"leaves-the-folder\",\"level\":\"error\",\"message\":{\"text\":\"../: leaves the folder\"}},{\"ruleId\":\"not-in-sitemap\",\"level\":\"error\",\"message\":{\"text\":\"p q.html: not in a sitemap\"}}]}]}
 ";
 
+/// The start of the run in the SARIF log after the tool, up to the first result.
+const SARIF_HINT: &str =
+    ",\"columnKind\":\"unicodeCodePoints\",\"invocations\":[{\"executionSuccessful\":true,\"toolConfigurationNotifications\":[{\"level\":\"note\",\"message\":{\"text\":\"hint: 3 of 4 paths from the root begin with /d&/, which is not in the folder: pass BASE, such as https://HOST/d&/\"}}]}],\"results\":[{\"ruleId\":\"local-file\",";
+
+/// The JUnit XML of a site without findings, with a hint and without.
+const HINTED_JUNIT: &str = "<?xml version=\"1.0\" encoding=\"UTF-8\"?>
+<testsuites name=\"mercator check\">
+<testsuite name=\"hint\" tests=\"1\" failures=\"0\" errors=\"0\" skipped=\"1\">
+<testcase name=\"BASE\" classname=\"hint\"><skipped message=\"hint: 2 of 3 HTTP links begin with https://s.test/d\\u{a}/: pass it as BASE\"/></testcase>
+</testsuite>
+<testsuite name=\"links\" tests=\"1\" failures=\"0\" errors=\"0\">
+<testcase name=\"no broken links\" classname=\"links\"/>
+</testsuite>
+</testsuites>
+";
+
+const GOOD_JUNIT: &str = "<?xml version=\"1.0\" encoding=\"UTF-8\"?>
+<testsuites name=\"mercator check\">
+<testsuite name=\"links\" tests=\"1\" failures=\"0\" errors=\"0\">
+<testcase name=\"no broken links\" classname=\"links\"/>
+</testsuite>
+</testsuites>
+";
+
 /// The HTML page after the fixed texts.
 const PAGE: &str = "</form>
 <p>hint: 3 of 4 paths from the root begin with /d&amp;/, which is not in the folder: pass BASE, such as https://HOST/d&amp;/</p>
@@ -254,13 +281,13 @@ const PAGE: &str = "</form>
 </pre>
 </section>
 <section id=worst aria-labelledby=h-worst>
-<h2 id=h-worst>Files with the most broken links</h2>
+<h2 id=h-worst>Files with the most broken, invalid and leaving links</h2>
 <pre>
 b.html\t2
 </pre>
 </section>
 <section id=redirects aria-labelledby=h-redirects>
-<h2 id=h-redirects>Links to redirects (not errors)</h2>
+<h2 id=h-redirects>Links to redirects (not errors; --fix --dry-run shows where)</h2>
 <pre>
 guide\tto guide/\tlinked from 7 pages
 old.html\tto -\tlinked from 1 page
@@ -300,7 +327,7 @@ http://a.test/
 /// The text of a report without sections, with colour: only the totals and the hint.
 const NO_SECTION: &str = "pages 4, other files 1, links 20, redirects 2, aliases 3
 \x1b[31mbroken links 5\x1b[0m, missing pages 2, missing anchors 1, invalid links 4, leaving links 3
-hint: 2 of 3 links begin with https://s.test/d\\u{a}/: pass it as BASE
+hint: 2 of 3 HTTP links begin with https://s.test/d\\u{a}/: pass it as BASE
 ";
 
 /// A link in the file `a.html` of a folder.
@@ -488,13 +515,14 @@ fn ends(form: Result<Vec<u8>, NoMemory>, expected: &str) -> bool {
 }
 
 /// The forms of a report, in the order of `forms`.
-const FORMS: [&str; 7] = [
+const FORMS: [&str; 8] = [
     "text",
     "text by target",
     "JSON",
     "annotations",
     "JUnit XML",
     "end of the SARIF log",
+    "hint in the SARIF log",
     "end of the HTML page",
 ];
 
@@ -510,7 +538,7 @@ fn by_target(contents: Contents<'_>) -> Contents<'_> {
 }
 
 /// Which forms are printed as expected.
-fn forms(alloc: Global, findings: &Findings<'_>, contents: Contents<'_>) -> [bool; 7] {
+fn forms(alloc: Global, findings: &Findings<'_>, contents: Contents<'_>) -> [bool; 8] {
     [
         is(print_text(alloc, findings, contents, false), TEXT),
         has(
@@ -521,6 +549,7 @@ fn forms(alloc: Global, findings: &Findings<'_>, contents: Contents<'_>) -> [boo
         is(print_annotations(alloc, findings, contents), ANNOTATIONS),
         is(print_junit(alloc, findings, contents), JUNIT),
         ends(print_sarif(alloc, findings, contents), SARIF),
+        has(print_sarif(alloc, findings, contents), SARIF_HINT),
         ends(print_page(alloc, findings, contents), PAGE),
     ]
 }
@@ -577,7 +606,7 @@ impl Rows {
     }
 }
 
-fn printed(alloc: Global) -> Option<[bool; 7]> {
+fn printed(alloc: Global) -> Option<[bool; 8]> {
     let rows = Rows::new(alloc)?;
     let others = [
         external(alloc, "http://o.test/?a&b", 3)?,
@@ -861,6 +890,199 @@ fn is_by_file(alloc: Global) -> Option<bool> {
     Some(text.as_slice().ends_with(lines.as_str().as_bytes()))
 }
 
+/// A link as it is written to a missing page, and the note about its scheme.
+type Noted = (&'static str, &'static str);
+
+const NOTED: &[Noted] = &[
+    ("us@kettle.test", "(is mailto: missing?)"),
+    ("A.9_b+c-d@K-1.a_b", "(is mailto: missing?)"),
+    ("us@kettle", ""),
+    ("@kettle.test", ""),
+    ("logo@2x.png", ""),
+    ("us@.test", ""),
+    ("us@kettle.test/x", ""),
+    ("us@kettle.test:x", ""),
+    ("x/us@kettle.test", ""),
+    ("us@a@kettle.test", ""),
+    ("www.kettle.test/shop", "(is https:// missing?)"),
+    ("www.us@kettle.test", "(is https:// missing?)"),
+    ("www", ""),
+    ("x/www.kettle.test", ""),
+    ("http//stove.test/x", "(is a colon missing?)"),
+    ("https//stove.test/x", "(is a colon missing?)"),
+    ("http/stove.test", ""),
+    ("httpx//stove.test", ""),
+];
+
+/// A text, a blank, a note and another text; without the blank if the note is empty.
+fn joined(alloc: Global, start: &[&str], blank: &str, note: &str, end: &str) -> Option<String> {
+    let mut all = String::new(alloc);
+    for part in start {
+        all.push_str(*part).ok()?;
+    }
+    if !note.is_empty() {
+        all.push_str(blank).ok()?;
+        all.push_str(note).ok()?;
+    }
+    all.push_str(end).ok()?;
+    Some(all)
+}
+
+/// Which forms have the note about a link to `x`: the text, the HTML page, the annotations, JUnit XML.
+fn notes(alloc: Global, row: &Noted) -> Option<[bool; 4]> {
+    let mut gone = target(alloc, &("x", Kind::NoPage, "y", &[("a.html", 3, 1)]))?;
+    for place in gone.places.iter_mut() {
+        place.written = Some(text(alloc, row.0)?);
+    }
+    let broken = [gone];
+    let findings = Findings {
+        base: "",
+        totals: TOTALS,
+        broken: &broken,
+        worst: &[],
+        redirects: &[],
+        unreached: &[],
+        unlisted: &[],
+        unused_ignores: &[],
+        base_hint: None,
+    };
+    let contents = Contents {
+        lists: Lists::default(),
+        external: None,
+        folder: "",
+        source_url: "",
+    };
+    let written = [": no such page (written as ", row.0, ")"];
+    let in_text = joined(alloc, &written, " ", row.1, " (did you mean y?)")?;
+    let in_page = joined(
+        alloc,
+        &["\ta.html:3:1\t(written as ", row.0, ")"],
+        "\t",
+        row.1,
+        "\n",
+    )?;
+    let in_command = joined(
+        alloc,
+        &["::x: no such page"],
+        " ",
+        row.1,
+        " (did you mean y?)\n",
+    )?;
+    let in_xml = joined(alloc, &written, " ", row.1, " (did you mean y?)</failure>")?;
+    Some([
+        has(
+            print_text(alloc, &findings, contents, false),
+            in_text.as_str(),
+        ),
+        has(print_page(alloc, &findings, contents), in_page.as_str()),
+        has(
+            print_annotations(alloc, &findings, contents),
+            in_command.as_str(),
+        ),
+        has(print_junit(alloc, &findings, contents), in_xml.as_str()),
+    ])
+}
+
+/// Whether the text has this line for a link that is written as its target.
+fn has_line(alloc: Global, row: &Target, line: &str) -> Option<bool> {
+    let broken = [target(alloc, row)?];
+    let findings = Findings {
+        base: "",
+        totals: TOTALS,
+        broken: &broken,
+        worst: &[],
+        redirects: &[],
+        unreached: &[],
+        unlisted: &[],
+        unused_ignores: &[],
+        base_hint: None,
+    };
+    let contents = Contents {
+        lists: Lists::default(),
+        external: None,
+        folder: "",
+        source_url: "",
+    };
+    Some(ends(print_text(alloc, &findings, contents, false), line))
+}
+
+/// Links that are written as their targets, and the lines of text about them.
+const TARGET_LINES: &[(Target, &str)] = &[
+    (
+        ("www.a.test", Kind::NoPage, "", &[("a.html", 3, 1)]),
+        "\n\na.html:3:1: www.a.test: no such page (is https:// missing?)\n",
+    ),
+    // without a location, or of another kind
+    (
+        ("www.a.test", Kind::NoPage, "", &[]),
+        "\n\nwww.a.test: no such page\n",
+    ),
+    (
+        ("www.a.test", Kind::NoAnchor, "", &[("a.html", 3, 1)]),
+        "\n\na.html:3:1: www.a.test: no such anchor\n",
+    ),
+    (
+        ("www.a.test", Kind::NotUrl, "", &[("a.html", 3, 1)]),
+        "\n\na.html:3:1: www.a.test: not a URL\n",
+    ),
+    (
+        ("www.a.test", Kind::UnknownScheme, "", &[("a.html", 3, 1)]),
+        "\n\na.html:3:1: www.a.test: unknown scheme\n",
+    ),
+    (
+        ("www.a.test", Kind::LocalFile, "", &[("a.html", 3, 1)]),
+        "\n\na.html:3:1: www.a.test: local file\n",
+    ),
+    (
+        ("www.a.test", Kind::Leaves, "", &[("a.html", 3, 1)]),
+        "\n\na.html:3:1: www.a.test: leaves the folder\n",
+    ),
+    (
+        ("www.a.test", Kind::OutsideBase, "", &[("a.html", 3, 1)]),
+        "\n\na.html:3:1: www.a.test: outside BASE, on the same host\n",
+    ),
+    (
+        ("www.a.test", Kind::NotInMap, "", &[("a.html", 3, 1)]),
+        "\n\na.html:3:1: www.a.test: no such page in the mapped folder\n",
+    ),
+];
+
+/// Whether the JUnit XML of a site without findings is this, with the hint or without.
+fn is_junit(alloc: Global, hint: Option<&BaseHint>, expected: &str) -> bool {
+    let findings = Findings {
+        base: "",
+        totals: TOTALS,
+        broken: &[],
+        worst: &[],
+        redirects: &[],
+        unreached: &[],
+        unlisted: &[],
+        unused_ignores: &[],
+        base_hint: hint,
+    };
+    let contents = Contents {
+        lists: Lists::default(),
+        external: None,
+        folder: "",
+        source_url: "",
+    };
+    is(print_junit(alloc, &findings, contents), expected)
+}
+
+/// Whether the JUnit XML has the hint, if there is one.
+fn has_hint(alloc: Global) -> Option<[bool; 2]> {
+    let folder = text(alloc, "https://s.test/d\n/")?;
+    let hint = BaseHint {
+        folder,
+        paths: 2,
+        of: 3,
+    };
+    Some([
+        is_junit(alloc, Some(&hint), HINTED_JUNIT),
+        is_junit(alloc, None, GOOD_JUNIT),
+    ])
+}
+
 /// The row of a location in the HTML page, with a link to its source.
 const SOURCE: &str =
     "\n\t<a href=\"https://h.test/b?x&amp;y/a%20%3C/%C3%A9.html#L3\">a &lt;/\u{e9}.html:3:1</a>\t(written as &lt;x&gt;)\n";
@@ -903,6 +1125,27 @@ fn has_sources(alloc: Global) -> Option<[bool; 2]> {
 }
 
 #[test]
+fn skips_a_test_case_for_the_hint(rt: HostRuntime) {
+    let forms = has_hint(rt.alloc());
+    assert!(rt; forms == Some([true; 2]), "{forms:?}");
+}
+
+#[test]
+fn asks_for_a_scheme(rt: HostRuntime) {
+    for row in NOTED {
+        let forms = notes(rt.alloc(), row);
+        assert!(rt; forms == Some([true; 4]), "{}: {forms:?}", row.0);
+    }
+}
+
+#[test]
+fn asks_only_about_links_to_missing_pages(rt: HostRuntime) {
+    for (row, line) in TARGET_LINES {
+        assert!(rt; has_line(rt.alloc(), row, line) == Some(true), "{line:?}");
+    }
+}
+
+#[test]
 fn links_to_the_sources(rt: HostRuntime) {
     let forms = has_sources(rt.alloc());
     assert!(rt; forms == Some([true; 2]), "{forms:?}");
@@ -941,7 +1184,7 @@ fn annotates_files_of_folders(rt: HostRuntime) {
 
 #[test]
 fn prints_each_form(rt: HostRuntime) {
-    let are_printed = printed(rt.alloc()).unwrap_or([false; 7]);
+    let are_printed = printed(rt.alloc()).unwrap_or([false; 8]);
     for (form, is_printed) in FORMS.iter().zip(are_printed.iter()) {
         assert!(rt; *is_printed, "{form}");
     }
