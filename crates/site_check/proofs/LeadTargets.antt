@@ -34,7 +34,7 @@ abbrev pub Has : {X : Type 0} → List X → X → Type 0
 Has [] x = ⊥
 Has (y ∷ ys) x = (y ≡ x) ⊎ Has ys x
 
-has_at : {X : Type 0} (xs : List X) (k : ℕ) (x : X) → slice_get xs k ≡ Some x → Has xs x
+pub has_at : {X : Type 0} (xs : List X) (k : ℕ) (x : X) → slice_get xs k ≡ Some x → Has xs x
 has_at [] k x at = none_some x at
 has_at (y ∷ xs) zero x at = inl (some_same y x at)
 has_at (y ∷ xs) (suc k) x at = inr (has_at xs k x at)
@@ -58,7 +58,7 @@ has_append (y ∷ xs) ys x has =
       | inr more ↦ elim (has_append xs ys x more) [ inl front ↦ inl (inr front) | inr back ↦ inr back ]
     ]
 
-has_filtered : {X : Type 0} (p : X → Bool) (xs : List X) (x : X) → Has (filter p xs) x → Has xs x
+pub has_filtered : {X : Type 0} (p : X → Bool) (xs : List X) (x : X) → Has (filter p xs) x → Has xs x
 has_filtered p [] x has = absurd has
 has_filtered p (y ∷ xs) x has =
     elim (cases_Bool (p y)) [
@@ -216,11 +216,11 @@ moved_to f (Found links skipped) n is = absurd (none_some n is)
 moved_to f Missing n is = absurd (none_some n is)
 
 -- the number is that of a missing page, to which the URL leads
-record IsNumber (front : List ℕ) (entries : List (List ℕ)) (rs : List PageResult) (url : List ℕ) (n : ℕ) : Type 0 where
-  one : PageResult
-  there : slice_get rs n ≡ Some one
-  reported : is_reported front entries one ≡ true
-  ends : (url ≡ one.url) ⊎ Has rs (record { url = url; page = Moved (Some one.url) })
+pub record IsNumber (front : List ℕ) (entries : List (List ℕ)) (rs : List PageResult) (url : List ℕ) (n : ℕ) : Type 0 where
+  pub one : PageResult
+  pub there : slice_get rs n ≡ Some one
+  pub reported : is_reported front entries one ≡ true
+  pub ends : (url ≡ one.url) ⊎ Has rs (record { url = url; page = Moved (Some one.url) })
 
 from_missing : (front : List ℕ) (entries : List (List ℕ)) (rs : List PageResult) (url : List ℕ) (n : ℕ) → Has (missing_from front entries 0 rs) (record { url = url; number = n }) → IsMissingAt front entries 0 rs (record { url = url; number = n })
 from_missing front entries rs url n has = missing_at front entries 0 rs (record { url = url; number = n }) has
@@ -228,7 +228,7 @@ from_missing front entries rs url n has = missing_at front entries 0 rs (record 
 number_at_place : (rs : List PageResult) (n place : ℕ) (one : PageResult) → n ≡ 0 + place → slice_get rs place ≡ Some one → slice_get rs n ≡ Some one
 number_at_place rs n place one same there = let is : n ≡ place = omega (arith, same) in ap (slice_get rs) is ∙ there
 
-number_of_target : (front : List ℕ) (entries : List (List ℕ)) (rs : List PageResult) (url : List ℕ) (n : ℕ) → number_in (targets_of front entries rs) url ≡ Some n → IsNumber front entries rs url n
+pub number_of_target : (front : List ℕ) (entries : List (List ℕ)) (rs : List PageResult) (url : List ℕ) (n : ℕ) → number_in (targets_of front entries rs) url ≡ Some n → IsNumber front entries rs url n
 number_of_target front entries rs url n is =
     let missing = missing_from front entries 0 rs in
     elim (numbered url None (targets_of front entries rs) n is) [

@@ -1,10 +1,13 @@
 pub mod Prelude
+pub mod AllPlaced
 pub mod AllReported
 pub mod AllRows
 pub mod Counting
 pub mod FileEntries
 pub mod FileNames
+pub mod Forms
 pub mod Fronts
+pub mod KeptLinks
 pub mod LeadsFound
 pub mod LeadTargets
 pub mod LeavingRows

@@ -1,16 +1,18 @@
 -- The URLs with which links begin, and the links that begin with them.
-use Rattle.site_check.proofs.Prelude.{◌≡◌, ◌∙◌, ℕ, suc, zero, ◌+◌, ◌<◌, ◌≤◌, ◌&&◌, Bool, true, false, List, [], ◌∷◌, ◌++◌, Option, Some, None, length, drop, take, get_or, count_by, filter, refl, subst, sym, ap, inl, inr, arith, append_assoc, cases_Bool, cond-false, cond-true, string_bytes, take-append-drop, bytes_eq-Decides, begins, Bor, flat_map, option_map, pointed, Counts, SiteFiles, count_at, is_slash, often_first, one_if, path_count}
-use Rattle.std.proofs.Common.{◌-◌, ◌==◌, ◌≢◌, MatchOption, take_all}
+use Rattle.site_check.proofs.Prelude.{◌≡◌, ◌∙◌, ℕ, suc, zero, ◌+◌, ◌^◌, ◌<◌, ◌≤◌, ◌&&◌, Bool, true, false, List, [], ◌∷◌, ◌++◌, Option, Some, None, length, drop, take, get_or, count_by, refl, subst, sym, ap, inl, inr, arith, append_assoc, cases_Bool, cond-false, cond-true, string_bytes, take-append-drop, bytes_eq, bytes_eq-Decides, begins, Bor, flat_map, option_map, pointed, Counts, PageResult, SiteFiles, count_at, is_slash, often_first, one_if, path_count}
+use Rattle.std.proofs.Common.{◌*◌, ◌-◌, ◌≢◌, MatchOption, take_all}
 use Rattle.std.proofs.lemmas.List.{append_cancel_right, drop_all, flat_map_more}
 use Rattle.std.proofs.lemmas.List.Sums.{sum_by-append, sum_by-cons}
 use Rattle.std.specs.Option.{option_and_then, option_or, option_to_list}
 use Rattle.std.specs.Str.Pattern.{FindsTextSuffix, StripsSuffix}
+use Rattle.check_report.specs.declared.value.BaseHint.{BaseHint}
+use Rattle.check_report.specs.declared.value.Broken.{Broken}
 use Rattle.crawl_sources.proofs.Counts.{length_pointed, pointed_more}
 use Rattle.site_check.proofs.Fronts.{begins_with}
 use Rattle.site_check.proofs.Outsides.{IsName, first_free, more_name}
 use Rattle.site_check.proofs.RootFolders.{cut_here}
-use Rattle.site_check.specs.Base.{Hint}
-use Rattle.site_check.specs.LinkBase.{Cuts, first_hint, folder_to, folders_to, has_file_at, hint_in, hint_to, is_few, leads_to_file, link_hint}
+use Rattle.site_check.specs.Base.{Hint, hint_at, root_hint_of}
+use Rattle.site_check.specs.LinkBase.{Cuts, are_few_below, first_hint, folder_to, folders_to, has_file_at, hint_in, hint_on_host, hint_to, hint_with_counts, host_hint, leads_to_file, link_hint, link_urls}
 
 -- ---- counts
 
@@ -39,6 +41,13 @@ one_fits false = omega arith
 -- no more are counted than there are
 pub count_fits : (i n k : ℕ) (is : Bool) → k ≡ one_if is → n ≤ i → n + k ≤ i + 1
 count_fits i n k is one fits = omega (arith, one, fits, one_fits is)
+
+-- a sum of numbers of 64 bits
+pub sum_fits : (n k i all : ℕ) → n ≤ i * 2 ^ 64 → k < 2 ^ 64 → i < all → all < 2 ^ 64 → n + k < 2 ^ 128
+sum_fits n k i all so_far one within few = omega (arith, so_far, one, within, few)
+
+pub sum_next : (n k i : ℕ) → n ≤ i * 2 ^ 64 → k < 2 ^ 64 → n + k ≤ (i + 1) * 2 ^ 64
+sum_next n k i so_far one = omega (arith, so_far, one)
 
 -- ---- folders
 
@@ -152,20 +161,47 @@ pub hint_lacks : (files : SiteFiles) (urls folders : List (List ℕ)) (counts : 
 hint_lacks files urls folders counts of n listed are first =
     ap (option_and_then (hint_in files urls of)) (first ∙ (λ i. often_first of (λ other. are other i) folders) ∙ ap (λ l. often_first of (path_count l) l) listed)
 
--- fewer than half of the links begin with the top, or at least half
-pub hint_of_few : (files : SiteFiles) (all : List (Bor (List ℕ))) (urls : List (List ℕ)) (of below : ℕ) (hint : Option Hint) → pointed all ≡ urls → of ≡ length all →
-    below ≡ count_by (begins (string_bytes files.site.top)) (pointed all) → is_few below of ≡ true → hint ≡ first_hint files (pointed all) of (3 ∷ 4 ∷ 5 ∷ 6 ∷ 7 ∷ 8 ∷ []) → hint ≡ link_hint files urls
-hint_of_few files all urls of below hint are whole part few is =
-    let those = pointed all in
-    let same : of ≡ length those = whole ∙ sym (length_pointed all) in
-    let test : is_few (count_by (begins (string_bytes files.site.top)) those) (length those) ≡ true = (λ i. is_few (sym part i) (sym same i)) ∙ few in
-    is ∙ ap (λ n. first_hint files those n (3 ∷ 4 ∷ 5 ∷ 6 ∷ 7 ∷ 8 ∷ [])) same
-    ∙ sym (cond-true (is_few (count_by (begins (string_bytes files.site.top)) those) (length those)) _ _ test) ∙ ap (link_hint files) are
+-- the top itself has none
+pub hint_at_top : (files : SiteFiles) (urls : List (List ℕ)) (of : ℕ) (folder top : List ℕ) → top ≡ string_bytes files.site.top → bytes_eq folder top ≡ true → None ≡ hint_in files urls of folder
+hint_at_top files urls of folder top is same = sym (cond-true (bytes_eq folder (string_bytes files.site.top)) _ _ (ap (bytes_eq folder) (sym is) ∙ same))
 
-pub hint_of_most : (files : SiteFiles) (all : List (Bor (List ℕ))) (urls : List (List ℕ)) (of below : ℕ) → pointed all ≡ urls → of ≡ length all →
-    below ≡ count_by (begins (string_bytes files.site.top)) (pointed all) → is_few below of ≡ false → None ≡ link_hint files urls
-hint_of_most files all urls of below are whole part most =
-    let those = pointed all in
-    let same : of ≡ length those = whole ∙ sym (length_pointed all) in
-    let test : is_few (count_by (begins (string_bytes files.site.top)) those) (length those) ≡ false = (λ i. is_few (sym part i) (sym same i)) ∙ most in
-    sym (cond-false (is_few (count_by (begins (string_bytes files.site.top)) those) (length those)) _ _ test) ∙ ap (link_hint files) are
+-- another URL has the one with its counts
+pub hint_elsewhere : (files : SiteFiles) (urls : List (List ℕ)) (of : ℕ) (folder top : List ℕ) (paths found : ℕ) (hint : Option Hint) → top ≡ string_bytes files.site.top → bytes_eq folder top ≡ false →
+    paths ≡ count_by (begins folder) urls → found ≡ count_by (leads_to_file files folder) urls → hint ≡ hint_with_counts of folder paths found → hint ≡ hint_in files urls of folder
+hint_elsewhere files urls of folder top paths found hint is differ counted lead own =
+    own ∙ (λ i. hint_with_counts of folder (counted i) (lead i)) ∙ sym (cond-false (bytes_eq folder (string_bytes files.site.top)) _ _ (ap (bytes_eq folder) (sym is) ∙ differ))
+
+-- fewer than half of the links begin with the top, or at least half
+pub hint_of_few : (files : SiteFiles) (all : List (Bor (List ℕ))) (results : List PageResult) (rows : List Broken) (top : List ℕ) (hint : Option Hint) → top ≡ string_bytes files.site.top →
+    are_few_below top results rows ≡ true → pointed all ≡ link_urls results → hint ≡ first_hint files (pointed all) (length all) (3 ∷ 4 ∷ 5 ∷ 6 ∷ 7 ∷ 8 ∷ []) → hint ≡ link_hint files results rows
+hint_of_few files all results rows top hint is few are own =
+    let test : are_few_below (string_bytes files.site.top) results rows ≡ true = ap (λ t. are_few_below t results rows) (sym is) ∙ few in
+    own
+    ∙ ap (λ n. first_hint files (pointed all) n (3 ∷ 4 ∷ 5 ∷ 6 ∷ 7 ∷ 8 ∷ [])) (sym (length_pointed all))
+    ∙ ap (λ urls. first_hint files urls (length urls) (3 ∷ 4 ∷ 5 ∷ 6 ∷ 7 ∷ 8 ∷ [])) are
+    ∙ sym (cond-true (are_few_below (string_bytes files.site.top) results rows) _ _ test)
+
+pub hint_of_most : (files : SiteFiles) (results : List PageResult) (rows : List Broken) (top : List ℕ) → top ≡ string_bytes files.site.top → are_few_below top results rows ≡ false → None ≡ link_hint files results rows
+hint_of_most files results rows top is most =
+    let test : are_few_below (string_bytes files.site.top) results rows ≡ false = ap (λ t. are_few_below t results rows) (sym is) ∙ most in
+    sym (cond-false (are_few_below (string_bytes files.site.top) results rows) _ _ test)
+
+-- ---- a folder on the host
+
+pub host_there : (files : SiteFiles) (results : List PageResult) (rows : List Broken) (found : Option BaseHint) (hint : BaseHint) → found ≡ Some hint → option_map hint_at found ≡ root_hint_of true files rows →
+    hint_on_host files results (string_bytes hint.folder) ≡ host_hint files results rows
+host_there files results rows found hint is own =
+    ap (option_and_then (λ (other : Hint). hint_on_host files results other.folder)) (ap (option_map hint_at) (sym is) ∙ own)
+
+pub host_lacks : (files : SiteFiles) (results : List PageResult) (rows : List Broken) (found : Option BaseHint) → found ≡ None → option_map hint_at found ≡ root_hint_of true files rows → None ≡ host_hint files results rows
+host_lacks files results rows found is own =
+    ap (option_and_then (λ (other : Hint). hint_on_host files results other.folder)) (ap (option_map hint_at) (sym is) ∙ own)
+
+-- the links are all of them
+pub host_counts : (files : SiteFiles) (all : List (Bor (List ℕ))) (results : List PageResult) (folder url : List ℕ) (hint : Option Hint) → pointed all ≡ link_urls results → url ≡ string_bytes files.site.origin ++ folder →
+    hint ≡ hint_in files (pointed all) (length all) url → hint ≡ hint_on_host files results folder
+host_counts files all results folder url hint are is own =
+    own
+    ∙ ap (λ n. hint_in files (pointed all) n url) (sym (length_pointed all))
+    ∙ ap (λ urls. hint_in files urls (length urls) url) are
+    ∙ ap (hint_in files (link_urls results) (length (link_urls results))) is

@@ -1,5 +1,5 @@
 -- Rows with the locations of the links to their targets.
-use Rattle.site_check.proofs.Prelude.{◌≡◌, ◌∙◌, ℕ, ◌<◌, Bool, true, false, List, [], ◌∷◌, ◌++◌, append_assoc, arith, length, map, filter, get_or, refl, sym, ap, subst, not, slice_get, slice_get-map, slice_get_read, string_bytes, Some, TargetRow, anchor_text, inl, inr, is_gone, is_leaving, is_place_ignored, option_map, rows_left, shown_at, target_row, text_of, with_left}
+use Rattle.site_check.proofs.Prelude.{◌≡◌, ◌∙◌, ℕ, ◌<◌, Bool, true, false, List, [], ◌∷◌, ◌++◌, length, map, filter, get_or, refl, sym, ap, subst, not, slice_get, slice_get-map, slice_get_read, string_bytes, Some, TargetRow, anchor_text, inl, inr, is_gone, is_leaving, is_place_ignored, option_map, rows_left, shown_at, target_row, text_of, with_left}
 use Rattle.std.proofs.lemmas.Bool.{cases_Bool, cond-false, cond-true}
 use Rattle.std.proofs.lemmas.List.Elements.{All-append, All-cons, All-head, All-nil, All-tail}
 use Rattle.std.specs.List.{All}

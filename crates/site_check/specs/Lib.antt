@@ -2,6 +2,7 @@ pub mod Aliases
 pub mod Anchors
 pub mod Base
 pub mod Broken
+pub mod Complete
 pub mod Hints
 pub mod Ignored
 pub mod Invalid

@@ -1,5 +1,5 @@
 -- The hint at another URL of the folder: most links begin with it, and the folder has the files to which they would lead.
-use Rattle.std.specs.Prelude.{◌≡◌, ◌-◌, ◌++◌, ◌∷◌, ℕ, zero, suc, Bool, ◌&&◌, if◌then◌else◌, List, [], length, drop, map, count_by, nat_le, nat_lt, Option, None, Some, is_some, option_and_then, option_map, string_bytes}
+use Rattle.std.specs.Prelude.{◌≡◌, ◌-◌, ◌++◌, ◌∷◌, ℕ, zero, suc, Bool, true, ◌&&◌, if◌then◌else◌, List, [], bytes_eq, length, drop, map, count_by, sum_by, nat_le, nat_lt, Option, None, Some, is_some, option_and_then, option_map, string_bytes}
 use Rattle.std.specs.List.{flat_map}
 use Rattle.std.specs.Option.{option_or, option_to_list}
 use Rattle.check_report.specs.declared.value.Broken.{Broken}
@@ -8,6 +8,7 @@ use Rattle.crawl_pages.specs.declared.page.PageResult.{PageResult}
 use Rattle.site_check.specs.Base.{Hint, often_first, path_count, root_hint_of}
 use Rattle.site_check.specs.Broken.{begins}
 use Rattle.site_check.specs.Names.{is_slash}
+use Rattle.site_check.specs.Totals.{is_page, place_count}
 use Rattle.site_files.specs.Entries.{entry_at}
 use Rattle.site_files.specs.Pages.{found_file}
 use Rattle.site_files.specs.Server.{before_query}
@@ -15,12 +16,24 @@ use Rattle.site_files.specs.declared.files.SiteFiles.{SiteFiles}
 
 -- ---- the links
 
-abbrev pub page_urls : PageResult → List (List ℕ)
-page_urls r = if is_found r.page then map before_query (links_of r.page) else []
+-- the links in a page, if it was found. An alias has one, to the own URL
+abbrev pub page_links : PageResult → List (List ℕ)
+page_links r = if is_found r.page then links_of r.page else []
 
--- the URLs of the links in found pages, without queries. An alias has one link, to the own URL
+abbrev pub page_urls : PageResult → List (List ℕ)
+page_urls r = map before_query (page_links r)
+
+-- the URLs of the links in found pages, without queries
 abbrev pub link_urls : List PageResult → List (List ℕ)
 link_urls results = flat_map page_urls results
+
+-- how many there are
+abbrev pub all_count : List PageResult → ℕ
+all_count results = sum_by (λ r. length (page_links r)) results
+
+-- how many of them begin with the top
+abbrev pub below_count : List ℕ → List PageResult → ℕ
+below_count top results = sum_by (λ r. count_by (begins top) (page_links r)) results
 
 -- ---- their folders
 
@@ -52,20 +65,23 @@ leads_to_file files folder url = begins folder url && has_file_at files (drop (l
 
 -- ---- the hint
 
--- at least half of them
-abbrev pub is_half : ℕ → ℕ → Bool
-is_half part of = nat_le (of - part) part
+-- at least half of them, which are at least two
+abbrev pub are_enough : ℕ → ℕ → Bool
+are_enough part of = nat_le 2 of && nat_le (of - part) part
 
 -- fewer than half of them
 abbrev pub is_few : ℕ → ℕ → Bool
 is_few part of = nat_lt part (of - part)
 
 abbrev pub hint_with_counts : ℕ → List ℕ → ℕ → ℕ → Option Hint
-hint_with_counts of folder paths found = if is_half found paths then Some (record { folder = folder; paths = paths; of = of }) else None
+hint_with_counts of folder paths found = if are_enough found paths then Some (record { folder = folder; paths = paths; of = of }) else None
 
--- at least half of the links that begin with the folder lead to files
+-- the folder is not the top, and at least half of the links that begin with it lead to files
 abbrev pub hint_in : SiteFiles → List (List ℕ) → ℕ → List ℕ → Option Hint
-hint_in files urls of folder = hint_with_counts of folder (count_by (begins folder) urls) (count_by (leads_to_file files folder) urls)
+hint_in files urls of folder =
+    if bytes_eq folder (string_bytes files.site.top)
+    then None
+    else hint_with_counts of folder (count_by (begins folder) urls) (count_by (leads_to_file files folder) urls)
 
 -- the folder is the first with this number of slashes with which at least two and at least half of the links begin
 abbrev pub hint_to : SiteFiles → List (List ℕ) → ℕ → ℕ → Option Hint
@@ -75,13 +91,25 @@ abbrev pub first_hint : SiteFiles → List (List ℕ) → ℕ → List ℕ → O
 first_hint files urls of [] = None
 first_hint files urls of (n ∷ more) = option_or (hint_to files urls of n) (first_hint files urls of more)
 
--- only if fewer than half of the links begin with the top. The third slash ends the host
-abbrev pub link_hint : SiteFiles → List (List ℕ) → Option Hint
-link_hint files urls =
-    if is_few (count_by (begins (string_bytes files.site.top)) urls) (length urls)
-    then first_hint files urls (length urls) (3 ∷ 4 ∷ 5 ∷ 6 ∷ 7 ∷ 8 ∷ [])
+-- fewer than half of the links begin with the top, after the number of locations of links to missing pages is taken off
+abbrev pub are_few_below : List ℕ → List PageResult → List Broken → Bool
+are_few_below top results rows = is_few (below_count top results - place_count is_page rows) (all_count results)
+
+-- only then there is a hint. The third slash ends the host
+abbrev pub link_hint : SiteFiles → List PageResult → List Broken → Option Hint
+link_hint files results rows =
+    if are_few_below (string_bytes files.site.top) results rows
+    then first_hint files (link_urls results) (length (link_urls results)) (3 ∷ 4 ∷ 5 ∷ 6 ∷ 7 ∷ 8 ∷ [])
     else None
 
--- by the links to missing pages, or else by all links
+-- at the URL of a folder on the host
+abbrev pub hint_on_host : SiteFiles → List PageResult → List ℕ → Option Hint
+hint_on_host files results folder = hint_in files (link_urls results) (length (link_urls results)) (string_bytes files.site.origin ++ folder)
+
+-- the folder is that of the paths from the root which lead to missing pages
+abbrev pub host_hint : SiteFiles → List PageResult → List Broken → Option Hint
+host_hint files results rows = option_and_then (λ (hint : Hint). hint_on_host files results hint.folder) (root_hint_of true files rows)
+
+-- at the folder of these paths, if its URL is not known; or else at a URL by all links, or by these paths
 abbrev pub base_hint_of : Bool → SiteFiles → List PageResult → List Broken → Option Hint
-base_hint_of rooted files results rows = option_or (root_hint_of rooted files rows) (link_hint files (link_urls results))
+base_hint_of rooted files results rows = option_or (root_hint_of rooted files rows) (option_or (link_hint files results rows) (host_hint files results rows))

@@ -1,10 +1,11 @@
 //! Checks the results of a crawl of a site's saved web.
-ghost use Rattle.std.specs.Prelude.{◌≡◌, ◌==◌, ◌++◌, ℕ, List, [], true, All, IfOk, IsPermutation, OnOk, map, not, string_bytes, length, flat_map, option_map};
+ghost use Rattle.std.specs.Prelude.{◌≡◌, ◌==◌, ◌++◌, ℕ, List, [], true, All, Contains, IfOk, IsPermutation, OnOk, map, not, string_bytes, length, flat_map, option_map};
 ghost use Rattle.check_report.specs.Text.{is_broken};
 ghost use Rattle.crawl_sources.specs.Tallies.{pointed};
 ghost use Rattle.site_files.specs.declared.files.SiteFiles.{SiteFiles};
 ghost use Rattle.site_check.specs.Base.{hint_at};
 ghost use Rattle.site_check.specs.Broken.{linked_at, redirects_of, result_at, rows_with, ways_with};
+ghost use Rattle.site_check.specs.Complete.{AreOnce, HasAllLinks, IsKeptPlace};
 ghost use Rattle.site_check.specs.Hints.{hints_at, hints_in};
 ghost use Rattle.site_check.specs.Ignored.{not_ignored, anchors_in, text_at, unused};
 ghost use Rattle.site_check.specs.Invalid.{AreTexts, invalid_rows_in, row_of, text_of, texts_if};
@@ -23,6 +24,8 @@ ghost use Rattle.site_check.specs.Unreached.{unreached_in};
 ghost use Rattle.site_check.specs.Worst.{file_links, worst_of};
 
 use crate::anchors::push_anchors;
+use crate::check_error::CheckError;
+use crate::complete::has_all_places;
 use crate::file_entries::leave_out;
 use crate::ignored::unused;
 use crate::input::CheckInput;
@@ -33,7 +36,7 @@ use crate::link_base::base_hint;
 use crate::linked::{Linked, linked_results};
 use crate::located::{ANCHORS, ListedLead, PAGES, TEXTS, TargetPlace, URLS};
 use crate::missing_anchors::{MissingAnchor, MissingAnchorLink, missing_anchors, sort_by_anchor};
-use crate::names::{Named, names_of};
+use crate::names::{Named, lower_names_of, names_of};
 use crate::outside::Outside;
 use crate::rows::{broken_rows, redirect_rows};
 use crate::shown::shown;
@@ -101,7 +104,7 @@ impl Checked {
 /// count links and find those to missing pages, or one thread if the rules name fewer than four.
 ///
 /// # Errors
-/// Out of memory.
+/// `FileUnread`, `LinkLost`, `NoMemory`.
 #[tactic(auto, using(crate::proofs::AllRows::ways_of_all))]
 pub fn check_site<'f, R: Threads + Sync, B: FileBytes + Sync>(
     rt: &R,
@@ -110,16 +113,19 @@ pub fn check_site<'f, R: Threads + Sync, B: FileBytes + Sync>(
     files: &'f SiteFiles<'f>,
     bytes: &B,
     input: CheckInput<'_>,
-) -> Result<Checked, NoMemory>
+) -> Result<Checked, CheckError>
     // The rows are what entries with a file leave of rows for exactly the missing results, the texts of invalid links in found pages, if
     // the check lists them, the missing results on the site's host that are not below its top, and missing anchors; each without those
-    // that an entry matches. A missing page has the number of results that link to it, the only page with its file name, unless a link
-    // to the missing page is in the file of that page, and the hint at what a server with other rules finds. The unused entries are those
-    // that match none of these and no location.
+    // that an entry matches. A missing page has the number of results that link to it, the only page with its file name, in the same case
+    // or else in another, unless a link to the missing page is in the file of that page, and the hint at what a server with other rules
+    // finds. The unused entries are those that match none of these and no location.
     ensures rows { IfOk result (λ checked. AreReported input.entry.front.now (map string_bytes input.entry.ignores.now) (texts_if input.entry.invalid input.entry.places.now results.now) input.entry.rooted input.entry.maps.now files.now results.now input.entry.found.now checked.broken.items (map string_bytes checked.unused_ignores.items)) }
     // Each location of a row is that of a link in what was read of the file of a page. If the row reports a missing page, the link leads to
     // it, directly or by a redirect.
     ensures places { IfOk result (λ checked. All (IsLocated input.entry.front.now input.entry.places.now files.now results.now (B.reads bytes.now)) checked.broken.items) }
+    // No link to a missing page is left out. If each URL is that of one result, the location of each link of a page that leads to a missing
+    // page, directly or by a redirect, is in the row of the missing page, unless an entry matches the page or the location.
+    ensures complete { IfOk result (λ checked. AreOnce results.now → HasAllLinks input.entry.front.now (map string_bytes input.entry.ignores.now) input.entry.places.now files.now results.now (B.reads bytes.now) checked.broken.items) }
     // The rows of redirects are the moved results that are linked to.
     ensures redirects { IfOk result (λ checked. map way_of checked.redirects.items ≡ redirects_of input.entry.front.now results.now) }
     // The unreached files are those of which a search from the starts found no page, by the first URL of each, in order, if they are listed.
@@ -129,8 +135,10 @@ pub fn check_site<'f, R: Threads + Sync, B: FileBytes + Sync>(
     // The unlisted documents are those of which no sitemap lists the own URL or an alias, in order, without `404.html`, if they are listed.
     ensures unlisted { IfOk result (λ checked. map string_bytes checked.unlisted.items ≡ unlisted_in input.entry.front.now input.entry.aliases.now input.entry.documents.now input.entry.listed) }
     // The hint of BASE is the first folder that at least half and at least two of the paths from the root in the rows of missing pages
-    // begin with, if the site has no file in it and its URL is not known. Otherwise it is the first URL with which at least half and at
-    // least two of the links begin, if fewer than half begin with the top and the folder has files for at least half of those links.
+    // begin with, if the site has no file in it and its URL is not known. Otherwise it is the first URL but the top with which at least half
+    // and at least two of the links begin, if the folder has files for at least half of those links. There is none if at least half of the
+    // links begin with the top, after the number of locations of links to missing pages is taken off. Otherwise it is the URL of the first
+    // folder on the host, if at least two links begin with it, and the folder has files for at least half of those.
     ensures base_hint { IfOk result (λ checked. option_map hint_at checked.base_hint ≡ base_hint_of input.entry.rooted files.now results.now checked.broken.items) }
     // The totals count the documents and the other files at their own URLs, their links, the pages at aliases, and the rows.
     ensures totals { IfOk result (λ checked. checked.totals ≡ totals_of input.entry.aliases.now input.entry.documents.now results.now checked.broken.items checked.redirects.items) }
@@ -189,6 +197,7 @@ fn sought_by<'p, R: Threads + Sync>(
 ) -> Result<BrokenLinks<'p>, NoMemory>
     ensures invalid { IfOk result (λ sought. AreTexts (texts_if input.entry.invalid input.entry.places.now site.entry.pages.results.now) (map text_of sought.invalid.items)) }
     ensures outside { IfOk result (λ sought. map outside_at sought.outside.items ≡ outside_linked input.entry.rooted input.entry.maps.now site.entry.files.now site.entry.pages.results.now input.entry.found.now) }
+    ensures whole { IfOk result (λ sought. All (Contains sought.leads.items) (map (listed 0) (leads_from (number_in (targets_of input.entry.front.now (map string_bytes input.entry.ignores.now) (map result_at linked.now))) (indices_in input.entry.places.now) 0 site.entry.pages.results.now))) }
     ensures leads { IfOk result (λ sought. All (IsListed (leads_from (number_in (targets_of input.entry.front.now (map string_bytes input.entry.ignores.now) (map result_at linked.now))) (indices_in input.entry.places.now) 0 site.entry.pages.results.now)) sought.leads.items) }
 {
     let threads = site.files.threads().max(1);
@@ -310,9 +319,10 @@ fn results_of(
     linked: &[Linked<'_>],
     sought: &BrokenLinks<'_>,
     places: &[TargetPlace],
-) -> Result<Checked, NoMemory>
+) -> Result<Checked, CheckError>
     ensures rows { IfOk result (λ checked. AreRows input.entry.front.now (map string_bytes input.entry.ignores.now) site.entry.files.now linked.now sought.now.anchors.items sought.now.invalid.items sought.now.outside.items checked.broken.items (map string_bytes checked.unused_ignores.items)) }
     ensures located { IfOk result (λ checked. All (IsLocatedRow (map placed_at places.now) (target_texts input.entry.front.now linked.now sought.now.anchors.items sought.now.invalid.items sought.now.outside.items)) (map located_row checked.broken.items)) }
+    ensures whole { IfOk result (λ checked. All (IsKeptPlace input.entry.front.now (map string_bytes input.entry.ignores.now) linked.now checked.broken.items) (map placed_at places.now)) }
     ensures redirects { IfOk result (λ checked. map way_of checked.redirects.items ≡ flat_map (ways_with input.entry.front.now) (map linked_at linked.now)) }
     ensures worst { IfOk result (λ checked. map file_links checked.worst.items ≡ worst_of checked.broken.items) }
     ensures unreached { IfOk result (λ checked. map string_bytes checked.unreached.items ≡ unreached_in input.entry.front.now site.entry.files.now input.entry.reached) }
@@ -371,13 +381,24 @@ fn rows_of(
     linked: &[Linked<'_>],
     others: Others<'_>,
     places: &[TargetPlace],
-) -> Result<Rows, NoMemory>
+) -> Result<Rows, CheckError>
     ensures rows { IfOk result (λ rows. AreRows input.entry.front.now (map string_bytes input.entry.ignores.now) site.entry.files.now linked.now others.entry.anchors.now others.entry.invalid.now others.entry.outside.now rows.broken.items (map string_bytes rows.unused_ignores.items)) }
     ensures located { IfOk result (λ rows. All (IsLocatedRow (map placed_at places.now) (target_texts input.entry.front.now linked.now others.entry.anchors.now others.entry.invalid.now others.entry.outside.now)) (map located_row rows.broken.items)) }
+    ensures whole { IfOk result (λ rows. All (IsKeptPlace input.entry.front.now (map string_bytes input.entry.ignores.now) linked.now rows.broken.items) (map placed_at places.now)) }
 {
     let mut broken = broken_all(alloc, input, site, linked, others, places)?;
     let unused_ignores = unused_entries(alloc, input, linked, others, broken.as_slice())?;
     leave_out(input.ignores, &mut broken);
+    let is_whole = has_all_places(
+        input.front,
+        input.ignores,
+        linked,
+        broken.as_slice(),
+        places,
+    );
+    if !is_whole {
+        return Err(CheckError::LinkLost);
+    }
     Ok(Rows {
         broken,
         unused_ignores,
@@ -465,10 +486,12 @@ fn missing_rows(
     if has_none(linked) {
         return Ok(Vec::new(alloc));
     }
-    let names = names_of(alloc, site.files)?;
+    let exact = names_of(alloc, site.files)?;
+    let lower = lower_names_of(alloc, site.files)?;
     let named = Named {
         files: site.files,
-        names: &names,
+        exact: &exact,
+        lower: &lower,
     };
     broken_rows(alloc, input, named, linked, places)
 }

@@ -47,7 +47,7 @@ fn leave_places(entries: &[String], target: &str, places: &mut Vec<Place>)
 }
 
 /// Whether an entry with a file matches the location of a link to a target in this file.
-fn is_place_ignored(entries: &[String], target: &str, file: &str) -> bool
+pub(crate) fn is_place_ignored(entries: &[String], target: &str, file: &str) -> bool
     ensures { result ≡ is_place_ignored (map string_bytes entries.now) target.now file.now }
 {
     let mut rest = entries;

@@ -4,6 +4,8 @@
 mod anchors;
 mod base;
 mod check;
+mod check_error;
+mod complete;
 mod file_entries;
 mod hints;
 mod ignored;
@@ -31,6 +33,7 @@ mod url_sets;
 mod worst;
 
 pub use check::{Checked, check_site};
+pub use check_error::CheckError;
 pub use ignored::read_ignores;
 pub use input::{CheckInput, MapName};
 pub use maps::is_under;

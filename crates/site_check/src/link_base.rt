@@ -1,22 +1,22 @@
 //! The hint at another URL of the folder, with which most links begin.
-ghost use Rattle.std.specs.Prelude.{◌≡◌, ◌++◌, IfOk, OnOk, count_by, length, map, option_map};
-ghost use Rattle.std.specs.Option.{option_to_list};
+ghost use Rattle.std.specs.Prelude.{◌≡◌, ◌++◌, IfOk, OnOk, count_by, length, map, option_map, string_bytes};
+ghost use Rattle.std.specs.Option.{option_or, option_to_list};
 ghost use Rattle.crawl_sources.specs.Tallies.{pointed};
 ghost use Rattle.site_files.specs.Server.{before_query};
 ghost use Rattle.site_check.specs.Base.{hint_at};
 ghost use Rattle.site_check.specs.Broken.{begins};
-ghost use Rattle.site_check.specs.LinkBase.{Cuts, base_hint_of, first_hint, folder_to, folders_to, has_file_at, hint_in, hint_to, hint_with_counts, is_few, is_half, leads_to_file, link_hint, link_urls, page_urls};
+ghost use Rattle.site_check.specs.LinkBase.{Cuts, are_enough, are_few_below, base_hint_of, first_hint, folder_to, folders_to, has_file_at, hint_in, hint_on_host, hint_to, hint_with_counts, host_hint, is_few, leads_to_file, link_hint, link_urls, page_links};
 
 use crate::base::{often_first, path_counts, root_hint};
 use crate::shown::begins;
-use crate::totals::number_of;
+use crate::totals::{links_to_missing, number_of};
 use check_report::{BaseHint, Broken};
 use crawl_keys::CanonUrl;
 use crawl_pages::{NoMemory, PageResult, links_of};
 use site_files::{SiteFiles, before_query};
 use std::alloc::Global;
 
-/// The URL or folder that BASE would name: by the links to missing pages, or else by all links.
+/// The folder or URL that BASE would name: by the paths from the root that lead to missing pages, or else by all links.
 pub(crate) fn base_hint(
     alloc: Global,
     rooted: bool,
@@ -28,26 +28,129 @@ pub(crate) fn base_hint(
 {
     match root_hint(alloc, rooted, files, rows)? {
         Some(hint) => Ok(Some(hint)),
-        None => link_hint(alloc, files, results),
+        None => url_hint(alloc, files, results, rows),
     }
 }
 
-/// The hint at a URL with which many links begin, if fewer than half of the links begin with the top. The URL has three to eight slashes;
-/// the third one ends the host.
+/// The URL that BASE would name: by all links, or else by the paths from the root that lead to missing pages.
+fn url_hint(
+    alloc: Global,
+    files: &SiteFiles<'_>,
+    results: &[PageResult],
+    rows: &[Broken],
+) -> Result<Option<BaseHint>, NoMemory>
+    ensures { IfOk result (λ hint. option_map hint_at hint ≡ option_or (link_hint files.now results.now rows.now) (host_hint files.now results.now rows.now)) }
+{
+    match link_hint(alloc, files, results, rows)? {
+        Some(hint) => Ok(Some(hint)),
+        None => host_hint(alloc, files, results, rows),
+    }
+}
+
+/// The hint at the URL of the folder with which many of these paths begin, if the site does not have the folder.
+#[tactic(auto, using(crate::proofs::LinkFolders::host_lacks))]
+fn host_hint(
+    alloc: Global,
+    files: &SiteFiles<'_>,
+    results: &[PageResult],
+    rows: &[Broken],
+) -> Result<Option<BaseHint>, NoMemory>
+    ensures { IfOk result (λ hint. option_map hint_at hint ≡ host_hint files.now results.now rows.now) }
+{
+    let found = root_hint(alloc, true, files, rows)?;
+    match found {
+        Some(hint) => hint_on_host(alloc, files, results, hint.folder.as_str()),
+        None => Ok(None),
+    }
+}
+
+/// The hint at the URL of a folder on the host, if enough links begin with it and lead to files.
+fn hint_on_host(
+    alloc: Global,
+    files: &SiteFiles<'_>,
+    results: &[PageResult],
+    folder: &str,
+) -> Result<Option<BaseHint>, NoMemory>
+    ensures { IfOk result (λ hint. option_map hint_at hint ≡ hint_on_host files.now results.now folder.now) }
+{
+    let text = host_url(alloc, files, folder)?;
+    let url = text.as_str();
+    let all = link_urls(alloc, results)?;
+    let urls = all.as_slice();
+    hint_in(alloc, files, urls, urls.len() as u64, url)
+}
+
+/// The URL of a folder on the host. The folder is between slashes.
+fn host_url(alloc: Global, files: &SiteFiles<'_>, folder: &str) -> Result<String, NoMemory>
+    ensures { IfOk result (λ url. string_bytes url ≡ string_bytes files.now.site.origin ++ folder.now) }
+{
+    let mut url = String::from_str(alloc, files.origin())?;
+    url.push_str(folder)?;
+    Ok(url)
+}
+
+/// The hint at a URL with which many links begin, unless at least half of the links begin with the top and lead to pages. The URL has
+/// three to eight slashes; the third one ends the host.
 fn link_hint(
     alloc: Global,
     files: &SiteFiles<'_>,
     results: &[PageResult],
+    rows: &[Broken],
 ) -> Result<Option<BaseHint>, NoMemory>
-    ensures { IfOk result (λ hint. option_map hint_at hint ≡ link_hint files.now (link_urls results.now)) }
+    ensures { IfOk result (λ hint. option_map hint_at hint ≡ link_hint files.now results.now rows.now) }
 {
-    let all = link_urls(alloc, results)?;
-    let urls = all.as_slice();
-    let of = urls.len() as u64;
-    if !is_few(count_with(files.top(), urls), of) {
+    if !are_few_below(files.top(), results, rows) {
         return Ok(None);
     }
-    first_hint(alloc, files, urls, of, &[3, 4, 5, 6, 7, 8])
+    let all = link_urls(alloc, results)?;
+    let urls = all.as_slice();
+    first_hint(alloc, files, urls, urls.len() as u64, &[3, 4, 5, 6, 7, 8])
+}
+
+/// Whether fewer than half of the links begin with the top, after the number of locations of links to missing pages is taken off. The
+/// links are only counted, because most sites have no hint.
+#[tactic(auto, using(crate::proofs::LinkFolders::sum_fits, crate::proofs::LinkFolders::sum_next))]
+fn are_few_below(top: &str, results: &[PageResult], rows: &[Broken]) -> bool
+    ensures { result ≡ are_few_below top.now results.now rows.now }
+{
+    // A `u64` might not hold the sums.
+    let mut below: u128 = 0;
+    let mut of: u128 = 0;
+    for one in results {
+        let links = page_links(one);
+        below += u128::from(count_below(top, links));
+        of += links.len() as u128;
+    }
+    is_few(below.saturating_sub(u128::from(links_to_missing(rows))), of)
+}
+
+/// The links in a page, if it was found.
+fn page_links(one: &PageResult) -> &[CanonUrl]
+    ensures { result.now ≡ page_links one.now }
+{
+    if one.page.is_found() {
+        links_of(&one.page)
+    } else {
+        &[]
+    }
+}
+
+/// The number of links that begin with the top.
+fn count_below(top: &str, links: &[CanonUrl]) -> u64
+    ensures { result ≡ count_by (begins top.now) links.now }
+{
+    let mut count: u64 = 0;
+    for link in links {
+        count += number_of(begins(top, link.as_str()));
+    }
+    count
+}
+
+/// Whether the part is less than half of all.
+fn is_few(part: u128, of: u128) -> bool
+    ensures { result ≡ is_few part of }
+{
+    part < of.saturating_sub(part)
 }
 
 /// The URLs of the links in found pages, without queries.
@@ -56,19 +159,9 @@ fn link_urls(alloc: Global, results: &[PageResult]) -> Result<Vec<&str>, NoMemor
 {
     let mut urls = Vec::new(alloc);
     for one in results {
-        push_page(one, &mut urls)?;
+        push_links(page_links(one), &mut urls)?;
     }
     Ok(urls)
-}
-
-/// Appends the URLs of the links in a page, if it was found.
-fn push_page<'a>(one: &'a PageResult, urls: &mut Vec<&'a str>) -> Result<(), NoMemory>
-    ensures { OnOk result (pointed urls.new.items ≡ pointed urls.old.items ++ page_urls one.now) }
-{
-    if one.page.is_found() {
-        push_links(links_of(&one.page), urls)?;
-    }
-    Ok(())
 }
 
 /// Appends these URLs without their queries.
@@ -93,18 +186,11 @@ fn count_with(front: &str, urls: &[&str]) -> u64
     count
 }
 
-/// Whether the part is less than half of all.
-fn is_few(part: u64, of: u64) -> bool
-    ensures { result ≡ is_few part of }
+/// Whether the part is at least half of all, which are at least two.
+fn are_enough(part: u64, of: u64) -> bool
+    ensures { result ≡ are_enough part of }
 {
-    part < of.saturating_sub(part)
-}
-
-/// Whether the part is at least half of all.
-fn is_half(part: u64, of: u64) -> bool
-    ensures { result ≡ is_half part of }
-{
-    of.saturating_sub(part) <= part
+    2 <= of && of.saturating_sub(part) <= part
 }
 
 /// The first hint at a URL with one of these numbers of slashes.
@@ -197,7 +283,8 @@ fn rest_after(slashes: usize, url: &str) -> Option<&str>
     }
 }
 
-/// The hint at a URL, if at least half of the links that begin with it would lead to files at the top.
+/// The hint at a URL, unless it is the top, or fewer than two links begin with it, or fewer than half of those would lead to files at the top.
+#[tactic(auto, using(crate::proofs::LinkFolders::hint_at_top, crate::proofs::LinkFolders::hint_elsewhere))]
 fn hint_in(
     alloc: Global,
     files: &SiteFiles<'_>,
@@ -207,12 +294,15 @@ fn hint_in(
 ) -> Result<Option<BaseHint>, NoMemory>
     ensures { IfOk result (λ hint. option_map hint_at hint ≡ hint_in files.now (pointed urls.now) of folder.now) }
 {
+    if folder == files.top() {
+        return Ok(None);
+    }
     let paths = count_with(folder, urls);
     let found = count_files(alloc, files, folder, urls)?;
     hint_with_counts(alloc, of, folder, paths, found)
 }
 
-/// The hint at a URL with these numbers, if enough of the links lead to files.
+/// The hint at a URL with these numbers, if enough links begin with it and lead to files.
 fn hint_with_counts(
     alloc: Global,
     of: u64,
@@ -222,7 +312,7 @@ fn hint_with_counts(
 ) -> Result<Option<BaseHint>, NoMemory>
     ensures { IfOk result (λ hint. option_map hint_at hint ≡ hint_with_counts of folder.now paths found) }
 {
-    if !is_half(found, paths) {
+    if !are_enough(found, paths) {
         return Ok(None);
     }
     let folder = String::from_str(alloc, folder)?;

@@ -1,9 +1,13 @@
 //! The locations of broken links. Only files that have one are read again.
-ghost use Rattle.std.specs.Prelude.{◌≡◌, ◌++◌, [], true, All, IfOk, IsPermutation, MatchOption, OnOk, length, map, option_map, string_bytes, take_while};
+ghost use Rattle.std.specs.Prelude.{◌≡◌, ◌++◌, [], true, All, IfOk, IsPermutation, MatchOption, OnOk, Some, length, map, option_map, slice_get, string_bytes, take_while};
+ghost use Rattle.crawl_pages.specs.declared.page.PageResult.{PageResult};
 ghost use Rattle.document_links.specs.Places.{ArePlaces};
+ghost use Rattle.site_check.specs.Complete.{HasPlace, HasTaken, is_taken};
 ghost use Rattle.site_check.specs.Located.{IsFileOf, IsFirstPage, IsRowPlace, IsTargetPlace, IsToTarget, Pushes, PushesPlaces, comes_last, document_of, index_of, is_of, is_to, link_places, placed_at, places_from, put_last};
-ghost use Rattle.site_check.specs.Locations.{ascends, comes_before, if_any, in_row, is_earlier, location_in, location_of, text_kind, unless_same};
+ghost use Rattle.site_check.specs.Locations.{IsFileAt, ascends, comes_before, if_any, in_row, is_earlier, location_in, location_of, text_kind, unless_same};
+ghost use Rattle.site_files.specs.Files.{Document};
 
+use crate::check_error::CheckError;
 use crate::leads::Lead;
 use crate::site_pages::Site;
 use crate::worst::is_less;
@@ -39,10 +43,10 @@ pub(crate) struct ListedLead {
 #[derive(Drop)]
 pub(crate) struct TargetPlace {
     /// The number of the list.
-    list: usize,
+    pub(crate) list: usize,
     /// The number of the target in the list.
-    number: usize,
-    place: Place,
+    pub(crate) number: usize,
+    pub(crate) place: Place,
 }
 
 // ---- links in files
@@ -56,9 +60,12 @@ pub(crate) struct PageLeads<'a> {
     more: &'a [ListedLead],
 }
 
-/// The locations of the links of the pages that one of `of` threads takes: each `of`-th page, from the one with the number `rest` on.
-/// The links of a page are consecutive. Its file is read again, if that can be read.
-#[tactic(auto, using(crate::proofs::Placed::all_contained))]
+/// The locations of the links of the pages that one of `of` threads takes: those of the results whose numbers have the remainder `rest`
+/// by `of`. The links of a page are consecutive. Its file is read again.
+///
+/// # Errors
+/// `FileUnread`, `NoMemory`.
+#[tactic(auto, using(crate::proofs::Placed::all_contained, crate::proofs::AllPlaced::passed_none))]
 pub(crate) fn every_place<B: FileBytes>(
     alloc: Global,
     site: Site<'_, '_>,
@@ -66,26 +73,31 @@ pub(crate) fn every_place<B: FileBytes>(
     bytes: &B,
     rest: usize,
     of: usize,
-) -> Result<Vec<TargetPlace>, NoMemory>
-    ensures { IfOk result (λ all. All (IsTargetPlace site.entry.files.now site.entry.pages.results.now (B.reads bytes.now) leads.now) (map placed_at all.items)) }
+) -> Result<Vec<TargetPlace>, CheckError>
+    ensures links { IfOk result (λ all. All (IsTargetPlace site.entry.files.now site.entry.pages.results.now (B.reads bytes.now) leads.now) (map placed_at all.items)) }
+    ensures whole { IfOk result (λ all. All (HasTaken site.entry.files.now site.entry.pages.results.now (B.reads bytes.now) of rest (map placed_at all.items)) leads.now) }
 {
     let mut all = Vec::new(alloc);
     let mut body = Body::new(alloc);
     let mut left = leads;
-    let mut number: usize = 0;
     'pages: loop {
         match first_page(left) {
             Some(page) => {
-                let is_own = number.checked_rem(of) == Some(rest);
                 left = page.more;
-                number = number.saturating_add(1);
-                if is_own {
+                if is_taken(of, rest, page.source) {
                     push_page(alloc, site, page, bytes, &mut body, &mut all)?;
                 }
             }
             None => return Ok(all),
         }
     }
+}
+
+/// Whether of `of` threads the one with the number `rest` reads the file of the result with this number.
+fn is_taken(of: usize, rest: usize, source: usize) -> bool
+    ensures { result ≡ is_taken of rest source }
+{
+    0 < of && source % of == rest
 }
 
 /// Splits off the links of the first result. `None` if there are no links.
@@ -117,7 +129,10 @@ fn is_of(source: usize, one: &ListedLead) -> bool
     one.lead.source == source
 }
 
-/// Appends the locations of the links of a result, whose file is read again into `body`, if that can be read.
+/// Appends the locations of the links of a result, whose file is read again into `body`, if the result has a file.
+///
+/// # Errors
+/// `FileUnread`, `NoMemory`.
 #[tactic(auto, using(crate::proofs::Placed::pushes_none))]
 fn push_page<B: FileBytes>(
     alloc: Global,
@@ -126,16 +141,17 @@ fn push_page<B: FileBytes>(
     bytes: &B,
     body: &mut Body,
     all: &mut Vec<TargetPlace>,
-) -> Result<(), NoMemory>
+) -> Result<(), CheckError>
     requires { All (λ one. one.lead.source ≡ page.source) page.own.now }
-    ensures { OnOk result (Pushes (IsTargetPlace site.entry.files.now site.entry.pages.results.now (B.reads bytes.now) page.entry.own.now) (map placed_at all.old.items) (map placed_at all.new.items)) }
+    ensures links { OnOk result (Pushes (IsTargetPlace site.entry.files.now site.entry.pages.results.now (B.reads bytes.now) page.entry.own.now) (map placed_at all.old.items) (map placed_at all.new.items)) }
+    ensures whole { OnOk result (All (HasPlace site.entry.files.now site.entry.pages.results.now (B.reads bytes.now) (map placed_at all.new.items)) page.entry.own.now) }
 {
     let Some(file) = file_of(site, page.source) else {
         return Ok(());
     };
     body.clear();
     if bytes.read(file, body)?.is_some() {
-        return Ok(());
+        return Err(CheckError::FileUnread);
     }
     push_places(alloc, site, page.own, file, body.as_slice(), all)?;
     Ok(())
@@ -143,7 +159,8 @@ fn push_page<B: FileBytes>(
 
 /// The file of the result with this number, if it can have links.
 fn file_of<'f>(site: Site<'_, 'f>, source: usize) -> Option<SiteFile<'f>>
-    ensures { MatchOption result (Unit {0}) (λ file. IsFileOf site.entry.files.now site.entry.pages.results.now source (document_of file)) }
+    ensures is { MatchOption result (Unit {0}) (λ file. IsFileOf site.entry.files.now site.entry.pages.results.now source (document_of file)) }
+    ensures whole { (page : PageResult) (file : Document) → slice_get site.entry.pages.results.now source ≡ Some page → IsFileAt site.entry.files.now page.url file → option_map document_of result ≡ Some file }
 {
     let one = site.pages.results.get(source)?;
     let number = site.files.find(one.url.as_str())?;

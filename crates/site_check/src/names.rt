@@ -1,7 +1,8 @@
-//! Pages with the file name of one that is not there.
-ghost use Rattle.std.specs.Prelude.{◌≡◌, ◌∷◌, [], ℕ, List, None, Some, filter, if◌then◌else◌, IfOk, MatchOption, OnOk, slice_get, string_bytes, unwrap_or, option_copied, option_map, bytes_eq};
+//! Pages with the file name of one that is not there, in the same case or in another.
+ghost use Rattle.std.specs.Prelude.{◌≡◌, ◌∷◌, ◌++◌, [], ℕ, List, None, Some, filter, if◌then◌else◌, IfOk, MatchOption, OnOk, slice_get, string_bytes, unwrap_or, option_copied, option_map, bytes_eq};
+ghost use Rattle.std.specs.Str.{str_to_ascii_lowercase};
 ghost use Rattle.site_files.specs.Files.{PageFile, page_file, pages_of};
-ghost use Rattle.site_check.specs.Names.{AreNames, after_slashes, has_name, is_slash, known_at, known_with, last_part, named_at, only_name, name_of_page, same_name, has_place_in};
+ghost use Rattle.site_check.specs.Names.{AreKnown, AreNames, IsKnown, after_slashes, has_lower_name, has_name, is_slash, known_at, known_with, last_part, lower_at, name_for_part, named_at, named_page, only_name, name_of_page, other_form, folder_form, page_at, same_name, has_place_in};
 
 use crate::shown::shown;
 use check_report::Place;
@@ -21,17 +22,21 @@ pub(crate) enum Namesakes {
 /// The pages that are made of files, by their file names.
 type Names<'a> = BTreeMap<&'a [u8], Namesakes>;
 
-/// The files of a site, and its pages by their file names.
+/// The same by their file names in lower case.
+type LowerNames = BTreeMap<Vec<u8>, Namesakes>;
+
+/// The files of a site, and its pages by their file names: as these are, and in lower case.
 #[derive(Clone, Copy)]
 pub(crate) struct Named<'a, 'f> {
     pub(crate) files: &'a SiteFiles<'f>,
-    pub(crate) names: &'a Names<'f>,
+    pub(crate) exact: &'a Names<'f>,
+    pub(crate) lower: &'a LowerNames,
 }
 
 /// The pages of a site by their file names.
 #[tactic(auto, using(crate::proofs::Namesakes::names_more))]
 pub(crate) fn names_of<'a>(alloc: Global, files: &'a SiteFiles<'_>) -> Result<Names<'a>, NoMemory>
-    ensures { IfOk result (λ names. AreNames files.now names) }
+    ensures { IfOk result (λ names. AreKnown has_name files.now (named_at names)) }
 {
     let mut names = BTreeMap::new(alloc);
     for number in 0..files.page_count() {
@@ -46,7 +51,7 @@ fn add_page<'a>(
     files: &'a SiteFiles<'_>,
     number: usize,
 ) -> Result<(), NoMemory>
-    ensures { OnOk result ((name : List ℕ) → named_at names.new name ≡ known_at name (slice_get (pages_of files.now) number) number (named_at names.old name)) }
+    ensures { OnOk result ((name : List ℕ) → named_at names.new name ≡ known_at (has_name name) (slice_get (pages_of files.now) number) number (named_at names.old name)) }
 {
     match files.page(number) {
         Some((url, file)) => {
@@ -64,7 +69,7 @@ fn add_file<'a>(
     file: Option<usize>,
     number: usize,
 ) -> Result<(), NoMemory>
-    ensures { OnOk result ((name : List ℕ) → named_at names.new name ≡ known_at name (Some (page_file url.now file)) number (named_at names.old name)) }
+    ensures { OnOk result ((name : List ℕ) → named_at names.new name ≡ known_at (has_name name) (Some (page_file url.now file)) number (named_at names.old name)) }
 {
     match file {
         Some(_) => {
@@ -84,6 +89,65 @@ fn add_name<'a>(names: &mut Names<'a>, name: &'a [u8], number: usize) -> Result<
     Ok(())
 }
 
+/// The pages of a site by their file names in lower case.
+#[tactic(auto, using(crate::proofs::Namesakes::names_more))]
+pub(crate) fn lower_names_of(alloc: Global, files: &SiteFiles<'_>) -> Result<LowerNames, NoMemory>
+    ensures { IfOk result (λ names. AreKnown has_lower_name files.now (lower_at names)) }
+{
+    let mut names = BTreeMap::new(alloc);
+    for number in 0..files.page_count() {
+        add_lower_page(alloc, &mut names, files, number)?;
+    }
+    Ok(names)
+}
+
+/// Adds the page with this number under its file name in lower case, if there is such a page and it is made of a file.
+fn add_lower_page(
+    alloc: Global,
+    names: &mut LowerNames,
+    files: &SiteFiles<'_>,
+    number: usize,
+) -> Result<(), NoMemory>
+    ensures { OnOk result ((name : List ℕ) → lower_at names.new name ≡ known_at (has_lower_name name) (slice_get (pages_of files.now) number) number (lower_at names.old name)) }
+{
+    match files.page(number) {
+        Some((url, file)) => {
+            add_lower_file(alloc, names, url, file, number)?;
+            Ok(())
+        }
+        None => Ok(()),
+    }
+}
+
+/// Adds a page at a URL under its file name in lower case, if it is made of a file.
+fn add_lower_file(
+    alloc: Global,
+    names: &mut LowerNames,
+    url: &str,
+    file: Option<usize>,
+    number: usize,
+) -> Result<(), NoMemory>
+    ensures { OnOk result ((name : List ℕ) → lower_at names.new name ≡ known_at (has_lower_name name) (Some (page_file url.now file)) number (lower_at names.old name)) }
+{
+    match file {
+        Some(_) => {
+            let name = last_part(url).to_ascii_lowercase(alloc)?;
+            add_lower_name(names, name, number)?;
+            Ok(())
+        }
+        None => Ok(()),
+    }
+}
+
+/// Adds a page with this file name in lower case. A name that was added before means several pages from then on.
+fn add_lower_name(names: &mut LowerNames, name: Vec<u8>, number: usize) -> Result<(), NoMemory>
+    ensures { OnOk result ((other : List ℕ) → lower_at names.new other ≡ (if bytes_eq name.items other then Some (known_with (lower_at names.old other) number) else lower_at names.old other)) }
+{
+    let known = known_with(names.get(name.as_slice()), number);
+    names.insert(name, known)?;
+    Ok(())
+}
+
 /// Returns which pages have a name after this page is added: only this one, or several.
 fn known_with(known: Option<&Namesakes>, number: usize) -> Namesakes
     ensures { result ≡ known_with (option_copied known.entry) number }
@@ -94,17 +158,34 @@ fn known_with(known: Option<&Namesakes>, number: usize) -> Namesakes
     }
 }
 
-/// What is reported with a target whose links are at these positions: the only page of the site with its file name, unless such a
-/// link is in its file.
-pub(crate) fn same_name<'n>(
+/// What is reported with a target whose links are at these positions: the page with its file name, or else the page in another form.
+pub(crate) fn same_name(
     alloc: Global,
     front: &str,
-    named: Named<'_, 'n>,
-    target: &'n str,
+    named: Named<'_, '_>,
+    target: &str,
     places: &[Place],
 ) -> Result<Option<String>, NoMemory>
-    requires { AreNames named.files.now named.names.now }
+    requires { AreNames named.files.now named.exact.now named.lower.now }
     ensures { IfOk result (λ found. option_map string_bytes found ≡ same_name front.now named.entry.files.now target.now places.now) }
+{
+    match named_page(alloc, front, named, target, places)? {
+        Some(name) => Ok(Some(name)),
+        None => other_form(alloc, front, named.files, before_query(target), places),
+    }
+}
+
+/// The only page of the site with the file name of a target, unless one of the places is in its file. If no page has the name, the only
+/// one counts that has it in another case.
+fn named_page(
+    alloc: Global,
+    front: &str,
+    named: Named<'_, '_>,
+    target: &str,
+    places: &[Place],
+) -> Result<Option<String>, NoMemory>
+    requires { AreNames named.files.now named.exact.now named.lower.now }
+    ensures { IfOk result (λ found. option_map string_bytes found ≡ named_page front.now named.entry.files.now places.now target.now) }
 {
     let name = last_part(target);
     if name.is_empty() {
@@ -113,22 +194,104 @@ pub(crate) fn same_name<'n>(
     only_name(alloc, front, named, name, places)
 }
 
-/// The only page with this name, unless one of the places is in its file.
-#[tactic(auto, using(crate::proofs::Namesakes::none_known))]
-fn only_name<'n>(
+/// The page of a folder for an HTML file of its name, or of an HTML file for a folder of its name, unless one of the places is in its file.
+fn other_form(
     alloc: Global,
     front: &str,
-    named: Named<'_, 'n>,
-    name: &'n [u8],
+    files: &SiteFiles<'_>,
+    path: &str,
     places: &[Place],
 ) -> Result<Option<String>, NoMemory>
-    requires { AreNames named.files.now named.names.now }
-    ensures { IfOk result (λ found. option_map string_bytes found ≡ only_name front.now named.entry.files.now places.now (filter (has_name name.now) (pages_of named.entry.files.now))) }
+    ensures { IfOk result (λ found. option_map string_bytes found ≡ other_form front.now files.now places.now path.now) }
 {
-    match named.names.get(&name) {
-        Some(Namesakes::One(number)) => { name_of_page(alloc, front, named.files, *number, places) }
-        Some(Namesakes::Several) => Ok(None),
+    match path.strip_suffix(".html") {
+        Some(name) => page_at(alloc, front, files, name, "/", places),
+        None => folder_form(alloc, front, files, path, places),
+    }
+}
+
+/// The page of an HTML file for a folder of its name, unless one of the places is in the file.
+fn folder_form(
+    alloc: Global,
+    front: &str,
+    files: &SiteFiles<'_>,
+    path: &str,
+    places: &[Place],
+) -> Result<Option<String>, NoMemory>
+    ensures { IfOk result (λ found. option_map string_bytes found ≡ folder_form front.now files.now places.now path.now) }
+{
+    match path.strip_suffix("/") {
+        Some(name) => page_at(alloc, front, files, name, ".html", places),
         None => Ok(None),
+    }
+}
+
+/// The page with this name and this end after the front, unless one of the places is in its file.
+fn page_at(
+    alloc: Global,
+    front: &str,
+    files: &SiteFiles<'_>,
+    name: &str,
+    end: &str,
+    places: &[Place],
+) -> Result<Option<String>, NoMemory>
+    ensures { IfOk result (λ found. option_map string_bytes found ≡ page_at front.now files.now places.now (front.now ++ name.now ++ end.now)) }
+{
+    let mut text = String::from_str(alloc, front)?;
+    text.push_str(name)?;
+    text.push_str(end)?;
+    let url = text.as_str();
+    name_of_file(alloc, front, files, url, files.file_of(url), places)
+}
+
+/// The only page with this name or, if there is none, the only one with it in another case, unless one of the places is in its file.
+fn only_name(
+    alloc: Global,
+    front: &str,
+    named: Named<'_, '_>,
+    name: &[u8],
+    places: &[Place],
+) -> Result<Option<String>, NoMemory>
+    requires { AreNames named.files.now named.exact.now named.lower.now }
+    ensures { IfOk result (λ found. option_map string_bytes found ≡ name_for_part front.now named.entry.files.now places.now name.now) }
+{
+    match named.exact.get(name) {
+        Some(known) => name_of_known(alloc, front, named.files, *known, places),
+        None => only_lower(alloc, front, named, name, places),
+    }
+}
+
+/// The only page with this name in any case, unless one of the places is in its file.
+fn only_lower(
+    alloc: Global,
+    front: &str,
+    named: Named<'_, '_>,
+    name: &[u8],
+    places: &[Place],
+) -> Result<Option<String>, NoMemory>
+    requires { AreNames named.files.now named.exact.now named.lower.now }
+    ensures { IfOk result (λ found. option_map string_bytes found ≡ only_name front.now named.entry.files.now places.now (filter (has_lower_name (str_to_ascii_lowercase name.now)) (pages_of named.entry.files.now))) }
+{
+    let lower = name.to_ascii_lowercase(alloc)?;
+    match named.lower.get(lower.as_slice()) {
+        Some(known) => name_of_known(alloc, front, named.files, *known, places),
+        None => Ok(None),
+    }
+}
+
+/// The page, if only one has the name, unless one of the places is in its file.
+fn name_of_known(
+    alloc: Global,
+    front: &str,
+    files: &SiteFiles<'_>,
+    known: Namesakes,
+    places: &[Place],
+) -> Result<Option<String>, NoMemory>
+    ensures { (pages : List PageFile) → IsKnown (pages_of files.now) pages (Some known) → IfOk result (λ found. option_map string_bytes found ≡ only_name front.now files.now places.now pages) }
+{
+    match known {
+        Namesakes::One(number) => name_of_page(alloc, front, files, number, places),
+        Namesakes::Several => Ok(None),
     }
 }
 

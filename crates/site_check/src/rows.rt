@@ -27,14 +27,14 @@ use std::alloc::Global;
 /// The rows of the missing pages, in order, with the locations of the links to each. `places` are the locations of links, sorted by their
 /// targets.
 #[tactic(auto, using(crate::proofs::LocatedRows::keeps_none))]
-pub(crate) fn broken_rows<'n>(
+pub(crate) fn broken_rows(
     alloc: Global,
     input: CheckInput<'_>,
-    named: Named<'_, 'n>,
-    linked: &[Linked<'n>],
+    named: Named<'_, '_>,
+    linked: &[Linked<'_>],
     places: &[TargetPlace],
 ) -> Result<Vec<Broken>, NoMemory>
-    requires { AreNames named.files.now named.names.now }
+    requires { AreNames named.files.now named.exact.now named.lower.now }
     ensures rows { IfOk result (λ all. rows_in all.items ≡ flat_map (rows_with input.entry.front.now (map string_bytes input.entry.ignores.now)) (map linked_at linked.now)) }
     ensures names { IfOk result (λ all. AreNamed input.entry.front.now named.entry.files.now all.items) }
     ensures anchors { IfOk result (λ all. anchors_in all.items ≡ []) }
@@ -54,15 +54,15 @@ pub(crate) fn broken_rows<'n>(
 
 /// Appends the row of a result's page, if the page is missing and no entry matches it.
 #[tactic(auto, using(crate::proofs::AllRows::own_row, crate::proofs::AllRows::other_row, crate::proofs::AllRows::own_hint, crate::proofs::AllRows::other_hint))]
-fn push_row<'n>(
+fn push_row(
     alloc: Global,
     input: CheckInput<'_>,
-    named: Named<'_, 'n>,
-    one: &Linked<'n>,
+    named: Named<'_, '_>,
+    one: &Linked<'_>,
     places: Vec<Place>,
     all: &mut Vec<Broken>,
 ) -> Result<(), NoMemory>
-    requires { AreNames named.files.now named.names.now }
+    requires { AreNames named.files.now named.exact.now named.lower.now }
     ensures rows { OnOk result (rows_in all.new.items ≡ rows_in all.old.items ++ rows_with input.entry.front.now (map string_bytes input.entry.ignores.now) (linked_at one.now)) }
     ensures names { OnOk result (AreNamed input.entry.front.now named.entry.files.now all.old.items → AreNamed input.entry.front.now named.entry.files.now all.new.items) }
     ensures anchors { OnOk result (anchors_in all.new.items ≡ anchors_in all.old.items) }
@@ -80,14 +80,14 @@ fn push_row<'n>(
 }
 
 /// The row of a missing page, with the locations of the links to it.
-fn missing_row<'n>(
+fn missing_row(
     alloc: Global,
     front: &str,
-    named: Named<'_, 'n>,
-    one: &Linked<'n>,
+    named: Named<'_, '_>,
+    one: &Linked<'_>,
     places: Vec<Place>,
 ) -> Result<Broken, NoMemory>
-    requires { AreNames named.files.now named.names.now }
+    requires { AreNames named.files.now named.exact.now named.lower.now }
     ensures row { IfOk result (λ row. row_in row ≡ record { text = shown front.now one.now.result.now.url; pages = one.now.pages } ∷ []) }
     ensures name { IfOk result (λ row. reported_name row ≡ own_name front.now named.entry.files.now row) }
     ensures anchor { IfOk result (λ row. anchor_in row ≡ []) }

@@ -1,10 +1,15 @@
 //! Passes over pages by several threads. Each thread takes a chunk of the pages, or of n threads the k-th takes each n-th page.
-ghost use Rattle.std.specs.Prelude.{◌≡◌, ◌++◌, ◌+◌, ◌<◌, ◌^◌, All, IfOk, length, map};
+ghost use Rattle.std.specs.Prelude.{◌≡◌, ◌++◌, ◌+◌, ◌<◌, ◌^◌, ℕ, All, IfOk, IsOk, Result, Vec, length, map, slice_index_or};
 ghost use Rattle.std.specs.List.{flat_map};
+ghost use Rattle.std.specs.declared.alloc.Global.{Global};
+ghost use Rattle.site_check.specs.Complete.{HasPlace, HasTaken};
 ghost use Rattle.site_check.specs.Leads.{indices_at, leads_from, number_at};
 ghost use Rattle.site_check.specs.Located.{IsTargetPlace, items_of, placed_at};
+ghost use Rattle.site_check.specs.declared.check_error.CheckError.{CheckError};
+ghost use Rattle.site_check.specs.declared.located.TargetPlace.{TargetPlace};
 
 use crate::anchors::every_lacked;
+use crate::check_error::CheckError;
 use crate::leads::{Lead, Maps, leads_from};
 use crate::located::{ListedLead, TargetPlace, every_place, sort_by_target};
 use crate::missing_anchors::MissingAnchorLink;
@@ -119,32 +124,39 @@ pub(crate) fn lacked_by<'p, R: Threads + Sync>(
 }
 
 /// The locations of these links, which are together by their pages, sorted by their targets. Each thread reads the pages that it takes.
+///
+/// # Errors
+/// `FileUnread`, `NoMemory`.
 pub(crate) fn locate_by<R: Threads + Sync, B: FileBytes + Sync>(
     rt: &R,
     alloc: Global,
     site: Site<'_, '_>,
     leads: &[ListedLead],
     bytes: &B,
-) -> Result<Vec<TargetPlace>, NoMemory>
-    ensures { IfOk result (λ places. All (IsTargetPlace site.entry.files.now site.entry.pages.results.now (B.reads bytes.now) leads.now) (map placed_at places.items)) }
+) -> Result<Vec<TargetPlace>, CheckError>
+    ensures links { IfOk result (λ places. All (IsTargetPlace site.entry.files.now site.entry.pages.results.now (B.reads bytes.now) leads.now) (map placed_at places.items)) }
+    ensures whole { IfOk result (λ places. All (HasPlace site.entry.files.now site.entry.pages.results.now (B.reads bytes.now) (map placed_at places.items)) leads.now) }
 {
-    let chunks = places_by(rt, alloc, site, leads, bytes)?;
+    let count = site.files.threads().min(leads.len()).max(1);
+    let chunks = places_by(rt, alloc, site, leads, bytes, count)?;
     let mut places = joined(alloc, chunks)?;
     sort_by_target(&mut places)?;
     Ok(places)
 }
 
-/// The locations of the links of the pages that each thread takes.
+/// The locations of the links of the pages that each of this number of threads takes.
 fn places_by<R: Threads + Sync, B: FileBytes + Sync>(
     rt: &R,
     alloc: Global,
     site: Site<'_, '_>,
     leads: &[ListedLead],
     bytes: &B,
-) -> Result<Vec<Result<Vec<TargetPlace>, NoMemory>>, NoMemory>
-    ensures { IfOk result (λ chunks. All (λ chunk. IfOk chunk (λ places. All (IsTargetPlace site.entry.files.now site.entry.pages.results.now (B.reads bytes.now) leads.now) (map placed_at places.items))) chunks.items) }
+    count: usize,
+) -> Result<Vec<Result<Vec<TargetPlace>, CheckError>>, NoMemory>
+    ensures len { IfOk result (λ chunks. length chunks.items ≡ count) }
+    ensures links { IfOk result (λ chunks. All (λ chunk. IfOk chunk (λ places. All (IsTargetPlace site.entry.files.now site.entry.pages.results.now (B.reads bytes.now) leads.now) (map placed_at places.items))) chunks.items) }
+    ensures whole { IfOk result (λ chunks. (rest : ℕ) (other : Result (Vec TargetPlace Global) CheckError) → rest < count → IfOk (slice_index_or chunks.items rest other) (λ places. All (HasTaken site.entry.files.now site.entry.pages.results.now (B.reads bytes.now) count rest (map placed_at places.items)) leads.now)) }
 {
-    let count = site.files.threads().min(leads.len()).max(1);
     thread::map_indices(
         rt,
         alloc,
@@ -153,10 +165,14 @@ fn places_by<R: Threads + Sync, B: FileBytes + Sync>(
     )
 }
 
-/// All that the threads found, or that an allocation failed.
+/// All that the threads found, or the error of the first that failed.
 #[tactic(auto, using(crate::proofs::Placed::chunk_more))]
-fn joined<T: Drop>(alloc: Global, chunks: Vec<Result<Vec<T>, NoMemory>>) -> Result<Vec<T>, NoMemory>
-    ensures { IfOk result (λ all. all.items ≡ flat_map items_of chunks.items) }
+fn joined<T: Drop, E: From<NoMemory> + Drop>(
+    alloc: Global,
+    chunks: Vec<Result<Vec<T>, E>>,
+) -> Result<Vec<T>, E>
+    ensures items { IfOk result (λ all. all.items ≡ flat_map items_of chunks.items) }
+    ensures succeed { IfOk result (λ _. All (λ chunk. IsOk chunk) chunks.items) }
 {
     let mut all = Vec::new(alloc);
     'chunks: for chunk in chunks {

@@ -205,6 +205,17 @@ fn row_counts(broken: &[Broken]) -> RowCounts
     }
 }
 
+/// The number of locations of links to missing pages.
+pub(crate) fn links_to_missing(broken: &[Broken]) -> u64
+    ensures { result ≡ place_count is_page broken.now }
+{
+    let mut count: u64 = 0;
+    for one in broken {
+        count = count.saturating_add(places_if(is_page(one.kind), one));
+    }
+    count
+}
+
 /// The number of locations of a row that is counted; 0 for any other.
 fn places_if(is_counted: bool, one: &Broken) -> u64
     ensures { result ≡ (if is_counted then length one.now.places.items else 0) }

@@ -1,5 +1,6 @@
 use Rattle.site_check.proofs.Prelude.{◌∙◌, IfOk-weaker, ap, linked_at, map, string_bytes}
 use Rattle.site_check.proofs.AllReported.{are_reported}
+use Rattle.site_check.proofs.KeptLinks.{all_links}
 use Rattle.site_check.proofs.LeadTargets.{located_rows}
 use Rattle.site_check.proofs.Verdicts.{verdict_of_rows}
 use Rattle.site_check.specs.LinkBase.{base_hint_of}
@@ -27,8 +28,20 @@ returns-clause-places g c =
     IfOk-weaker c.results_of.result _ _
     (λ (checked : Checked) own. located_rows input.front.now (map string_bytes input.ignores.now) input.places.now site.files.now c.args.files.now site.pages.results.now c.args.results.now (g.B.FileBytes.reads c.args.bytes.now) c.as_slice-all.result.now
     sought.anchors.items sought.invalid.items sought.outside.items sought.leads.items c.as_slice-2.result.now c.in_ok-places.places.items c.as_slice-3.result.now checked.broken.items
-    c.site_of-site.ensures.files c.site_of-site.ensures.results c.as_slice-2.ensures.value c.as_slice-3.ensures.value (ap (map linked_at) c.as_slice-all.ensures.value ∙ c.in_ok-linked.ensures) c.in_ok-sought.ensures.leads c.in_ok-places.ensures own)
+    c.site_of-site.ensures.files c.site_of-site.ensures.results c.as_slice-2.ensures.value c.as_slice-3.ensures.value (ap (map linked_at) c.as_slice-all.ensures.value ∙ c.in_ok-linked.ensures) c.in_ok-sought.ensures.leads c.in_ok-places.ensures.links own)
     c.results_of.ensures.located
+
+-- the rows have the locations of all links
+pub returns-clause-complete : goal.returns-clause-complete
+returns-clause-complete g c =
+    let input = c.args.input in
+    let site = c.site_of-site.result in
+    let sought = c.in_ok-sought.sought in
+    IfOk-weaker c.results_of.result _ _
+    (λ (checked : Checked) own. all_links input.front.now (map string_bytes input.ignores.now) input.places.now site.files.now c.args.files.now site.pages.results.now c.args.results.now (g.B.FileBytes.reads c.args.bytes.now) c.as_slice-all.result.now
+    c.as_slice-2.result.now sought.leads.items c.in_ok-places.places.items c.as_slice-3.result.now checked.broken.items c.site_of-site.ensures.files c.site_of-site.ensures.results c.as_slice-2.ensures.value c.as_slice-3.ensures.value
+    (ap (map linked_at) c.as_slice-all.ensures.value ∙ c.in_ok-linked.ensures) c.in_ok-sought.ensures.whole c.in_ok-places.ensures.whole own)
+    c.results_of.ensures.whole
 
 -- the totals are those of the rows
 pub returns-clause-verdict : goal.returns-clause-verdict

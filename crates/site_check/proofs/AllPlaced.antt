@@ -1,0 +1,261 @@
+-- Each link that is looked for has its location among those that are found.
+use Rattle.site_check.proofs.Prelude.{Global, IfOk, PageResult, SiteFiles, Vec, flat_map, ◌≡◌, ◌∙◌, ℕ, zero, suc, ◌+◌, ◌<◌, ◌≤◌, Bool, true, false, ◌&&◌, List, [], ◌∷◌, ◌++◌, length, map, map_more, get_or, take, Option, Some, None, option_map, refl, sym, ap, subst, arith, append_assoc, slice_get, slice_get-map}
+use Rattle.std.proofs.Common.{◌==◌, append-nil, eq-eqb}
+use Rattle.std.proofs.lemmas.Bool.{lt-ltb}
+use Rattle.std.proofs.lemmas.List.{get_or-map, length-map, map-append, take_all}
+use Rattle.std.proofs.lemmas.List.Elements.{All-append, All-contains, All-contains_itself, All-nil, All-push, All-weaker, Contains-append_left, Contains-append_right}
+use Rattle.std.proofs.lemmas.List.Sorted.{Contains-permutation, IsPermutation-map}
+use Rattle.std.specs.List.{All, Contains}
+use Rattle.std.specs.List.Sorted.{IsPermutation}
+use Rattle.std.specs.Prelude.{◌%◌, Err, IsOk, Ok, Result, nat_lt, option_and_then}
+use Rattle.document_links.specs.Places.{point_at, point_of_place}
+use Rattle.document_links.specs.declared.places.TextPlace.{TextPlace}
+use Rattle.site_files.specs.Bodies.{contents}
+use Rattle.site_files.specs.Entries.{IsEntryAt, entry_at, file_in, response_of}
+use Rattle.site_files.specs.Files.{Document, document_at, page_of, pages_of}
+use Rattle.site_files.specs.Files as sites
+use Rattle.site_files.specs.Pages.{Missing, found_file}
+use Rattle.site_files.specs.declared.files.SiteFile.{SiteFile}
+use Rattle.site_files.specs.declared.notes.Left.{Left}
+use Rattle.site_files.specs.declared.page_table.Entry.{Entry}
+use Rattle.site_files.specs.declared.page_table.Source.{Source}
+use Rattle.site_files.specs.declared.page_table.Source.TheVariants as origin
+use Rattle.site_check.proofs.Placed.{contains_slice_get, one_place, some_same}
+use Rattle.site_check.specs.Complete.{HasPlace, HasTaken, IsPlaced, is_taken}
+use Rattle.site_check.specs.Located.{IsFileOf, IsFirstPage, Pushes, PushesPlaces, TargetLocation, document_of, index_of, items_of, link_place, link_places, placed_at, places_from}
+use Rattle.site_check.specs.Locations.{IsFileAt, IsLinkAt, text_kind}
+use Rattle.site_check.specs.declared.check_error.CheckError.{CheckError}
+use Rattle.site_check.specs.declared.check_error.CheckError.TheVariants as wrong
+use Rattle.site_check.specs.declared.located.ListedLead.{ListedLead}
+use Rattle.site_check.specs.declared.located.PageLeads.{PageLeads}
+use Rattle.site_check.specs.declared.located.TargetPlace.{TargetPlace}
+
+-- ---- lists
+
+pub nothing : {X : Type 0} (x : X) → None ≡ Some x → ⊥
+nothing x is = cc
+
+not_true : false ≡ true → ⊥
+not_true is = cc
+
+-- an element with an index
+pub record There {X : Type 0} (xs : List X) (k : ℕ) : Type 0 where
+  pub x : X
+  pub at : slice_get xs k ≡ Some x
+
+pub there : {X : Type 0} (xs : List X) (k : ℕ) → k < length xs → There xs k
+there [] k below = absurd (omega (arith, below))
+there (x ∷ xs) zero below = record { x = x; at = refl }
+there (x ∷ xs) (suc k) below = let rest = there xs k (omega (arith, below)) in record { x = rest.x; at = rest.at }
+
+pub contains_map : {X Y : Type 0} (f : X → Y) (xs : List X) (x : X) → Contains xs x → Contains (map f xs) (f x)
+contains_map f xs x has = let below : has.0 < length xs = has.1 in (has.0, omega (arith, below, length-map xs f), get_or-map f xs has.0 x (f x) below ∙ ap f has.2)
+
+-- ---- the links of a file
+
+-- the location of a link is among those of all links of its file
+placed_in : (name : List ℕ) (places : List TextPlace) (n : ℕ) (leads : List ListedLead) (k : ℕ) (one : ListedLead) (place : TextPlace) → slice_get leads k ≡ Some one → slice_get places (n + k) ≡ Some place →
+    Contains (places_from name places n leads) (link_place name one place)
+placed_in name places n [] k one place at_one at_place = absurd (nothing one at_one)
+placed_in name places n (first ∷ leads) zero one place at_one at_place =
+    let none_more : n + 0 ≡ n = omega arith in
+    let found : slice_get places n ≡ Some place = ap (slice_get places) (sym none_more) ∙ at_place in
+    let here : Contains (link_places name first (Some place)) (link_place name one place) =
+    subst (λ (x : ListedLead). Contains (link_place name x place ∷ []) (link_place name one place)) (sym (some_same first one at_one)) (0, omega arith, refl) in
+    Contains-append_left (link_places name first (slice_get places n)) (places_from name places (n + 1) leads) (link_place name one place)
+    (subst (λ (o : Option TextPlace). Contains (link_places name first o) (link_place name one place)) (sym found) here)
+placed_in name places n (first ∷ leads) (suc k) one place at_one at_place =
+    let next : (n + 1) + k ≡ n + suc k = omega arith in
+    Contains-append_right (link_places name first (slice_get places n)) (places_from name places (n + 1) leads) (link_place name one place)
+    (placed_in name places (n + 1) leads k one place at_one (ap (slice_get places) next ∙ at_place))
+
+module _ (files : SiteFiles) (results : List PageResult) (reads : ℕ → Option (List ℕ) → Type 0) where
+  -- ---- more locations
+
+  placed_on : (old new : List TargetLocation) (one : ListedLead) (page : PageResult) → ((x : TargetLocation) → Contains old x → Contains new x) → IsPlaced files reads old one page → IsPlaced files reads new one page
+  placed_on old new one page more is = record { name = is.name; place = is.place; is_link = is.is_link; is_in = more (link_place is.name one is.place) is.is_in }
+
+  pub has_on : (old new : List TargetLocation) (one : ListedLead) → ((x : TargetLocation) → Contains old x → Contains new x) → HasPlace files results reads old one → HasPlace files results reads new one
+  has_on old new one more has = record { placed = λ page file at is. placed_on old new one page more (has.placed page file at is) }
+
+  -- ---- the links of a page
+
+  one_whole : (source : ℕ) (file : Document) (body : List ℕ) (own : List ListedLead) (old new : List TargetLocation) (one : ListedLead) → IsFileOf files results source file → one.lead.source ≡ source → reads file.index (Some body) →
+      PushesPlaces file.name (text_kind files.rules.now.styles file.kind) body own old new → Contains own one → HasPlace files results reads new one
+  one_whole source file body own old new one of is_source read pushed contained =
+      let kind = text_kind files.rules.now.styles file.kind in
+      let k = contained.0 in
+      let at_one : slice_get own k ≡ Some one = contains_slice_get own k one contained.1 contained.2 in
+      let counted : length pushed.places ≡ length own =
+      sym (length-map pushed.places point_of_place) ∙ ap length pushed.are.has.placed ∙ length-map (map index_of own) (λ index. point_at pushed.are.text (pushed.are.has.position index)) ∙ length-map own index_of in
+      let below : k < length own = contained.1 in
+      let found = there pushed.places k (omega (arith, below, counted)) in
+      let none_before : 0 + k ≡ k = omega arith in
+      record {
+        placed = λ page other at_page is_file.
+            let page_is : page ≡ of.page = some_same page of.page (sym at_page ∙ ap (slice_get results) is_source ∙ of.is_page) in
+            record {
+              name = file.name;
+              place = found.x;
+              is_link =
+                  subst (λ (p : PageResult). IsLinkAt files reads p one.lead.index file.name found.x) (sym page_is)
+                  (record { file = file; is_file = of.at; is_name = refl; body = body; read = read; is_place = one_place kind body own pushed.places k one found.x pushed.are at_one found.at });
+              is_in =
+                  subst (λ (l : List TargetLocation). Contains l (link_place file.name one found.x)) (sym pushed.is)
+                  (Contains-append_right old (places_from file.name pushed.places 0 own) (link_place file.name one found.x)
+                  (placed_in file.name pushed.places 0 own k one found.x at_one (ap (slice_get pushed.places) none_before ∙ found.at)));
+            };
+      }
+
+  page_whole : (source : ℕ) (file : Document) (body : List ℕ) (own : List ListedLead) (old new : List TargetLocation) → IsFileOf files results source file → All (λ one. one.lead.source ≡ source) own → reads file.index (Some body) →
+      PushesPlaces file.name (text_kind files.rules.now.styles file.kind) body own old new → All (HasPlace files results reads new) own
+  page_whole source file body own old new of same read pushed =
+      All-weaker (Contains own) (HasPlace files results reads new)
+      (λ one contained. one_whole source file body own old new one of (All-contains (λ (other : ListedLead). other.lead.source ≡ source) own one same contained) read pushed contained) own (All-contains_itself own)
+
+  -- as that, of a file that was read into a room
+  pub file_whole : (source : ℕ) (file : SiteFile) (left : Option Left) (room body : List ℕ) (own : List ListedLead) (old new : List TargetLocation) → IsFileOf files results source (document_of file) →
+      All (λ one. one.lead.source ≡ source) own → reads file.index (contents left room) → left ≡ None → body ≡ room → PushesPlaces file.name.now (text_kind files.rules.now.styles file.kind) body own old new →
+      All (HasPlace files results reads new) own
+  file_whole source file left room body own old new of same read none same_body pushed =
+      page_whole source (document_of file) body own old new of same (subst (reads file.index) (ap (λ l. contents l room) none ∙ ap (λ b. Some b) (sym same_body)) read) pushed
+
+  -- a page without a file has no locations
+  pub no_file : (all : List TargetLocation) (source : ℕ) (own : List ListedLead) (found : Option SiteFile) → All (λ one. one.lead.source ≡ source) own → found ≡ None →
+      ((page : PageResult) (file : Document) → slice_get results source ≡ Some page → IsFileAt files page.url file → option_map document_of found ≡ Some file) → All (HasPlace files results reads all) own
+  no_file all source own found same none known =
+      All-weaker (λ (one : ListedLead). one.lead.source ≡ source) (HasPlace files results reads all)
+      (λ one is.
+      record {
+        placed = λ page file at_page is_file. absurd (nothing file (ap (option_map document_of) (sym none) ∙ known page file (ap (slice_get results) (sym is) ∙ at_page) is_file));
+      }) own same
+
+  -- ---- the pages that one thread takes
+
+  pub record HasPassed (of rest : ℕ) (all : List TargetLocation) (leads left : List ListedLead) : Type 0 where
+    pub done : List ListedLead
+    pub split : leads ≡ done ++ left
+    pub each : All (HasTaken files results reads of rest all) done
+
+  pub passed_none : (of rest : ℕ) (all : List TargetLocation) (leads : List ListedLead) → HasPassed of rest all leads leads
+  passed_none of rest all leads = record { done = []; split = refl; each = All-nil (HasTaken files results reads of rest all) }
+
+  taken_on : (of rest : ℕ) (old new : List TargetLocation) (one : ListedLead) → ((x : TargetLocation) → Contains old x → Contains new x) → HasTaken files results reads of rest old one → HasTaken files results reads of rest new one
+  taken_on of rest old new one more has = record { has = λ taken. has_on old new one more (has.has taken) }
+
+  own_taken : (of rest : ℕ) (all : List TargetLocation) (one : ListedLead) → HasPlace files results reads all one → HasTaken files results reads of rest all one
+  own_taken of rest all one has = record { has = λ taken. has }
+
+  not_taken : (of rest : ℕ) (all : List TargetLocation) (source : ℕ) (one : ListedLead) → is_taken of rest source ≡ false → one.lead.source ≡ source → HasTaken files results reads of rest all one
+  not_taken of rest all source one other is = record { has = λ taken. absurd (not_true (sym other ∙ ap (is_taken of rest) (sym is) ∙ taken)) }
+
+  passed_page : (of rest : ℕ) (all : List TargetLocation) (leads left : List ListedLead) (page : PageLeads) → IsFirstPage left page → HasPassed of rest all leads left → All (HasTaken files results reads of rest all) page.own.now →
+      HasPassed of rest all leads page.more.now
+  passed_page of rest all leads left page first passed own =
+      record {
+        done = passed.done ++ page.own.now;
+        split = passed.split ∙ ap (λ l. passed.done ++ l) first.split ∙ sym (append_assoc passed.done page.own.now page.more.now);
+        each = All-append (HasTaken files results reads of rest all) passed.done page.own.now passed.each own;
+      }
+
+  passed_on : (of rest : ℕ) (old new : List TargetLocation) (leads left : List ListedLead) → ((x : TargetLocation) → Contains old x → Contains new x) → HasPassed of rest old leads left → HasPassed of rest new leads left
+  passed_on of rest old new leads left more passed =
+      record {
+        done = passed.done;
+        split = passed.split;
+        each = All-weaker (HasTaken files results reads of rest old) (HasTaken files results reads of rest new) (λ one has. taken_on of rest old new one more has) passed.done passed.each;
+      }
+
+  pub passed_more : (P : TargetLocation → Type 0) (of rest : ℕ) (old new : List TargetLocation) (leads left : List ListedLead) (page : PageLeads) → IsFirstPage left page → Pushes P old new → All (HasPlace files results reads new) page.own.now →
+      HasPassed of rest old leads left → HasPassed of rest new leads page.more.now
+  passed_more P of rest old new leads left page first pushed own passed =
+      passed_page of rest new leads left page first
+      (passed_on of rest old new leads left (λ x has. subst (λ (l : List TargetLocation). Contains l x) (sym pushed.is) (Contains-append_left old pushed.more x has)) passed)
+      (All-weaker (HasPlace files results reads new) (HasTaken files results reads of rest new) (λ one has. own_taken of rest new one has) page.own.now own)
+
+  pub passed_other : (of rest : ℕ) (all : List TargetLocation) (leads left : List ListedLead) (page : PageLeads) → IsFirstPage left page → is_taken of rest page.source ≡ false → HasPassed of rest all leads left → HasPassed of rest all leads page.more.now
+  passed_other of rest all leads left page first other passed =
+      passed_page of rest all leads left page first passed
+      (All-weaker (λ (one : ListedLead). one.lead.source ≡ page.source) (HasTaken files results reads of rest all) (λ one is. not_taken of rest all page.source one other is) page.own.now first.own)
+
+  pub passed_all : (of rest : ℕ) (all : List TargetLocation) (leads left : List ListedLead) → left ≡ [] → HasPassed of rest all leads left → All (HasTaken files results reads of rest all) leads
+  passed_all of rest all leads left none passed =
+      subst (All (HasTaken files results reads of rest all)) (sym (passed.split ∙ ap (λ l. passed.done ++ l) none ∙ append-nil passed.done)) passed.each
+
+  -- ---- the lists of threads
+
+  chunk_has : (count rest : ℕ) (leads : List ListedLead) (total : List TargetLocation) (one : ListedLead) (chunk : Result (Vec TargetPlace Global) CheckError) → IsOk chunk →
+      IfOk chunk (λ own. All (HasTaken files results reads count rest (map placed_at own.items)) leads) → Contains leads one → is_taken count rest one.lead.source ≡ true →
+      ((x : TargetLocation) → Contains (map placed_at (items_of chunk)) x → Contains total x) → HasPlace files results reads total one
+  chunk_has count rest leads total one (Ok own) ok all contained taken more =
+      has_on (map placed_at own.items) total one more ((All-contains (HasTaken files results reads count rest (map placed_at own.items)) leads one all contained).has taken)
+  chunk_has count rest leads total one (Err e) ok all contained taken more = absurd (not_true ok)
+
+in_flat : {X Y E : Type 0} (f : X → Y) (chunks : List (Result (Vec X Global) E)) (k : ℕ) (d : Result (Vec X Global) E) (y : Y) → k < length chunks → Contains (map f (items_of (get_or chunks k d))) y → Contains (map f (flat_map items_of chunks)) y
+in_flat f [] k d y below has = absurd (omega (arith, below))
+in_flat f (chunk ∷ more) zero d y below has =
+    subst (λ l. Contains l y) (sym (map-append f (items_of chunk) (flat_map items_of more))) (Contains-append_left (map f (items_of chunk)) (map f (flat_map items_of more)) y has)
+in_flat f (chunk ∷ more) (suc k) d y below has =
+    subst (λ l. Contains l y) (sym (map-append f (items_of chunk) (flat_map items_of more)))
+    (Contains-append_right (map f (items_of chunk)) (map f (flat_map items_of more)) y (in_flat f more k d y (omega (arith, below)) has))
+
+both : (a b : Bool) → a ≡ true → b ≡ true → (a && b) ≡ true
+both a b is_a is_b = (λ i. is_a i && is_b i)
+
+-- some thread takes each result
+taken_by : (count source : ℕ) → 0 < count → is_taken count (source % count) source ≡ true
+taken_by count source some = both (nat_lt 0 count) (source % count == source % count) (lt-ltb 0 count some) (eq-eqb (source % count) (source % count) refl)
+
+pub all_placed : (files : SiteFiles) (results : List PageResult) (reads : ℕ → Option (List ℕ) → Type 0) (leads : List ListedLead) (count : ℕ) (chunks : List (Result (Vec TargetPlace Global) CheckError)) (places sorted : List TargetPlace) → 0 < count →
+    length chunks ≡ count → All (λ chunk. IsOk chunk) chunks →
+    ((rest : ℕ) (other : Result (Vec TargetPlace Global) CheckError) → rest < count → IfOk (get_or chunks rest other) (λ own. All (HasTaken files results reads count rest (map placed_at own.items)) leads)) →
+    places ≡ flat_map items_of chunks → IsPermutation places sorted → All (HasPlace files results reads (map placed_at sorted)) leads
+all_placed files results reads leads count chunks places sorted some counted ok each all permuted =
+    All-weaker (Contains leads) (HasPlace files results reads (map placed_at sorted))
+    (λ one contained.
+    let source = one.lead.source in
+    let other : Result (Vec TargetPlace Global) CheckError = Err wrong.NoMemory in
+    let below : source % count < count = omega (arith, some) in
+    let within : source % count < length chunks = omega (arith, below, counted) in
+    chunk_has files results reads count (source % count) leads (map placed_at sorted) one (get_or chunks (source % count) other) (ok (source % count) other within) (each (source % count) other below) contained
+    (taken_by count source some)
+    (λ x has.
+    Contains-permutation (map placed_at places) (map placed_at sorted) x (IsPermutation-map placed_at places sorted permuted)
+    (subst (λ (l : List TargetPlace). Contains (map placed_at l) x) (sym all) (in_flat placed_at chunks (source % count) other x within has))))
+    leads (All-contains_itself leads)
+
+-- ---- the file of a page
+
+in_response : (s : Source) → file_in s ≡ found_file (response_of s)
+in_response (origin.File index) = refl
+in_response (origin.Index index) = refl
+in_response (origin.Moved url) = refl
+
+never_missing : (s : Source) → Missing ≡ response_of s → ⊥
+never_missing (origin.File index) is = cc
+never_missing (origin.Index index) is = cc
+never_missing (origin.Moved url) is = cc
+
+file_there : (files : SiteFiles) (number : ℕ) (entry : Entry) → slice_get files.pages number ≡ Some entry → document_at files number ≡ option_and_then (sites.document_of files) (file_in entry.source)
+file_there files number entry there_is =
+    ap (option_and_then (λ (page : sites.PageFile). option_and_then (sites.document_of files) page.file)) (slice_get-map page_of files.pages number ∙ ap (option_map page_of) there_is)
+
+-- two numbers of one URL have one file
+pub one_file : (files : SiteFiles) (url : List ℕ) (number : ℕ) (file : Document) → IsEntryAt files.pages url number → IsFileAt files url file → document_at files number ≡ Some file
+one_file files url number file found is =
+    let a = found.entry in
+    let b = is.is_page.entry in
+    let same : file_in a.source ≡ file_in b.source = in_response a.source ∙ ap found_file (sym found.first ∙ is.is_page.first) ∙ sym (in_response b.source) in
+    file_there files number a found.there ∙ ap (option_and_then (sites.document_of files)) same ∙ sym (file_there files is.number b is.is_page.there) ∙ is.is_file
+
+pub no_entry : (files : SiteFiles) (url : List ℕ) (file : Document) → entry_at files.pages url ≡ Missing → IsFileAt files url file → ⊥
+no_entry files url file none is = never_missing is.is_page.entry.source (sym none ∙ is.is_page.first)
+
+-- ---- the test of the rows
+
+pub kept_more : (P : TargetLocation → Type 0) (places : List TargetPlace) (i : ℕ) (one : TargetPlace) → i < length places → one ≡ get_or places i one → All P (map placed_at (take i places)) → P (placed_at one) → All P (map placed_at (take (i + 1) places))
+kept_more P places i one below is all own =
+    subst (All P) (sym (map_more placed_at places i one below ∙ ap (λ (x : TargetPlace). map placed_at (take i places) ++ placed_at x ∷ []) (sym is))) (All-push P (map placed_at (take i places)) (placed_at one) all own)
+
+pub kept_all : (P : TargetLocation → Type 0) (places : List TargetPlace) (i : ℕ) → length places ≤ i → All P (map placed_at (take i places)) → All P (map placed_at places)
+kept_all P places i whole all = subst (λ (l : List TargetPlace). All P (map placed_at l)) (take_all i places whole) all

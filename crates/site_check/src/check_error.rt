@@ -1,0 +1,24 @@
+//! Why a check fails.
+ghost use Rattle.std.specs.Prelude.{◌≡◌};
+ghost use Rattle.site_check.specs.declared.check_error.CheckError.TheVariants as wrong;
+
+use std::alloc::AllocError;
+
+/// Why a check fails.
+#[derive(Clone, Copy, Debug, PartialEq, Eq)]
+pub enum CheckError {
+    /// A file with a link that is reported cannot be read a second time.
+    FileUnread,
+    /// The location of a link to a missing page is not in the row of the page, which would be a bug.
+    LinkLost,
+    /// Out of memory.
+    NoMemory,
+}
+
+impl From<AllocError> for CheckError {
+    ghost from_gives = { λ _ error. error ≡ wrong.NoMemory };
+
+    fn from(_refused: AllocError) -> CheckError {
+        CheckError::NoMemory
+    }
+}
