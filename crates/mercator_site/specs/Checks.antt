@@ -34,6 +34,7 @@ use Rattle.saved_site.specs.Below.{IsWebBelow}
 use Rattle.saved_site.specs.Meaning.{IsSiteWeb}
 use Rattle.site_check.specs.Base.{hint_at}
 use Rattle.site_check.specs.Broken.{redirects_of}
+use Rattle.site_check.specs.Complete.{AreOnce, HasAllLinks}
 use Rattle.site_files.specs.declared.files.SiteFiles.{SiteFiles}
 use Rattle.site_files.specs.declared.alias.Alias.{Alias}
 use Rattle.site_check.specs.Invalid.{texts_if}
@@ -109,6 +110,7 @@ pub record AreResults (site : SiteFiles) (reads : ℕ → Option (List ℕ) → 
   pub places : List LinkPlaces
   pub rows : AreReported asks.front asks.entries (texts_if asks.invalid places own) asks.rooted (names_of asks.folders) site own (unmapped asks.folders pages) checked.broken.items (map string_bytes checked.unused_ignores.items)
   pub located : All (IsLocated asks.front places site own reads) checked.broken.items
+  pub complete : AreOnce own → HasAllLinks asks.front asks.entries places site own reads checked.broken.items
   pub verdict : is_broken checked.totals ≡ not (length checked.broken.items == 0)
   pub worst : map file_links checked.worst.items ≡ worst_of checked.broken.items
   pub unreached : map string_bytes checked.unreached.items ≡ unreached_by asks.front site reached

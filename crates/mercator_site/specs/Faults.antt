@@ -12,6 +12,8 @@ use Rattle.mercator_site.specs.declared.options.CheckOptions.{CheckOptions}
 use Rattle.mercator_site.specs.declared.fault.SiteFault.{SiteFault}
 use Rattle.mercator_site.specs.declared.fault.SiteFault.TheVariants as wrong
 use Rattle.saved_site.specs.Meaning.{IsSiteWeb}
+use Rattle.site_check.specs.declared.check_error.CheckError.{CheckError}
+use Rattle.site_check.specs.declared.check_error.CheckError.TheVariants as unchecked
 use Rattle.site_files.specs.Below.{IsTop}
 use Rattle.site_files.specs.declared.error.SiteError.{SiteError}
 use Rattle.site_files.specs.declared.error.SiteError.TheVariants as unmade
@@ -31,6 +33,12 @@ of_site (unmade.Io why) = wrong.CannotReadFolder
 abbrev pub of_list : ListError → SiteFault
 of_list unlisted.NoMemory = wrong.NoMemory
 of_list error = wrong.List error
+
+-- the error for each error of the test of the results
+abbrev pub of_check : CheckError → SiteFault
+of_check unchecked.FileUnread = wrong.FileUnread
+of_check unchecked.LinkLost = wrong.LinkLost
+of_check unchecked.NoMemory = wrong.NoMemory
 
 -- the error for a crawl that failed so, because of this
 abbrev pub of_crawl_by : CrawlError → CrawlFailure → SiteFault

@@ -3,6 +3,7 @@ pub mod Checks
 pub mod Ends
 pub mod External
 pub mod Faults
+pub mod IndexUrls
 pub mod Inputs
 pub mod Maps
 pub mod Misses

@@ -25,7 +25,7 @@ use check_report::{Contents, External};
 use crawl_keys::CanonUrl;
 use crawl_pages::PageResult;
 use saved_site::{LinkedSite, has_all_pages, site_pages};
-use site_check::{CheckInput, Checked, MapName, check_site};
+use site_check::{CheckError, CheckInput, Checked, MapName, check_site};
 use site_files::{FileBytes, InMemory, Note, Rules, SiteFiles, SiteNames};
 use std::alloc::{AllocError, Global};
 use std::mem::forget;
@@ -63,7 +63,7 @@ pub(crate) struct CrawledSite<'a> {
 /// Checks a site whose files are in memory.
 ///
 /// # Errors
-/// `BadBase`, `NoFiles`, `TooLarge`, `PagesLost`, `BadHost`, `BadSeed`, `NoStart`, `NoDocuments`, `NoMemory`; `Crawl` if the crawl is incomplete.
+/// `BadBase`, `NoFiles`, `TooLarge`, `PagesLost`, `FileUnread`, `LinkLost`, `BadHost`, `BadSeed`, `NoStart`, `NoDocuments`, `NoMemory`; `Crawl` if the crawl is incomplete.
 pub fn report_of_files<R: Threads + Wait + Sync>(
     rt: &R,
     alloc: Global,
@@ -92,7 +92,7 @@ pub fn report_of_files<R: Threads + Wait + Sync>(
 /// Checks a site with these files. Appends a note about each page that is skipped or changed.
 ///
 /// # Errors
-/// `BadSeed`, `NoStart`, `NoDocuments`, `TooLarge`, `PagesLost`, `BadHost`, `NoMemory`; `Crawl` if the crawl is incomplete.
+/// `BadSeed`, `NoStart`, `NoDocuments`, `TooLarge`, `PagesLost`, `FileUnread`, `LinkLost`, `BadHost`, `NoMemory`; `Crawl` if the crawl is incomplete.
 pub(crate) fn report_of_site<R: Threads + Wait + Sync, B: FileBytes + Sync>(
     rt: &R,
     alloc: Global,
@@ -184,6 +184,9 @@ fn report_of_crawled<R: Threads + Sync, B: FileBytes + Sync>(
 }
 
 /// Checks a site that was crawled.
+///
+/// # Errors
+/// `FileUnread`, `LinkLost`, `NoMemory`.
 pub(crate) fn checked_of<R: Threads + Sync, B: FileBytes + Sync>(
     rt: &R,
     alloc: Global,
@@ -191,7 +194,7 @@ pub(crate) fn checked_of<R: Threads + Sync, B: FileBytes + Sync>(
     files: &SiteFiles<'_>,
     bytes: &B,
     settings: CheckSettings<'_>,
-) -> Result<Checked, AllocError>
+) -> Result<Checked, CheckError>
     ensures { IfOk result (AreResults files.now (B.reads bytes.now) crawled.entry.own.now crawled.entry.pages.now (reached_in crawled.entry.crawls.now settings.entry.report.lists.unreached) crawled.entry.site.now.aliases.items (asks_in settings.entry)) }
 {
     let left = unmapped(alloc, settings.maps, crawled.pages)?;

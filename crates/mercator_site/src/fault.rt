@@ -1,9 +1,10 @@
 //! The errors of a check of a folder, and of its saved web.
 ghost use Rattle.std.specs.Prelude.{◌≡◌, false};
-ghost use Rattle.mercator_site.specs.Faults.{is_unfinished, of_crawl, of_list, of_site};
+ghost use Rattle.mercator_site.specs.Faults.{is_unfinished, of_check, of_crawl, of_list, of_site};
 ghost use Rattle.mercator_site.specs.declared.fault.SiteFault.TheVariants as wrong;
 
 use crawl_run::{CrawlError, CrawlFailure};
+use site_check::CheckError;
 use site_files::{ListError, SiteError};
 use std::alloc::{AllocError, AllocFailed};
 
@@ -12,7 +13,7 @@ use std::alloc::{AllocError, AllocFailed};
 pub enum SiteFault {
     /// The folder cannot be read.
     CannotReadFolder,
-    /// BASE is not an http or https URL without a query.
+    /// BASE is not an http or https URL without a query, or it is the URL of an index file.
     BadBase,
     /// The host of BASE has a character that a filter does not accept.
     BadHost,
@@ -36,6 +37,10 @@ pub enum SiteFault {
     TooLarge,
     /// Not every page of the site was made, which would be a bug.
     PagesLost,
+    /// A file with a link that is reported cannot be read a second time.
+    FileUnread,
+    /// The location of a link to a missing page is not reported, which would be a bug.
+    LinkLost,
     /// The crawl of the site failed. The reason is never that memory ran out.
     Crawl(CrawlFailure),
     /// An allocation failed.
@@ -80,6 +85,18 @@ impl From<ListError> for SiteFault {
         match error {
             ListError::NoMemory => SiteFault::NoMemory,
             _ => SiteFault::List(error),
+        }
+    }
+}
+
+impl From<CheckError> for SiteFault {
+    ghost from_gives = { λ error fault. (fault ≡ of_check error) × (is_unfinished fault ≡ false) };
+
+    fn from(error: CheckError) -> SiteFault {
+        match error {
+            CheckError::FileUnread => SiteFault::FileUnread,
+            CheckError::LinkLost => SiteFault::LinkLost,
+            CheckError::NoMemory => SiteFault::NoMemory,
         }
     }
 }

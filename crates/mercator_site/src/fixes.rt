@@ -15,7 +15,7 @@ use crawl_keys::{CanonUrl, KeyError, canonical};
 use crawl_pages::{Page, PageResult, links_of};
 use document_links::{ReadOptions, Syntax};
 use link_fixes::{DocumentFix, FixInput, Move, adds_slash, fix_document};
-use saved_site::{LinkedSite, OnDisk, site_pages};
+use saved_site::{LinkedSite, OnDisk, root_of, site_pages};
 use site_files::{Body, FileBytes, FileKind, Note, SiteFiles, before_query};
 use std::alloc::{AllocError, Global};
 use std::collections::BTreeMap;
@@ -102,7 +102,7 @@ fn fixes_of_pages<R: Threads + Wait + Sync, B: FileBytes + Sync>(
     let top = files.top_url();
     let crawls = crawl_site(rt, alloc, &site.pages, files, top, settings)?;
     let crawled = crawled_site(site, &crawls, top);
-    Ok(fixes_of_crawled(rt, alloc, crawled, files, bytes, settings)?)
+    fixes_of_crawled(rt, alloc, crawled, files, bytes, settings)
 }
 
 /// Checks a site that was crawled, and returns the files with links that can be rewritten.
@@ -113,11 +113,11 @@ fn fixes_of_crawled<R: Threads + Sync, B: FileBytes + Sync>(
     files: &SiteFiles<'_>,
     bytes: &B,
     settings: CheckSettings<'_>,
-) -> Result<Vec<FileFix>, AllocError> {
+) -> Result<Vec<FileFix>, SiteFault> {
     let checked = checked_of(rt, alloc, crawled, files, bytes, settings)?;
     let rows = checked.broken.as_slice();
     let moves = moves_of(alloc, files, settings.front, crawled.own, rows)?;
-    file_fixes(alloc, files, bytes, crawled.own, moves.as_slice())
+    Ok(file_fixes(alloc, files, bytes, crawled.own, moves.as_slice())?)
 }
 
 /// A move of links that lead to the result with this number.
@@ -221,10 +221,14 @@ fn namesake_of(
     Ok(files.find(url.as_str()))
 }
 
-/// Whether a page is surely meant by the target of a row: it has the same file name, or the same path in another case.
+/// Whether the target of a row surely means this page, by their URLs as they are reported: both have the same file name, or the same
+/// path but for the case of ASCII letters.
 fn is_certain(target: &str, name: &str) -> bool {
     let path = before_query(target);
-    file_name(path) == file_name(name) || path.eq_ignore_ascii_case(name)
+    let file = file_name(name);
+    // The URL of a folder ends with no file name.
+    let is_same_file = !file.is_empty() && file_name(path) == file;
+    is_same_file || path.eq_ignore_ascii_case(name)
 }
 
 /// What follows the last slash of a URL without a query.
@@ -568,14 +572,5 @@ fn options_of<'a>(files: &'a SiteFiles<'_>, syntax: Syntax) -> ReadOptions<'a> {
         anchors: false,
         places: true,
         byte_limit: usize::MAX,
-    }
-}
-
-/// The path of the top, if absolute paths are below it.
-fn root_of<'a>(files: &'a SiteFiles<'_>) -> Option<&'a str> {
-    if files.rules().rooted {
-        files.top().strip_prefix(files.origin())
-    } else {
-        None
     }
 }

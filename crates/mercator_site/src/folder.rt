@@ -3,6 +3,7 @@ ghost use Rattle.std.specs.Prelude.{◌≡◌, IfErr, IfOk, map, string_bytes, f
 ghost use Rattle.mercator_site.specs.Asks.{asks_in, asks_with, seeds_of};
 ghost use Rattle.mercator_site.specs.Ends.{IsCheckOf, IsFolderCheck, front_of, name_of};
 ghost use Rattle.mercator_site.specs.Faults.{IsSiteIncomplete, is_unfinished};
+ghost use Rattle.mercator_site.specs.IndexUrls.{is_index_url};
 ghost use Rattle.mercator_site.specs.Rules.{AreCheckRules, AreRules};
 ghost use Rattle.saved_site.specs.Below.{IsWebAt, IsWebBelow};
 ghost use Rattle.saved_site.specs.Meaning.{IsSiteWeb};
@@ -11,15 +12,14 @@ ghost use Rattle.site_files.specs.Below.{IsTop};
 
 use crate::check::{CheckReport, report_of_site};
 use crate::fault::SiteFault;
-use crate::mapped::{MapNames, MappedFolder, map_names, mapped_folders};
+use crate::index_url::is_index_url;
+use crate::mapped::{MapNames, MappedFolder, map_names, mapped_folders, site_names};
 use crate::options::{CheckOptions, SiteOptions};
 use crate::seeds::seed_links;
 use crate::settings::CheckSettings;
 use saved_site::{OnDisk, Web, WebText, site_web};
 use site_check::read_ignores;
-use site_files::{
-    FolderNames, Note, Rules, SiteFiles, SiteList, SiteNames, folder_names, read_site_list,
-};
+use site_files::{FolderNames, Note, Rules, SiteFiles, SiteList, folder_names, read_site_list};
 use std::alloc::{AllocError, Global};
 use std::fs::Files;
 use std::sync::Wait;
@@ -148,6 +148,9 @@ pub(crate) fn names_of<R: Files<File: Send, Dir: Send> + Threads + Sync>(
 }
 
 /// The pages of a site with these names.
+///
+/// # Errors
+/// `BadBase`, also if BASE is the URL of an index file; `NoFiles`, `NoneListed`, `NoMemory`.
 pub(crate) fn files_of<'a>(
     alloc: Global,
     names: &'a Names,
@@ -157,19 +160,14 @@ pub(crate) fn files_of<'a>(
     ensures top { IfOk result (λ files. IsTop base.now (string_bytes files.site.top)) }
     ensures url { IfOk result (λ files. files.site.top_url ≡ string_bytes files.site.top) }
     ensures by_rules { IfOk result (λ files. files.rules.now ≡ rules.now) }
+    ensures folder { IfOk result (λ _. is_index_url base.now rules.now.index_files.items ≡ false) }
     ensures plain { IfErr result (λ fault. is_unfinished fault ≡ false) }
 {
+    if is_index_url(base.as_bytes(), rules.index_files.as_slice()) {
+        return Err(SiteFault::BadBase);
+    }
     match names {
-        Names::Folder(found) => {
-            let input = SiteNames {
-                names: found.names.as_slice(),
-                links: found.links.as_slice(),
-                skipped: found.skipped.as_slice(),
-                base,
-                rules,
-            };
-            Ok(SiteFiles::new(alloc, input)?)
-        }
+        Names::Folder(found) => Ok(SiteFiles::new(alloc, site_names(found, base, rules))?),
         Names::List(list) => Ok(SiteFiles::listed(alloc, list, base, rules)?),
     }
 }
@@ -239,7 +237,7 @@ fn web_of_files<R: Files<File: Send, Dir: Send> + Threads + Sync>(
 ///
 /// # Errors
 /// `CannotReadFolder`, `List`, `CannotReadMap`, `NoMapFiles`, `BadBase`, `NoFiles`, `NoneListed`, `BadSeed`, `NoStart`, `NoDocuments`,
-/// `TooLarge`, `PagesLost`, `BadHost`, `NoMemory`; `Crawl` if the crawl is incomplete. The notes about the names of the folder stay
+/// `TooLarge`, `PagesLost`, `FileUnread`, `LinkLost`, `BadHost`, `NoMemory`; `Crawl` if the crawl is incomplete. The notes about the names of the folder stay
 /// after an error.
 pub fn report_of_folder<R: Files<File: Send, Dir: Send> + Threads + Wait + Sync>(
     rt: &R,

@@ -8,6 +8,7 @@ mod false_miss;
 mod fault;
 mod fixes;
 mod folder;
+mod index_url;
 mod mapped;
 mod maps;
 mod notes;

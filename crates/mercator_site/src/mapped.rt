@@ -109,20 +109,31 @@ fn mapped_folder<'a>(
     ensures plain { IfErr result (λ fault. is_unfinished fault ≡ false) }
 {
     let prefix = one.map.prefix.as_str();
-    let input = SiteNames {
-        names: one.names.names.as_slice(),
-        links: one.names.links.as_slice(),
-        skipped: one.names.skipped.as_slice(),
-        base: prefix,
-        rules,
-    };
     let folder = one.map.folder.as_str();
-    match SiteFiles::new(alloc, input) {
+    match SiteFiles::new(alloc, site_names(&one.names, prefix, rules)) {
         Ok(files) => Ok(MappedFolder {
             name: MapName { prefix, folder },
             files,
         }),
         Err(error) => Err(fault_of(alloc, folder, error)?),
+    }
+}
+
+/// The names in a folder, as those of a site's files.
+pub(crate) fn site_names<'a>(
+    found: &'a FolderNames,
+    base: &'a str,
+    rules: &'a Rules,
+) -> SiteNames<'a>
+    ensures base { result.base.now ≡ base.now }
+    ensures rules { result.rules.now ≡ rules.now }
+{
+    SiteNames {
+        names: found.names.as_slice(),
+        links: found.links.as_slice(),
+        skipped: found.skipped.as_slice(),
+        base,
+        rules,
     }
 }
 

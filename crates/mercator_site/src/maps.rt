@@ -21,7 +21,7 @@ pub struct FolderMap {
 }
 
 /// Why texts are not those of maps.
-#[derive(Clone, Copy, Debug, PartialEq, Eq)]
+#[derive(Clone, Copy)]
 pub enum MapError {
     /// BASE is not an http or https URL.
     BadBase,
@@ -98,7 +98,7 @@ fn with_slash(alloc: Global, text: &str) -> Result<String, AllocError>
 }
 
 /// Whether the text ends with these bytes.
-fn ends(back: &[u8], text: &[u8]) -> bool
+pub(crate) fn ends(back: &[u8], text: &[u8]) -> bool
     ensures { result ≡ ends back.now text.now }
 {
     text.ends_with(back)

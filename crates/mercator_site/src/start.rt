@@ -63,7 +63,7 @@ fn check_links(
 }
 
 /// Whether a server returns a page of these files for a URL, or a redirect.
-#[tactic(auto, using(crate::proofs::Served::found_at_once, crate::proofs::Served::found_by_look_up, crate::proofs::Served::lacks_entry))]
+#[tactic(auto, using(crate::proofs::Served::found_served))]
 pub(crate) fn has_page(
     alloc: Global,
     files: &SiteFiles<'_>,
@@ -71,10 +71,7 @@ pub(crate) fn has_page(
 ) -> Result<bool, AllocError>
     ensures { IfOk result (λ is. is ≡ has_page files.now url.now) }
 {
-    if files.find(url.as_str()).is_some() {
-        return Ok(true);
-    }
-    Ok(files.look_up(alloc, url)?.is_some())
+    Ok(files.served(alloc, url)?.is_some())
 }
 
 /// The URLs at which the search starts: those of the links, or the top's own if there are no links. The top is left out if it has no
