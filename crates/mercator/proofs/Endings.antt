@@ -2,9 +2,11 @@
 use Rattle.mercator.proofs.Prelude.{◌≡◌, ◌<◌, ◌≤◌, ◌⊎◌, inl, inr, ℕ, List, true, false, Bool, if◌then◌else◌, String, Global, refl, subst, KeyError, map, string_bytes, Option, Result, Ok, Err, IfOk, IfErr, IsErr, sym, ap, ◌∙◌, arith, true≢false, EndsByText, is_incomplete, is_bad_suffix, suffixes_of, crawl_of, status_of_fault, CannotTell, EndsBy, FailsCrawl, FailsList, Gains, GainsAs, HasLog, IsBroken, IsTold, IsToldCrawl, OfFiles, CrawlPlan, IsBegun, IsCrawlText, IsUnbegun, Fault, Plan}
 use Rattle.crawl_keys.specs.CanonicalText.{canonical}
 use Rattle.mercator.specs.KeyLine.{IsKeyLine}
-use Rattle.mercator.specs.Told.{BreaksOff, Fails, FailsKey, FailsReplay, FailsSession, GainsBroken, MayLose}
+use Rattle.mercator.specs.Told.{BreaksOff, Fails, FailsCheck, FailsKey, FailsReplay, FailsSession, GainsBroken, MayLose}
 use Rattle.mercator.proofs.PlanTexts.{no_refusal}
 use Rattle.mercator.proofs.Serves.{complete_fails, in_use_crawl, plain_fails}
+use Rattle.mercator_site.specs.Faults.{IsSiteIncomplete}
+use Rattle.mercator_site.specs.declared.options.CheckOptions.{CheckOptions}
 use Rattle.session_log.specs.declared.fault.LogFault.TheVariants as unlogged
 use Rattle.session_log.specs.declared.plan.LogPlan.{LogPlan}
 use Rattle.session_log.specs.declared.plan.SessionPlan.{SessionPlan}
@@ -140,11 +142,23 @@ loses_crawl : (crawl : CrawlPlan) (input : Option (List ℕ)) (status : ℕ) →
 loses_crawl crawl input status (inl one) two = absurd (not_two status one two)
 loses_crawl crawl input status (inr begun) two = (begun.1, begun.2)
 
+is_two : (incomplete : Bool) → ◌≡◌ {A = ℕ} (if incomplete then 2 else 1) 2 → incomplete ≡ true
+is_two incomplete two = grind arith
+
+loses_check : (options : CheckOptions) (ignores : Option (String Global)) (fault : Fault) → FailsCheck options ignores fault → status_of_fault fault ≡ 2 → IsSiteIncomplete options
+loses_check options ignores wrong.CannotReadIgnores fails two = absurd (not_two 1 refl two)
+loses_check options ignores wrong.CannotReadIndex fails two = absurd (not_two 1 refl two)
+loses_check options ignores wrong.CannotFix fails two = absurd (not_two 1 refl two)
+loses_check options ignores (wrong.Site why) fails two = absurd (not_two 1 refl two)
+loses_check options ignores (wrong.Crawl failure) fails two = fails (is_two (is_incomplete failure.error) two)
+loses_check options ignores wrong.NoMemory fails two = absurd (not_two 1 refl two)
+loses_check options ignores fault fails two = absurd fails
+
 loses : (plan : Plan) (input : Option (List ℕ)) (fault : Fault) → Fails plan input fault → status_of_fault fault ≡ 2 → MayLose plan input
 loses (asks.Crawl workers max queues file seeds options) input fault fails two =
     loses_crawl (crawl_of workers max queues file seeds options) input (status_of_fault fault) (had_begun (crawl_of workers max queues file seeds options) input fault fails) two
 loses (asks.Site options) input fault fails two = not_two (status_of_fault fault) fails two
-loses (asks.Check options ignores) input fault fails two = fails.1 two
+loses (asks.Check options ignores) input fault fails two = loses_check options ignores fault fails two
 loses (asks.Key url workers) input fault fails two = not_two (status_of_fault fault) (plain_key (string_bytes url) fault fails) two
 loses (asks.Replay file) input fault fails two = not_two (status_of_fault fault) (plain_replay (string_bytes file) input fault fails) two
 loses (asks.Serve asked) input fault fails two = not_two (status_of_fault fault) (plain_session asked.within fault fails) two
@@ -163,11 +177,20 @@ uses_no_log : (crawl : CrawlPlan) (input : Option (List ℕ)) (status : ℕ) →
 uses_no_log crawl input status (inl one) five = not_five status one five
 uses_no_log crawl input status (inr begun) five = begun.0 five
 
+check_not_in_use : (options : CheckOptions) (ignores : Option (String Global)) (fault : Fault) → FailsCheck options ignores fault → status_of_fault fault ≡ 5 → ⊥
+check_not_in_use options ignores wrong.CannotReadIgnores fails five = not_five 1 refl five
+check_not_in_use options ignores wrong.CannotReadIndex fails five = not_five 1 refl five
+check_not_in_use options ignores wrong.CannotFix fails five = not_five 1 refl five
+check_not_in_use options ignores (wrong.Site why) fails five = not_five 1 refl five
+check_not_in_use options ignores (wrong.Crawl failure) fails five = in_use_crawl (is_incomplete failure.error) five
+check_not_in_use options ignores wrong.NoMemory fails five = not_five 1 refl five
+check_not_in_use options ignores fault fails five = fails
+
 uses_log : (plan : Plan) (input : Option (List ℕ)) (fault : Fault) → Fails plan input fault → status_of_fault fault ≡ 5 → HasLog plan
 uses_log (asks.Crawl workers max queues file seeds options) input fault fails five =
     uses_no_log (crawl_of workers max queues file seeds options) input (status_of_fault fault) (had_begun (crawl_of workers max queues file seeds options) input fault fails) five
 uses_log (asks.Site options) input fault fails five = not_five (status_of_fault fault) fails five
-uses_log (asks.Check options ignores) input fault fails five = fails.0 five
+uses_log (asks.Check options ignores) input fault fails five = check_not_in_use options ignores fault fails five
 uses_log (asks.Key url workers) input fault fails five = not_five (status_of_fault fault) (plain_key (string_bytes url) fault fails) five
 uses_log (asks.Replay file) input fault fails five = not_five (status_of_fault fault) (plain_replay (string_bytes file) input fault fails) five
 uses_log (asks.Serve asked) input fault fails five = not_five (status_of_fault fault) (plain_session asked.within fault fails) five

@@ -1,5 +1,7 @@
 -- How the commands for a folder end.
-use Rattle.mercator.proofs.Prelude.{◌≡◌, ◌⊎◌, inl, inr, ℕ, Bool, true, false, if◌then◌else◌, List, Option, String, Global, arith, is_incomplete, CrawlError, CrawlFailure, of_crawl_by, of_site, status_of_fault, IsBroken, IsChecked, IsCheckText, IsDiff, IsTold, EndsBy, Fault, GainsAs, Appends, reports, subst, sym, true≢false}
+use Rattle.mercator.proofs.Prelude.{◌≡◌, ◌⊎◌, inl, inr, ℕ, Bool, true, false, List, Option, String, Global, ap, is_incomplete, CrawlError, CrawlFailure, of_crawl_by, of_site, status_of_fault, IsBroken, IsChecked, IsCheckText, IsDiff, IsTold, EndsBy, Fault, GainsAs, Appends, reports, subst, sym, true≢false}
+use Rattle.std.specs.Prelude.{IsSome}
+use Rattle.mercator.specs.Told.{FailsCheck, FailsFix, is_off}
 use Rattle.crawl_run.specs.declared.error.CrawlError.TheVariants as crawl
 use Rattle.mercator_site.specs.Faults.{IsSiteIncomplete, is_unfinished}
 use Rattle.mercator_site.specs.declared.fault.SiteFault.{SiteFault}
@@ -10,26 +12,46 @@ use Rattle.mercator_site.specs.declared.options.Fix.TheVariants as fix
 use Rattle.mercator.specs.declared.commands.fault.Fault.TheVariants as wrong
 use Rattle.mercator.specs.declared.commands.planned.Plan.TheVariants as asks
 
--- the status 2 is that of an incomplete crawl
-is_two : (b : Bool) → ◌≡◌ {A = ℕ} (if b then 2 else 1) 2 → b ≡ true
-is_two b two = grind arith
+-- ---- why a check fails
 
-incomplete_by : (error : CrawlError) (failure : CrawlFailure) → status_of_fault (of_crawl_by error failure) ≡ 2 → is_incomplete failure.error ≡ true
-incomplete_by error failure two = grind (arith, is_two)
+crawl_fails : (options : CheckOptions) (ignores : Option (String Global)) (error : CrawlError) (failure : CrawlFailure) → (is_incomplete failure.error ≡ true → IsSiteIncomplete options) → FailsCheck options ignores (of_crawl_by error failure)
+crawl_fails options ignores crawl.NoMemory failure incomplete = tt
+crawl_fails options ignores error failure incomplete = incomplete
 
-unfinished : (fault : SiteFault) → status_of_fault (of_site fault) ≡ 2 → is_unfinished fault ≡ true
-unfinished fault two = grind (arith, incomplete_by)
+-- for the error of its folder
+pub site_fails : (options : CheckOptions) (ignores : Option (String Global)) (fault : SiteFault) → (is_unfinished fault ≡ true → IsSiteIncomplete options) → FailsCheck options ignores (of_site fault)
+site_fails options ignores (unsited.Crawl failure) incomplete = crawl_fails options ignores failure.error failure incomplete
+site_fails options ignores unsited.NoMemory incomplete = tt
+site_fails options ignores fault incomplete = tt
 
--- no folder has the status of a log in use
-not_in_use_by : (error : CrawlError) (failure : CrawlFailure) → status_of_fault (of_crawl_by error failure) ≡ 5 → ⊥
-not_in_use_by error failure five = grind arith
+-- for that of its ignore list
+pub list_fails : (options : CheckOptions) (ignores : Option (String Global)) (fault : Fault) → (fault ≡ wrong.NoMemory) ⊎ ((fault ≡ wrong.CannotReadIgnores) × IsSome ignores) → FailsCheck options ignores fault
+list_fails options ignores fault (inl is) = subst (λ (why : Fault). FailsCheck options ignores why) (sym is) tt
+list_fails options ignores fault (inr is) = subst (λ (why : Fault). FailsCheck options ignores why) (sym is.0) is.1
 
-not_in_use : (fault : SiteFault) → status_of_fault (of_site fault) ≡ 5 → ⊥
-not_in_use fault five = grind (arith, not_in_use_by)
+pub list_fails_fix : (ignores : Option (String Global)) (fault : Fault) → (fault ≡ wrong.NoMemory) ⊎ ((fault ≡ wrong.CannotReadIgnores) × IsSome ignores) → FailsFix ignores fault
+list_fails_fix ignores fault (inl is) = subst (λ (why : Fault). FailsFix ignores why) (sym is) tt
+list_fails_fix ignores fault (inr is) = subst (λ (why : Fault). FailsFix ignores why) (sym is.0) is.1
 
--- so a check fails for the error of its folder. Its status is 2 only if its crawl is incomplete
-pub site_fails : (options : CheckOptions) (fault : SiteFault) → (is_unfinished fault ≡ true → IsSiteIncomplete options) → (status_of_fault (of_site fault) ≡ 5 → ⊥) × (status_of_fault (of_site fault) ≡ 2 → IsSiteIncomplete options)
-site_fails options fault incomplete = (not_in_use fault, λ two. incomplete (unfinished fault two))
+-- for that of its site list
+pub index_fails : (options : CheckOptions) (ignores : Option (String Global)) (fault : Fault) → (fault ≡ wrong.NoMemory) ⊎ ((fault ≡ wrong.CannotReadIndex) × IsSome options.site.index) → FailsCheck options ignores fault
+index_fails options ignores fault (inl is) = subst (λ (why : Fault). FailsCheck options ignores why) (sym is) tt
+index_fails options ignores fault (inr is) = subst (λ (why : Fault). FailsCheck options ignores why) (sym is.0) is.1
+
+-- for that of its fixes
+pub fix_fails : (options : CheckOptions) (ignores : Option (String Global)) (fault : Fault) → is_off options.fix ≡ false → FailsFix ignores fault → FailsCheck options ignores fault
+fix_fails options ignores wrong.CannotReadIgnores how fails = fails
+fix_fails options ignores wrong.CannotFix how fails = how
+fix_fails options ignores (wrong.Site why) how fails = tt
+fix_fails options ignores wrong.NoMemory how fails = tt
+fix_fails options ignores fault how fails = absurd fails
+
+-- the error of a site list has status 1
+pub plain_index : (index : Option (String Global)) (fault : Fault) → (fault ≡ wrong.NoMemory) ⊎ ((fault ≡ wrong.CannotReadIndex) × IsSome index) → status_of_fault fault ≡ 1
+plain_index index fault (inl is) = ap status_of_fault is
+plain_index index fault (inr is) = ap status_of_fault is.0
+
+-- ---- what a check prints
 
 -- a report is what such a check prints
 told_report : (how : Fix) (options : CheckOptions) (ignores : Option (String Global)) (broken : Bool) (text : List ℕ) → reports how ≡ true → IsChecked options ignores broken text → IsCheckText how options ignores broken text
@@ -71,13 +93,9 @@ pub gains_diff : (options : CheckOptions) (ignores : Option (String Global)) (in
     → Appends old new text → GainsAs broken (asks.Check options ignores) input old new
 gains_diff options ignores input broken text old new is diff gained = gains_text options ignores input broken text old new (told_diff options ignores broken text is diff) gained
 
--- an error of status 1 is neither that of an incomplete crawl nor that of a log in use
-pub plain_check : (options : CheckOptions) (status : ℕ) → status ≡ 1 → (status ≡ 5 → ⊥) × (status ≡ 2 → IsSiteIncomplete options)
-plain_check options status one = (λ five. omega (arith, one, five), λ two. absurd (omega (arith, one, two)))
-
 -- how a check with `--dry-run` ends without one
 pub ends_diff : (options : CheckOptions) (ignores : Option (String Global)) (input : Option (List ℕ)) (fault : Fault) (Unwritten : Type 0) → options.fix ≡ fix.Diff
-    → (((status_of_fault fault ≡ 1) × Unwritten) ⊎ ((fault ≡ wrong.CannotWrite) × ((broken : Bool) × (diff : List ℕ) × IsDiff broken diff)))
+    → ((FailsFix ignores fault × Unwritten) ⊎ ((fault ≡ wrong.CannotWrite) × ((broken : Bool) × (diff : List ℕ) × IsDiff broken diff)))
     → EndsBy (asks.Check options ignores) input fault Unwritten
-ends_diff options ignores input fault Unwritten is (inl plain) = inl (plain_check options (status_of_fault fault) plain.0, plain.1)
+ends_diff options ignores input fault Unwritten is (inl fails) = inl (fix_fails options ignores fault (ap is_off is) fails.0, fails.1)
 ends_diff options ignores input fault Unwritten is (inr unwritten) = inr (inl (unwritten.0, can_print_diff options ignores input unwritten.1.0 unwritten.1.1 is unwritten.1.2))

@@ -3,14 +3,12 @@ use Rattle.std.specs.Prelude.{◌≡◌, ◌==◌, ◌⊎◌, ℕ, Bool, true, f
 use Rattle.std.specs.Io.KnownBytes.{Appends}
 use Rattle.std.specs.List.{list_any, starts_with}
 use Rattle.std.specs.declared.alloc.Global.{Global}
-use Rattle.mercator.specs.Told.{EndsByFault, FailsWithoutPlan, IsCheckText, TellsWords}
+use Rattle.mercator.specs.Told.{EndsByFault, FailsWithoutPlan, IsCheckText, TellsWords, is_off}
 use Rattle.mercator.specs.declared.commands.plan_error.PlanError.{PlanError}
 use Rattle.mercator.specs.declared.commands.plan_error.PlanError.TheVariants as unplanned
 use Rattle.mercator.specs.declared.commands.planned.Plan.{Plan}
 use Rattle.mercator.specs.declared.commands.planned.Plan.TheVariants as asks
 use Rattle.mercator_site.specs.declared.options.CheckOptions.{CheckOptions}
-use Rattle.mercator_site.specs.declared.options.Fix.{Fix}
-use Rattle.mercator_site.specs.declared.options.Fix.TheVariants as fix
 
 -- ---- the arguments
 
@@ -54,10 +52,6 @@ abbrev pub may_set_options : List (String Global) → Bool
 may_set_options words = not (has_no_config words) || has_option words
 
 -- ---- the plan
-
-abbrev pub is_off : Fix → Bool
-is_off fix.Off = true
-is_off how = false
 
 -- a check starts at all documents, looks for all kinds of errors, and rewrites nothing
 abbrev pub is_whole : CheckOptions → Bool

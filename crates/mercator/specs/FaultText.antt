@@ -102,7 +102,7 @@ crawl_text crawl.NoMemory = codes "out of memory"
 -- why the folder with this name has no report, or no saved web
 abbrev pub site_text : List ℕ → SiteFault → List ℕ
 site_text file unsited.CannotReadFolder = codes "cannot read " ++ file
-site_text file unsited.BadBase = codes "BASE: must be an http or https URL without a query"
+site_text file unsited.BadBase = codes "BASE: must be the http or https URL of a folder, without a query, such as https://example.org/docs/"
 site_text file unsited.BadHost = codes "BASE: the host may contain only letters, digits, - and ."
 site_text file unsited.NoFiles = file ++ codes ": no files"
 site_text file (unsited.List error) = codes "index: " ++ list_text error
@@ -111,9 +111,11 @@ site_text file (unsited.CannotReadMap folder) = codes "cannot read " ++ string_b
 site_text file (unsited.NoMapFiles folder) = string_bytes folder ++ codes ": no files"
 site_text file unsited.BadSeed = codes "--seed: not a URL below BASE"
 site_text file (unsited.NoStart link) = string_bytes link ++ codes ": no such page to start at"
-site_text file unsited.NoDocuments = file ++ codes ": no HTML documents"
+site_text file unsited.NoDocuments = file ++ codes ": no HTML documents (if a generator makes the site, pass the folder that it writes)"
 site_text file unsited.TooLarge = file ++ codes ": more than 1073741824 bytes of links"
 site_text file unsited.PagesLost = file ++ codes ": a page was lost; please report this bug"
+site_text file unsited.FileUnread = file ++ codes ": a file changed while it was checked"
+site_text file unsited.LinkLost = file ++ codes ": a link was lost; please report this bug"
 site_text file (unsited.Crawl failure) = crawl_text failure.error
 site_text file unsited.NoMemory = codes "out of memory"
 

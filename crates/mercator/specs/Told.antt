@@ -11,6 +11,7 @@ use Rattle.mercator.specs.Limits.{most_input_bytes}
 use Rattle.mercator.specs.Plans.{IsVisible, crawl_of, explains, has_notices, is_bad_suffix, is_input, known_bytes, known_ignores, known_seeds, suffixes_of, told_file}
 use Rattle.crawl_replay.specs.Replay.{IsReplay}
 use Rattle.crawl_replay.specs.Script.{script_of}
+use Rattle.crawl_run.specs.Crawls.{is_incomplete}
 use Rattle.crawl_session.specs.Answers.{answer_lines}
 use Rattle.crawl_session.specs.Frontiers.{Shows, start}
 use Rattle.crawl_session.specs.Sessions.{answers, session_text, state_after}
@@ -97,6 +98,11 @@ reports fix.Off = true
 reports fix.Diff = false
 reports fix.Write = true
 
+-- a check rewrites no links, and prints no diff
+abbrev pub is_off : Fix → Bool
+is_off fix.Off = true
+is_off how = false
+
 -- the text is the diff of the files with links that can be rewritten. Which files and links these are it does not say
 abbrev pub IsDiff : Bool → List ℕ → Type 0
 IsDiff broken text = broken ≡ not (length text == 0)
@@ -177,6 +183,26 @@ FailsList (wrong.Log (unlogged.Damaged last first)) = Unit {0}
 FailsList wrong.NoMemory = Unit {0}
 FailsList _ = ⊥
 
+-- why links are not rewritten: the ignore list cannot be read, there is no check of the folder, not every file can be rewritten or the
+-- crawl is incomplete, or memory runs out
+abbrev pub FailsFix : Option (String Global) → Fault → Type 0
+FailsFix ignores wrong.CannotReadIgnores = IsSome ignores
+FailsFix ignores wrong.CannotFix = Unit {0}
+FailsFix ignores (wrong.Site why) = Unit {0}
+FailsFix ignores wrong.NoMemory = Unit {0}
+FailsFix ignores _ = ⊥
+
+-- why a check fails: the ignore list or the site list cannot be read, links cannot be rewritten, there is no check of the folder, the
+-- crawl is incomplete or its numbers are out of range, or memory runs out
+abbrev pub FailsCheck : CheckOptions → Option (String Global) → Fault → Type 0
+FailsCheck options ignores wrong.CannotReadIgnores = IsSome ignores
+FailsCheck options ignores wrong.CannotReadIndex = IsSome options.site.index
+FailsCheck options ignores wrong.CannotFix = is_off options.fix ≡ false
+FailsCheck options ignores (wrong.Site why) = Unit {0}
+FailsCheck options ignores (wrong.Crawl failure) = is_incomplete failure.error ≡ true → IsSiteIncomplete options
+FailsCheck options ignores wrong.NoMemory = Unit {0}
+FailsCheck options ignores _ = ⊥
+
 -- why a session ends before its input does: the input cannot be read, an answer or the log cannot be written, another program
 -- changed the log, or memory runs out. Memory may also run out while a saved web is written
 abbrev pub BreaksOff : Plan → Fault → Type 0
@@ -191,11 +217,11 @@ BreaksOff (asks.ServeLog asked) (wrong.Log unlogged.Changed) = is_bad_suffix ask
 BreaksOff (asks.Site options) wrong.NoMemory = (text : List ℕ) × IsSiteWeb text × IsWebAt (string_bytes options.base) text
 BreaksOff plan fault = ⊥
 
--- the plan's command fails with this error before it writes. A check has no log, which another program could be using
+-- the plan's command fails with this error before it writes
 abbrev pub Fails : Plan → Option (List ℕ) → Fault → Type 0
 Fails (asks.Crawl workers max queues file seeds options) input fault = FailsCrawl (crawl_of workers max queues file seeds options) input fault
 Fails (asks.Site options) input fault = status_of_fault fault ≡ 1
-Fails (asks.Check options ignores) input fault = (status_of_fault fault ≡ 5 → ⊥) × (status_of_fault fault ≡ 2 → IsSiteIncomplete options)
+Fails (asks.Check options ignores) input fault = FailsCheck options ignores fault
 Fails (asks.Key url workers) input fault = FailsKey (string_bytes url) fault
 Fails (asks.Replay file) input fault = FailsReplay (string_bytes file) input fault
 Fails (asks.Serve asked) input fault = FailsSession asked.within fault

@@ -1,7 +1,8 @@
 //! Whether the arguments of a command line agree with what `clap` made of them. `clap` promises little about a command line with
 //! conflicts and groups, so what the contract of the program says about the arguments of a check is compared once more.
 ghost use Rattle.std.specs.Prelude.{◌≡◌};
-ghost use Rattle.mercator.specs.Checks.{agrees, agrees_with_base, agrees_with_check, agrees_with_error, asks_help, has_help_letter, has_no_config, has_option, has_word, is_check, is_help, is_help_text, is_off, is_option, is_plain, is_whole, may_set_options, names_check};
+ghost use Rattle.mercator.specs.Told.{is_off};
+ghost use Rattle.mercator.specs.Checks.{agrees, agrees_with_base, agrees_with_check, agrees_with_error, asks_help, has_help_letter, has_no_config, has_option, has_word, is_check, is_help, is_help_text, is_option, is_plain, is_whole, may_set_options, names_check};
 
 use crate::commands::plan_error::PlanError;
 use crate::commands::planned::Plan;

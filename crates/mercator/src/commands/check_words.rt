@@ -137,7 +137,8 @@ fn fix<'a>(alloc: Global) -> Result<Arg<'a>, AllocError> {
 
 /// The option to print what would be rewritten.
 fn dry_run<'a>(alloc: Global) -> Result<Arg<'a>, AllocError> {
-    let help = "With --fix, print the changes as a diff and write nothing";
+    let help =
+        "With --fix, write nothing and print the changes as a diff, which shows where links to redirects are";
     flag_of(alloc, "dry-run", help)
         .help_heading(FIXES)
         .requires_arg("fix")

@@ -259,7 +259,9 @@ impl fmt::Display for SiteText<'_> {
         let file = self.file;
         match self.fault {
             SiteFault::CannotReadFolder => write!(f, "cannot read {file}"),
-            SiteFault::BadBase => f.write_str("BASE: must be an http or https URL without a query"),
+            SiteFault::BadBase => f.write_str(
+                "BASE: must be the http or https URL of a folder, without a query, such as https://example.org/docs/",
+            ),
             SiteFault::BadHost => {
                 f.write_str("BASE: the host may contain only letters, digits, - and .")
             }
@@ -274,9 +276,14 @@ impl fmt::Display for SiteText<'_> {
             SiteFault::CannotReadMap(folder) => write!(f, "cannot read {folder}"),
             SiteFault::NoMapFiles(folder) => write!(f, "{folder}: no files"),
             SiteFault::NoStart(link) => write!(f, "{link}: no such page to start at"),
-            SiteFault::NoDocuments => write!(f, "{file}: no HTML documents"),
+            SiteFault::NoDocuments => write!(
+                f,
+                "{file}: no HTML documents (if a generator makes the site, pass the folder that it writes)"
+            ),
             SiteFault::TooLarge => write!(f, "{file}: more than 1073741824 bytes of links"),
             SiteFault::PagesLost => write!(f, "{file}: a page was lost; please report this bug"),
+            SiteFault::FileUnread => write!(f, "{file}: a file changed while it was checked"),
+            SiteFault::LinkLost => write!(f, "{file}: a link was lost; please report this bug"),
             SiteFault::Crawl(failure) => CrawlText(failure.error).fmt(f),
             SiteFault::NoMemory => f.write_str("out of memory"),
         }

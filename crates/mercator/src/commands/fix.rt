@@ -1,8 +1,8 @@
 //! `check --fix`: rewrites the links of a folder, or prints the changes as a diff.
-ghost use Rattle.std.specs.Prelude.{◌≡◌, ◌⊎◌, Bool, ℕ, List, IfErr, IfOk};
+ghost use Rattle.std.specs.Prelude.{◌≡◌, ◌⊎◌, Bool, ℕ, List, Option, String, IfErr, IfOk};
 ghost use Rattle.std.specs.Io.KnownBytes.{Appends};
-ghost use Rattle.mercator.specs.Faults.{status_of_fault};
-ghost use Rattle.mercator.specs.Told.{IsDiff};
+ghost use Rattle.std.specs.declared.alloc.Global.{Global};
+ghost use Rattle.mercator.specs.Told.{FailsFix, IsDiff};
 ghost use Rattle.mercator.specs.declared.commands.fault.Fault.TheVariants as wrong;
 
 use crate::commands::fault::Fault;
@@ -21,7 +21,7 @@ use std::sync::Wait;
 use std::thread::Threads;
 
 /// What became of a file.
-#[derive(Clone, Copy, Debug, PartialEq, Eq)]
+#[derive(Clone, Copy)]
 enum Outcome {
     /// It has the new contents.
     Rewritten,
@@ -44,7 +44,7 @@ pub fn print_fixes<R: Files<File: Send, Dir: Send> + Threads + Wait + Sync, O: W
     err: &mut E,
 ) -> Result<bool, Fault>
     ensures done { IfOk result (λ broken. (diff : List ℕ) × IsDiff broken diff × Appends (O.contents out.old) (O.contents out.new) diff) }
-    ensures fault { IfErr result (λ fault. ((status_of_fault fault ≡ 1) × (out.new ≡ out.old)) ⊎ ((fault ≡ wrong.CannotWrite) × ((broken : Bool) × (diff : List ℕ) × IsDiff broken diff))) }
+    ensures fault { IfErr result (λ fault. (FailsFix ignores.now fault × (out.new ≡ out.old)) ⊎ ((fault ≡ wrong.CannotWrite) × ((broken : Bool) × (diff : List ℕ) × IsDiff broken diff))) }
 {
     let diff = diff_of_folder(rt, alloc, options, ignores, err)?;
     end(out, diff.as_slice())?;
@@ -59,7 +59,7 @@ fn diff_of_folder<R: Files<File: Send, Dir: Send> + Threads + Wait + Sync, E: Wr
     ignores: &Option<String>,
     err: &mut E,
 ) -> Result<Vec<u8>, Fault>
-    ensures plain { IfErr result (λ fault. status_of_fault fault ≡ 1) }
+    ensures { IfErr result (FailsFix ignores.now) }
 {
     let mut notes = Vec::new(alloc);
     let fixes = found_fixes(rt, alloc, options, ignores, &mut notes)?;
@@ -85,7 +85,7 @@ pub fn fix_folder<R: Files<File: Send, Dir: Send> + Threads + Wait + Sync, E: Wr
     ignores: &Option<String>,
     err: &mut E,
 ) -> Result<(), Fault>
-    ensures plain { IfErr result (λ fault. status_of_fault fault ≡ 1) }
+    ensures { IfErr result (FailsFix ignores.now) }
 {
     let mut notes = Vec::new(alloc);
     let fixes = found_fixes(rt, alloc, options, ignores, &mut notes)?;
@@ -110,7 +110,7 @@ fn found_fixes<R: Files<File: Send, Dir: Send> + Threads + Wait + Sync>(
     ignores: &Option<String>,
     notes: &mut Vec<Note>,
 ) -> Result<Vec<FileFix>, Fault>
-    ensures plain { IfErr result (λ fault. status_of_fault fault ≡ 1) }
+    ensures { IfErr result (FailsFix ignores.now) }
 {
     let list = read_ignore_list(rt, alloc, ignores)?;
     match fixes_of_folder(rt, alloc, options, list.as_slice(), notes) {
@@ -121,7 +121,7 @@ fn found_fixes<R: Files<File: Send, Dir: Send> + Threads + Wait + Sync>(
 
 /// The error for files that were not found. If the crawl is incomplete, so are the fixes.
 fn fault_of(fault: SiteFault) -> Fault
-    ensures { status_of_fault result ≡ 1 }
+    ensures { (ignores : Option (String Global)) → FailsFix ignores result }
 {
     match fault {
         SiteFault::Crawl(_) => Fault::CannotFix,
@@ -272,7 +272,7 @@ fn rewrite_file<R: Files, E: Write>(
     let path = format!(in alloc; "{folder}/{name}")?;
     let outcome = replace(rt, alloc, path.as_str(), one.old.as_slice(), new.as_slice())?;
     print_outcome(alloc, name, outcome, one.fix.moved, err)?;
-    Ok(outcome != Outcome::Failed)
+    Ok(!matches!(outcome, Outcome::Failed))
 }
 
 /// Prints a note about what became of a file with this number of new links.
@@ -312,7 +312,7 @@ fn replace<R: Files>(
         Ok(()) => publish(rt, alloc, path, partial.as_str(), old),
         Err(_) => Outcome::Failed,
     };
-    if outcome != Outcome::Rewritten {
+    if !matches!(outcome, Outcome::Rewritten) {
         let _ = fs::remove_file(rt, partial.as_str());
     }
     Ok(outcome)

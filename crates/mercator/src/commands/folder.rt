@@ -1,10 +1,10 @@
 //! The commands for a folder: `site` and `check`.
-ghost use Rattle.std.specs.Prelude.{◌≡◌, ◌≤◌, ◌⊎◌, ℕ, List, Option, true, false, vec_len, IfOk, IfErr, IfSome, string_bytes, option_map};
+ghost use Rattle.std.specs.Prelude.{◌≡◌, ◌≤◌, ◌⊎◌, ℕ, List, Option, true, false, vec_len, IfOk, IfErr, IfSome, IsSome, string_bytes, option_map};
 ghost use Rattle.mercator.specs.FaultText.{note_line};
-ghost use Rattle.mercator.specs.Faults.{status_of_fault};
 ghost use Rattle.mercator.specs.Limits.{most_input_bytes};
 ghost use Rattle.mercator.specs.Plans.{known_ignores};
 ghost use Rattle.mercator.specs.Told.{EndsBy, Gains, GainsAs, reports};
+ghost use Rattle.mercator.specs.declared.commands.fault.Fault.TheVariants as wrong;
 ghost use Rattle.mercator.specs.declared.commands.planned.Plan.TheVariants as asks;
 
 use crate::commands::fault::Fault;
@@ -102,7 +102,7 @@ pub fn read_ignore_list<R: Files>(
 ) -> Result<Vec<u8>, Fault>
     ensures whole { IfOk result (λ bytes. IfSome (known_ignores ignores.now) (λ known. bytes.items ≡ known)) }
     ensures within { IfOk result (λ bytes. vec_len bytes ≤ most_input_bytes) }
-    ensures plain { IfErr result (λ fault. status_of_fault fault ≡ 1) }
+    ensures fault { IfErr result (λ fault. (fault ≡ wrong.NoMemory) ⊎ ((fault ≡ wrong.CannotReadIgnores) × IsSome ignores.now)) }
 {
     let Some(file) = ignores else {
         return Ok(Vec::new(alloc));
@@ -120,7 +120,7 @@ fn read_index<R: Files>(
     index: &Option<String>,
 ) -> Result<Option<Vec<u8>>, Fault>
     ensures within { IfOk result (λ list. IfSome list (λ bytes. vec_len bytes ≤ most_input_bytes)) }
-    ensures plain { IfErr result (λ fault. status_of_fault fault ≡ 1) }
+    ensures fault { IfErr result (λ fault. (fault ≡ wrong.NoMemory) ⊎ ((fault ≡ wrong.CannotReadIndex) × IsSome index.now)) }
 {
     let Some(file) = index else {
         return Ok(None);

@@ -25,7 +25,7 @@ pub struct InputLimits {
 }
 
 /// Why an input was not read to its end.
-#[derive(Clone, Copy, Debug, PartialEq, Eq)]
+#[derive(Clone, Copy, PartialEq, Eq)]
 pub enum Unread {
     /// A read failed.
     Failed,

@@ -1,5 +1,6 @@
-use Rattle.mercator.proofs.Prelude.{refl, inl, err_from_is_err_and}
-use Rattle.mercator.proofs.Folders.{ends_diff, gains_diff, plain_check}
+use Rattle.mercator.proofs.Prelude.{ap, refl, inl, err_from_is_err_and}
+use Rattle.mercator.specs.Told.{is_off}
+use Rattle.mercator.proofs.Folders.{ends_diff, fix_fails, gains_diff}
 use Rattle.std.proofs.lemmas.Result.{IfErr-weaker, IfOk-weaker}
 use Rattle.mercator.proofs.commands.folder.run_check.Goals as goal
 
@@ -15,4 +16,4 @@ pub returns-in_err-fix_folder-in-Write-clause-fault : goal.returns-in_err-fix_fo
 returns-in_err-fix_folder-in-Write-clause-fault g c = λ input.
     let r = c.from_residual in
     let same = err_from_is_err_and r.result r.ensures.1 in
-    rw (same.1, same.2) (inl (plain_check c.args.options.now _ c.in_err-fix_folder-in-Write.ensures.plain, refl))
+    rw (same.1, same.2) (inl (fix_fails c.args.options.now c.args.ignores.now c.in_err-fix_folder-in-Write.field-0.0 (ap is_off c.in-Write.is) c.in_err-fix_folder-in-Write.ensures, refl))
