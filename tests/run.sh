@@ -1,7 +1,7 @@
 #!/bin/bash
 # Runs every test that a change must pass: the proofs, and then the tests of the program that they build. This is what CI runs.
-# It prints the output of each part, then one line for each part, and on the last line `N passed, M failed` over all. The exit
-# status is 1 if anything failed.
+# It prints the output of each part, then what time it took, one line for each part, and on the last line `N passed, M failed` over
+# all. The exit status is 1 if anything failed.
 #
 # Usage: tests/run.sh
 # tests/quick.sh runs the same tests in minutes, without the proofs.
@@ -21,6 +21,14 @@ part() {
     add "$*" "$passed" "$failed"
 }
 
+# took: prints the elapsed time, and the CPU time of all parts with everything that they started and waited for.
+took() {
+    local user system
+    times > "$output"
+    read -r user system < <(tail -n 1 "$output")
+    echo "elapsed $((SECONDS / 60)) min $((SECONDS % 60)) s, CPU time $user in user mode and $system in system mode"
+}
+
 part rt ci
 part tests/cases.py
 part tests/drawn.py
@@ -34,4 +42,5 @@ part tests/converter.py
 part docs/check.py
 part docs/definitions.py --check
 part tools/character_names.py --check
+took
 total
