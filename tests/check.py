@@ -43,7 +43,7 @@ from checking import archives, drawing, feed_twins, fixes, forms, loading, print
 from checking.documents import TOOL, form_of
 from checking.known import KNOWN, Known, To, Zeros
 from checking.known_fixes import FIXED, Fixed
-from checking.model import FLAGS, INDEX_FILES, LEADS_NOWHERE, LEADS_OUT, NOWHERE, Map, Model, Moved, Row, Settings, Site, is_short
+from checking.model import FLAGS, INDEX_FILES, LEADS_NOWHERE, LEADS_OUT, NOWHERE, Map, Model, Moved, Row, Settings, Site, is_short, last_of
 from checking.tags import document_tags
 from checking.webs import Converter, first_difference, model_fault
 
@@ -54,7 +54,8 @@ SHOWN, LONGEST = 5, 4000  # the number of differences that a series prints, and 
 EVERY = 8  # one of this number of random folders has its other forms compared
 # What 1,000 random folders must have at least LEAST times
 KINDS = "brokenpage brokenanchor placepage placeanchor hint worst redirect unreached unlisted external unused with_aliases error in_sheets in_xml in_feeds".split()
-KINDS += "written hint_url hint_fallback hint_index_file hint_leads_out hint_leads_nowhere mapped fixed_redirect fixed_name fix_left fix_link".split()
+KINDS += "written hint_url hint_fallback hint_index_file hint_leads_out hint_leads_nowhere mapped question suggestion suggestion_in_other_case suggestion_in_other_form".split()
+KINDS += "fixed_redirect fixed_name fixed_case fix_left fix_link".split()
 KINDS += [kind + reason for kind in ("invalid", "invalid_place") for reason in ("not_url", "unknown_scheme", "local_file")]
 KINDS += [kind + reason for kind in ("leaving", "leaving_place") for reason in ("above_folder", "outside_base", "not_in_map")]
 HINT_KINDS = {LEADS_OUT: "hint_leads_out", LEADS_NOWHERE: "hint_leads_nowhere"}
@@ -329,6 +330,9 @@ def draw_number(seed: int, number: int, above: str) -> Drawn:
     draw = Random(f"whole {seed} {number}")
     if draw.random() < 0.2:
         drawing.add_whole_links(draw, folder)
+    draw = Random(f"misspelled {seed} {number}")
+    if draw.random() < 0.2:
+        drawing.add_misspelled_links(draw, folder)
     return Drawn(str(folder), settings._replace(maps=maps), options)
 
 
@@ -503,12 +507,21 @@ def moved_fault(program: str, seed: int, number: int, kinds: Counter[str]) -> Op
         return fix_fault(program, made.settings, made.folder)
 
 
+def suggestion_kind(name: str, page: str) -> str:
+    """The kind of a suggestion, by the file names of the missing page and of the suggested one."""
+    return "suggestion" if name == page else "suggestion_in_other_case" if name.lower() == page.lower() else "suggestion_in_other_form"
+
+
 def details(row: Row) -> Iterator[str]:
     """What is counted of a row in addition to its kind."""
     if row["kind"] == "hint" and row["base"].startswith("http"):
         yield "hint_url"
     if row.get("hint"):
         yield HINT_KINDS.get(row["hint"]) or ("hint_fallback" if row["hint"].endswith(": --fallback html") else "hint_index_file")
+    if row.get("same_name"):
+        yield suggestion_kind(last_of(row["target"]), last_of(row["same_name"]))
+    if row["kind"] == "place" and printing.question(row, row):
+        yield "question"
     if row.get("written"):
         yield "written"
     form = form_of(os.fsencode(row["file"]), True) if row["kind"].endswith("place") else None

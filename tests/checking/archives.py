@@ -107,6 +107,10 @@ class ListedSite(Site):
         """The URLs of files in order. Each names its own file."""
         return sorted((url, url.encode()) for url, line in self.lines.items() if line.kind != "redirect")
 
+    def urls(self) -> Iterator[str]:
+        """The listed URLs, also those of redirects."""
+        return iter(self.lines)
+
     def own_starts(self) -> List[str]:
         """The URLs of the documents by their types, and of sitemaps and feeds. An SVG file is a picture, at which no check starts."""
         return [url for url, line in self.lines.items() if line.is_page() or self.is_feed(url.encode()) and feeds.is_start(last_of(url))]

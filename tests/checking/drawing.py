@@ -398,6 +398,36 @@ def add_whole_links(draw: Random, top: Path) -> None:
     write(top / "whole.html", "".join(f'<a href="{html.escape(link)}">' for link in links).encode("utf-8", "replace"))
 
 
+def in_other_case(draw: Random, name: str) -> str:
+    """A path, or its last name, with its ASCII letters in another case."""
+    begin, change = draw.choice([0, name.rfind("/") + 1]), draw.choice([str.upper, str.lower, str.swapcase])
+    return name[:begin] + "".join(change(letter) if letter.isascii() else letter for letter in name[begin:])
+
+
+def in_other_form(name: str) -> str:
+    """A folder in place of an HTML file, and a file in place of a folder with an index file."""
+    return name[:-len("/index.html")] + ".html" if name.endswith("/index.html") else name[:-len(".html")] + "/" if name.endswith(".html") else name + "/"
+
+
+# Links that lack a scheme or a part of it, and others that are like them
+INCOMPLETE = [
+    "us@a.test", "us@A.b.test", "x+1@a-b.test", "us@a.test?x", "a@b", "logo@2x.png", "@a.test", "us@.test", "a@b@c.test", "\u00fc@a.test", "us@a.test/", "www.a.test", "WWW.a.test", "www", "http//a.test/x",
+    "https//a.test", "http/a.test", "Http//a.test", "./www.a.test", "sub/us@a.test", "www.us@a.test", "us@a.test#x", " us@a.test\n",
+]
+
+
+def add_misspelled_links(draw: Random, top: Path) -> None:
+    """Adds a document with incomplete links, and with links to files in another case or form, some of them to other folders than these are in."""
+    names = sorted(os.path.relpath(path, top) for path in top.rglob("*") if path.is_file())
+    place, links = draw.choice(["", "", "sub/"]), draw.sample(INCOMPLETE, draw.randint(2, 6))
+    for _ in range(draw.randint(1, 8)):
+        name = draw.choice(names)
+        name = in_other_form(name) if draw.random() < 0.3 else in_other_case(draw, name)
+        name = draw.choice([name, name, name.rpartition("/")[2], "old/" + name])
+        links.append("../" * place.count("/") + spelled(draw, name) + draw.choice(ENDS[:12]))
+    write(top / place / "misspelled.html", "".join(f'<a href="{html.escape(link)}">' for link in links).encode("utf-8", "replace"))
+
+
 # Where files are moved
 NEW_FOLDERS = ["moved/", "moved/", "moved/\u00fc/", "new name/", "sub/deep/", "a&b/", "it's/", "100%/", ""]
 # Around a link in a document with moved links
@@ -420,6 +450,8 @@ def move_files(draw: Random, top: Path, root: str) -> None:
             path.rename(new)
             names.append(draw.choice(["", "", "old/", "sub/"]) + new.name if draw.random() < 0.5 else path.relative_to(top).as_posix())
     names += 2 * sorted(os.path.relpath(path.parent, top) for path in top.rglob("index.html") if path.parent != top)
+    kept = [path.relative_to(top).as_posix() for path in files if path.is_file()]
+    names += [in_other_case(draw, name) for name in draw.sample(kept, min(len(kept), draw.choice([0, 0, 1, 2])))]
     for place in draw.sample(["", "sub/", "fixed/deep/", "moved/"], draw.randint(1, 3)):
         text = draw.choice(MOVED_HEADS).format(draw.choice(BASES)) + "".join(moved_link(draw, names, place, root) for _ in range(draw.randint(1, 8)))
         name = draw.choice(["fixed.html", "fixed.html", "fixed.xhtml", "fix it.html", "fixed\n.html"])

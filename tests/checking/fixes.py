@@ -1,6 +1,7 @@
 """The links that `check --fix` rewrites, by the rules in the manual: the new bytes of each file, the diff and the notes.
 
-A link with a move leads to a redirect from a folder without its last slash, or to a missing page that has one candidate. Its query stays.
+A link with a move leads to a redirect from a folder without its last slash, or to a missing page that has one candidate: the suggested
+page, if it has the same file name, or if the whole paths differ only in case. The query of the link stays.
 """
 
 from __future__ import annotations
@@ -11,7 +12,8 @@ from typing import Dict, Iterator, List, NamedTuple, Optional, Tuple
 
 import drawn
 from checking.documents import TOOL, Document, document_of, with_query_in
-from checking.model import Alias, Base, Found, Model, Moved, Row, begins_path, last_of, origin_of
+from checking.model import Alias, Base, Found, Model, Moved, Row, begins_path, in_lower_case, last_of, origin_of
+from checking.model import written as line_of
 from checking.printing import shown, targets
 
 SCHEME = re.compile("[A-Za-z][A-Za-z0-9+.-]*:")
@@ -57,24 +59,25 @@ class Fixer:
 
     def moves_by_file(self) -> Dict[str, Moves]:
         """By file, the missing pages that have one candidate and to which a reported link of the file leads."""
-        names = self.model.names()
         found: Dict[str, Moves] = {}
         for row, places in targets(list(self.model.missing_pages(self.model.linking()))):
-            url = self.whole(row["target"])
-            if row["same_name"] is not None and self.is_certain(url, names[last_of(url)][0], places):
-                for place in places:
-                    found.setdefault(place["file"], {})[url] = with_query_of(url, names[last_of(url)][0])
+            if row["same_name"] is not None:
+                url, candidate = self.whole(row["target"]), self.whole(row["same_name"])
+                if self.is_certain(url, candidate, places):
+                    for place in places:
+                        found.setdefault(place["file"], {})[url] = with_query_of(url, candidate)
         return found
 
     def is_certain(self, url: str, candidate: str, places: List[Row]) -> bool:
         """Whether the links at these locations can only be meant for a candidate: not those to an index file or, without BASE, to a path from the root.
 
-        With the query of the link, the server returns the same file.
+        The candidate has the same file name, or the same path in another case. With the query of the link, the server returns the same file.
         """
+        is_named = last_of(url) == last_of(candidate) or in_lower_case(url.partition("?")[0]) == in_lower_case(candidate)
         is_outside = self.model.settings.is_rooted() and any((place["written"] or "").startswith(("/", "\\")) for place in places)
         files = [self.site.served(one) for one in (candidate, with_query_of(url, candidate))]
         is_same = all(isinstance(one, (Found, Alias)) for one in files) and len({one.name for one in files if isinstance(one, (Found, Alias))}) == 1
-        return "?" not in candidate and is_same and last_of(url) not in self.model.settings.indices and not is_outside
+        return is_named and "?" not in candidate and is_same and last_of(url) not in self.model.settings.indices and not is_outside
 
     def whole(self, target: str) -> str:
         """The URL of a target of the report."""
@@ -133,11 +136,11 @@ class Page:
         self.leads = self.leads_of(document)
 
     def leads_of(self, document: Document) -> List[str]:
-        """Where each link of a version of the document leads: to a URL, or the text of one that is neither http nor https."""
+        """Where each link of a version of the document leads: to a URL, or the text of one that is neither http nor https. Nowhere if it is too long."""
         page = Base(drawn.url_of(self.url), False, "")
         base = page if document.base is None else self.model.base_of(TOOL.cleaned(document.base), page)
         texts = [with_query_in(TOOL.cleaned(link.text), document.charset) for link in document.links]
-        return [self.model.target_of(text, base) or text for text in texts]
+        return [self.model.target_of(text, base) or text if line_of(text) is not None else "" for text in texts]
 
     def edits(self) -> List[Edit]:
         """The changes of the document in the order of its text. Of the links at one location the first one that can be rewritten counts."""
@@ -147,8 +150,14 @@ class Page:
             written = TOOL.cleaned(link.text)
             new = self.new_text(written, lead) if lead in self.moves else None
             if self.text is not None and at is not None and new is not None and self.text.startswith(written, at):
-                found.setdefault(at, Edit(at, written, new, "fixed_redirect" if lead in self.redirects else "fixed_name"))
+                found.setdefault(at, Edit(at, written, new, self.kind_of(lead)))
         return [found[at] for at in sorted(found)]
+
+    def kind_of(self, lead: str) -> str:
+        """The kind of a link that leads to a URL with a move, as it is counted."""
+        if lead in self.redirects:
+            return "fixed_redirect"
+        return "fixed_name" if last_of(lead) == last_of(self.moves[lead]) else "fixed_case"
 
     def position(self, line: int, column: int) -> Optional[int]:
         """The position of a location in the bytes as UTF-8, if there is one. Another encoding of the document does not matter."""

@@ -53,6 +53,7 @@ def error(text: str) -> Tuple[Dict[str, Any]]:
 
 
 INDICES = (("indices", ("home.html", "index.htm")),)
+NO_FOLDER = "BASE: must be the http or https URL of a folder, without a query, such as https://example.org/docs/"
 FALLBACK = (("fallback", True),)
 FOLLOW = (("follow", True),)
 LONG = "/".join(["%" * 200] * 8)  # a path with 1,607 bytes, and 4,807 in a URL
@@ -84,6 +85,34 @@ SKIPPED: Dict[str, Union[str, bytes, To, Zeros]] = {
 }
 
 
+# Missing pages, and the page that is suggested for each
+SUGGESTED: Dict[str, Optional[str]] = {
+    "old/a.html": "n/a.html", "b.html": None, "c.html?x": "n/c.html", "gone.html": None, "n/": None, "x/sub": None, "N/A.html": "n/a.html", "c.HTML?x": "n/c.html",
+    "img/LOGO.png": "img/logo.png", "M/B.html": None, "x/readme.html": "o/readme.html", "x/README.html": "README.html", "Readme.html": None, "x/Sub": None, "x/index.html": None,
+    "x/Index.html": None, "x/INDEX.htm": "o/index.htm", "%C3%BC.html": None, "x/%c3%9c.HTML": "%C3%9C.html", "x/e.HTML/": None,
+}
+NAMESAKES: Dict[str, Union[str, bytes, To, Zeros]] = {
+    "index.html": "\n".join(f"<a href={link}>" for link in SUGGESTED),
+    **{name: "" for name in "n/a.html m/b.html n/b.html n/c.html sub/x.png img/logo.png README.html o/readme.html q/index.html o/index.htm \u00dc.html e.html".split()},
+}
+
+
+# Missing pages, and the page in another form that is suggested for each
+OTHER_FORMS: Dict[str, Optional[str]] = {
+    "guide/use.html": "guide/use/", "a/": "a.html", "b.html": None, "b/": None, "x/index.html": "x/index/", "c.html?q": "c/", "d/?y": "d.html", "n/f.html": "o/f.html", "f.html/": None,
+    "use.htm": None, "guide/Use.html": None, "h.html": "h/", "g.html": None,
+}
+FORMS_OF_PAGES: Dict[str, Union[str, bytes, To, Zeros]] = {
+    "index.html": "\n".join(f"<a href={link}>" for link in OTHER_FORMS), "b/x.png": "", "g/index.html": "<a href=../g.html>", "o/h.html": "<a href=../h.html>",
+    **{name: "" for name in "guide/use/index.html a.html x/index/index.html c/index.html d.html o/f.html n/f/index.html use/index.html h/index.html".split()},
+}
+
+
+def suggestion(target: str, page: Optional[str]) -> Tuple[Dict[str, Any]]:
+    """The row of a missing page with this suggestion."""
+    return ({"kind": "broken", "target": target, "same_name": page},)
+
+
 def written(target: str, text: Optional[str]) -> Tuple[Dict[str, Any]]:
     """The row of a location of a target with this text of the link."""
     return ({"target": target, "written": text},)
@@ -101,6 +130,13 @@ def anchors(name: str, ids: str, links: str, broken: List[str]) -> Known:
 
 
 KNOWN = [
+    Known("a BASE that is the URL of an index file", {"index.html": ""}, [], error(NO_FOLDER), settings=(("base", "http://docs.test/a/index.htm"),)),
+    Known("a BASE that is the URL of an index file by the options", {"index.html": ""}, [], error(NO_FOLDER), settings=(("base", "http://docs.test/home.html"), *INDICES)),
+    Known(
+        "a BASE that is the URL of no index file by the options", {"home.html": "<a href=gone>"}, ["index.html/gone home.html:1:9"],
+        settings=(("base", "http://docs.test/index.html/"), *INDICES),
+    ),
+    Known("a BASE whose host has the name of an index file", {"index.html": "<a href=gone>"}, ["http://index.html/gone index.html:1:9"], settings=(("base", "http://index.html/"),)),
     Known("a missing page", {"index.html": "<p>\n <a href='gone.html'>"}, ["gone.html index.html:2:11"]),
     Known("two links to one page", {"index.html": "<a href=x><img src=x>"}, ["x index.html:1:9", "x index.html:1:20"]),
     Known("columns are characters", {"index.html": "\u00fc\u65e5\U0001f514<a href=x>"}, ["x index.html:1:12"]),
@@ -352,6 +388,24 @@ KNOWN = [
         (*total(pages=4, links=8, redirects=1, aliases=4), {"kind": "redirect", "page": "%2Fd%2Fe", "to": "d/e/", "pages": 1}),
     ),
     Known(
+        "suggestions for missing pages, in the same case and in another",
+        NAMESAKES,
+        [f"{link} index.html:{number}:9" for number, link in enumerate(SUGGESTED, 1)],
+        tuple(row for link, page in SUGGESTED.items() for row in suggestion(link, page)),
+    ),
+    Known(
+        "suggestions of a folder for a file, and of a file for a folder",
+        FORMS_OF_PAGES,
+        [f"{link} index.html:{number}:9" for number, link in enumerate(OTHER_FORMS, 1)] + ["g.html g/index.html:1:9", "h.html o/h.html:1:9"],
+        tuple(row for link, page in OTHER_FORMS.items() for row in suggestion(link, page)),
+    ),
+    Known(
+        "suggestions of pages with such a link",
+        {"index.html": "<a href=x/about.html>", "About.html": "<a href=about.html><a href=x/about.html>", "n/e.html": "<a href=../e.html>", "E.html": "<a href=d.html>", "D.html": ""},
+        ["about.html About.html:1:9", "d.html E.html:1:9", "e.html n/e.html:1:9", "x/about.html About.html:1:28", "x/about.html index.html:1:9"],
+        (*suggestion("about.html", None), *suggestion("x/about.html", None), *suggestion("e.html", None), *suggestion("d.html", "D.html")),
+    ),
+    Known(
         "several names of index files",
         {
             "index.htm": "<a href=d/><a href=d/index.htm#x><a href=d/index.xhtml><a href=e/#x><a href=e/index.xhtml><a href=f/><a href=index.html>",
@@ -379,6 +433,10 @@ KNOWN = [
         ["a#y index.html:1:21", "a/ index.html:1:43", "c index.html:1:54", "d/ d/b.html:1:9"],
         (*total(pages=6, links=8, redirects=1, aliases=3), {"kind": "redirect", "page": "b", "to": "b/", "pages": 1}),
         settings=FALLBACK,
+    ),
+    Known(
+        "a suffix that a link to a folder omits", {"index.html": "<a href=a><a href='b?q#x'><a href=b#y><a href=c/>", "a.html/x.png": "", "b.html/index.html": "<p id=x>", "c.html/index.html": ""},
+        ["a.html/ index.html:1:9", "b.html/#y index.html:1:35", "c/ index.html:1:47"], total(pages=3, links=4, redirects=3, aliases=1), settings=FALLBACK,
     ),
     Known(
         "every document",
@@ -874,6 +932,35 @@ KNOWN = [
         "links with another path than BASE", {"index.html": "<a href=/p/a.html><a href='/p/b%20c.html?q'><a href=d>", "a.html": "", "b c.html": ""},
         ["http://docs.test/p/a.html index.html:1:9", "http://docs.test/p/b%20c.html?q index.html:1:28", "q/d index.html:1:53"],
         ({"kind": "hint", "base": "http://docs.test/p/", "paths": 2, "of": 3},), settings=(("base", "http://docs.test/q/"),),
+    ),
+    Known(
+        "a BASE without its path", {"index.html": "<a href=/p/a.html><a href=/p/b.html#x><a href=a.html>", "a.html": "", "b.html": ""},
+        ["p/a.html index.html:1:9", "p/b.html index.html:1:27"], ({"kind": "hint", "base": "http://docs.test/p/", "paths": 2, "of": 3},),
+    ),
+    Known(
+        "a BASE without its path, and the same number of links that work", {"index.html": "<a href=/p/a.html><a href=/p/b.html><a href=a.html><a href=b.html>", "a.html": "", "b.html": ""},
+        ["p/a.html index.html:1:9", "p/b.html index.html:1:27"], ({"kind": "hint", "base": "http://docs.test/p/", "paths": 2, "of": 4},),
+    ),
+    Known(
+        "a BASE without its path, and many relative links",
+        {"index.html": "<a href=/p/a.html><a href=/p/b.html><a href=/q/c.html>" + 9 * "<a href=a.html>", "a.html": "", "b.html": ""},
+        ["p/a.html index.html:1:9", "p/b.html index.html:1:27", "q/c.html index.html:1:45"], ({"kind": "hint", "base": "http://docs.test/p/", "paths": 2, "of": 12},),
+    ),
+    Known(
+        "a folder that was removed, and many relative links", {"index.html": "<a href=/p/a.html><a href=/p/b.html><a href=/p/c.html>" + 9 * "<a href=a.html>", "a.html": ""},
+        ["p/a.html index.html:1:9", "p/b.html index.html:1:27", "p/c.html index.html:1:45"], without=("hint",),
+    ),
+    Known(
+        "a BASE with a part of its path", {"index.html": "<a href=/p/q/a.html><a href=/p/q/b.html>" + 4 * "<a href=a.html>", "a.html": "", "q/x.png": ""},
+        ["p/q/a.html index.html:1:9", "p/q/b.html index.html:1:29"], settings=(("base", "http://docs.test/p/"),), without=("hint",),
+    ),
+    Known(
+        "a BASE without its path, and ignored links", {"index.html": "<a href=/p/a.html><a href=/p/b.html>", "a.html": "", "b.html": ""},
+        [], settings=(("ignores", ("*p/*",)),), without=("hint",),
+    ),
+    Known(
+        "a BASE without its path, and two links at one location", {"index.html": "<img srcset='/p/a.png 1x, /p/a.png 2x'>", "a.png": ""},
+        ["p/a.png index.html:1:14"], without=("hint",),
     ),
     Known(
         "documents that no sitemap lists",

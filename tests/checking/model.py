@@ -243,6 +243,11 @@ def last_of(url: str) -> str:
     return re.split("[?]", url)[0].rpartition("/")[2]
 
 
+def in_lower_case(text: str) -> bytes:
+    """A text with its ASCII letters in lower case. No other letter is changed."""
+    return text.encode("utf-8", "surrogateescape").lower()
+
+
 def in_bytes(row: Tuple[Tuple[str, str], object]) -> Tuple[bytes, bytes]:
     """A sort key: the bytes of a pair of texts, such as a page's URL and a fragment."""
     return row[0][0].encode("utf-8", "replace"), row[0][1].encode("utf-8", "replace")
@@ -452,7 +457,10 @@ class Site:
             return Moved(self.url(key._replace(path=key.path + b"/")) + drawn.url_of(url).query)
         name = self.by_url.get(url) or self.files.get(key)
         if name is None and self.settings.fallback and os.path.basename(key.path):
-            name = self.files.get(key._replace(path=key.path + b".html"))
+            html = key._replace(path=key.path + b".html")
+            if html.path + b"/" in self.names and html.query is None:
+                return Moved(self.url(html._replace(path=html.path + b"/")) + drawn.url_of(url).query)
+            name = self.files.get(html)
         if name is None:
             return None
         return Found(name) if url == self.own[name] else Alias(name, self.own[name])
@@ -585,12 +593,23 @@ class Mapped:
         return top is not None and self.sites[top].served(top if url + "/" == top else url) is not None
 
 
+class Namesake(NamedTuple):
+    """A page that may be meant in place of a missing one."""
+
+    url: str
+    file: str
+
+
 class Model:
     """A search from the top of a folder and from its documents, and the broken links that it finds."""
 
     def __init__(self, folder: str, settings: Settings, site: Optional[Site] = None) -> None:
         self.settings, self.site = settings, site or Site(folder, settings)
         self.mapped = Mapped(settings)
+        self.files = {url: self.site.file_of(name) for url, name in self.site.pages()}  # the file of each page
+        self.namesakes: Dict[bytes, List[Namesake]] = {}  # the pages by their file names in lower case
+        for url, file in self.files.items():
+            self.namesakes.setdefault(in_lower_case(last_of(url)), []).append(Namesake(url, file))
         self.responses: Dict[str, Response] = {}
         self.others: Dict[str, Response] = {}  # of URLs of the site's origin that are not below the top
         self.links: Dict[str, List[Link]] = {}  # by the own URL of each file
@@ -604,14 +623,21 @@ class Model:
         self.reached = self.files_found()
         self.search(documents)
 
+    def is_index_url(self) -> bool:
+        """Whether BASE is the URL of an index file, and not that of a folder."""
+        front, _, last = self.settings.base.rpartition("/")
+        return "#" not in front and not front.endswith(":/") and last in self.settings.indices
+
     def start_fault(self, starts: List[str], documents: List[str]) -> Optional[str]:
         """Why the program does not check the folder, if it does not."""
+        if self.is_index_url():
+            return "BASE: must be the http or https URL of a folder, without a query, such as https://example.org/docs/"
         missing = [link for link, url in zip(self.settings.seeds or ["./"], starts) if self.site.response(url) is None]
         if not missing or not (self.settings.seeds or self.settings.reachable or not documents):
             return None
         if self.settings.seeds or self.settings.reachable:
             return f"{shown_seed(missing[0], self.settings)}: no such page to start at"
-        return f"{os.fsdecode(self.site.folder)}: no HTML documents"
+        return f"{os.fsdecode(self.site.folder)}: no HTML documents (if a generator makes the site, pass the folder that it writes)"
 
     def files_found(self) -> Set[bytes]:
         """The files of the pages that were found."""
@@ -719,31 +745,44 @@ class Model:
         }
         worst = [{"kind": "worst", "file": file, "links": count} for file, count in files[:MOST_FILES]]
         names = [{"kind": "unreached", "name": name} for name in unreached] + [{"kind": "unlisted", "name": name} for name in unlisted]
-        base_hint = list(self.root_hint(broken)) or list(self.host_hint())
+        base_hint = list(self.base_hints(broken))[:1]
         return [total, *base_hint, *broken, *invalid, *leaving, *worst, *redirects, *names, *external, *self.unused()]
 
+    def base_hints(self, broken: List[Row]) -> Iterator[Row]:
+        """The hints at BASE, of which the first is reported: at a missing one, by paths from the root or by all links, and at one without its path."""
+        at_root = list(self.root_hint(broken))
+        if self.settings.is_rooted():
+            yield from at_root
+        yield from self.host_hint(broken)
+        for hint in at_root:
+            yield from self.url_hint(origin_of(self.site.base)[:-1] + hint["base"], self.link_urls())
+
     def root_hint(self, broken: List[Row]) -> Iterator[Row]:
-        """The hint that BASE is missing: most links to missing pages that are paths from the root begin with the same folder, which does not exist."""
+        """The folder, which does not exist, with which most links begin that lead to missing pages and are paths from the root."""
         paths = [row["written"] for row in broken if row["kind"] == "place" and row["missing"] == "page" and row["written"]]
         found = [path[1] for path in map(ROOT_FOLDER.match, paths) if path]
         most = [(name, count) for name, count in Counter(found).items() if 2 * count >= len(found) and count >= 2]
-        for name, count in most[:1] if self.settings.is_rooted() else ():
+        for name, count in most[:1]:
             if not any(url.startswith(f"{self.site.base}{name}/") for url in self.site.urls()):
                 yield {"kind": "hint", "base": f"/{name}/", "paths": count, "of": len(found)}
 
-    def host_hint(self) -> Iterator[Row]:
+    def host_hint(self, broken: List[Row]) -> Iterator[Row]:
         """The hint that BASE is missing or another one: most links begin with a URL below which the folder has most of them."""
         links, top = self.link_urls(), str(self.site.base)
-        if 2 * sum(link.startswith(top) for link in links) >= len(links):
+        lost = sum(row["kind"] == "place" and row["missing"] == "page" for row in broken)
+        if 2 * max(sum(link.startswith(top) for link in links) - lost, 0) >= len(links):
             return
-        files = {url for url, _ in self.site.pages()}
         for count in SLASHES:
             folders = [found[0] for found in (re.match(f"(?:[^/]*/){{{count}}}", link) for link in links) if found]
             often = [folder for folder, times in Counter(folders).items() if 2 * times >= max(len(links), 4)]
-            below = [link[len(often[0]):] for link in links if link.startswith(often[0])] if often else []
-            if below and 2 * sum(top + rest in files for rest in below) >= len(below):
-                yield {"kind": "hint", "base": often[0], "paths": len(below), "of": len(links)}
-                return
+            yield from self.url_hint(often[0], links) if often else ()
+
+    def url_hint(self, url: str, links: List[str]) -> Iterator[Row]:
+        """The hint at a URL with which some links begin, unless it is the top or the folder does not have most of what is below it."""
+        files, top = {page for page, _ in self.site.pages()}, str(self.site.base)
+        below = [link[len(url):] for link in links if link.startswith(url)]
+        if url != top and len(below) >= 2 and 2 * sum(top + rest in files for rest in below) >= len(below):
+            yield {"kind": "hint", "base": url, "paths": len(below), "of": len(links)}
 
     def link_urls(self) -> List[str]:
         """The URLs, without queries, to which the links of each page lead, in the order of the pages. An alias has a link to its own URL."""
@@ -822,16 +861,13 @@ class Model:
 
     def missing_pages(self, linking: Dict[str, Set[str]]) -> Iterator[Row]:
         """The rows of missing pages, with the locations of links to them and to redirects to them."""
-        names, places = self.names(), self.places(self.responses)
+        places = self.places(self.responses)
         for url in sorted(url for url, response in self.responses.items() if response is None):
             pages, found = linking.get(url, ()), places.get(url, {})
             left = self.left(self.shown(url), found)
             if left is not None:
-                same, file = names.get(last_of(url), (None, None))
-                is_inside = file in {place.file for place in found}
-                same_name = None if is_inside or same is None else self.shown(same)
                 shown = {"target": self.shown(url), "missing": "page"}
-                yield {"kind": "broken", **shown, "pages": len(pages), "same_name": same_name, "hint": self.site.hint(url)}
+                yield {"kind": "broken", **shown, "pages": len(pages), "same_name": self.suggestion(url, found), "hint": self.site.hint(url)}
                 yield from self.place_rows({"kind": "place", **shown}, left)
 
     def invalid_links(self) -> Iterator[Row]:
@@ -876,11 +912,25 @@ class Model:
         document = self.site.document(name)
         return document is None or document.ids is None or has_id(fragment, document.ids)
 
-    def names(self) -> Dict[str, Tuple[str, str]]:
-        """The pages with a unique file name, by that name, and their files."""
-        pages = [(url, self.site.file_of(name)) for url, name in self.site.pages() if last_of(url)]
-        counts = Counter(last_of(url) for url, _ in pages)
-        return {last_of(url): (url, name) for url, name in pages if counts[last_of(url)] == 1}
+    def suggestion(self, url: str, places: Located) -> Optional[str]:
+        """The page that the report suggests for a missing one, unless a link at one of these locations is in its file."""
+        files = {place.file for place in places}
+        pages = (page for page in (self.namesake(url), self.in_other_form(url)) if page is not None)
+        return next((self.shown(page.url) for page in pages if page.file not in files), None)
+
+    def in_other_form(self, url: str) -> Optional[Namesake]:
+        """The page `x/` for `x.html`, and `x.html` for `x/`."""
+        path = self.shown(url).partition("?")[0]
+        other = path[:-1] + ".html" if path.endswith("/") else re.sub(r"\.html\Z", "/", path)
+        file = self.files.get(self.settings.front + other) if other != path else None
+        return None if file is None else Namesake(self.settings.front + other, file)
+
+    def namesake(self, url: str) -> Optional[Namesake]:
+        """The only page with the file name of a URL or, if no page has that, the only one with it in another case."""
+        name = last_of(url)
+        pages = self.namesakes.get(in_lower_case(name), []) if name else []
+        found = [page for page in pages if last_of(page.url) == name] or pages
+        return found[0] if len(found) == 1 else None
 
     def unreached(self) -> Iterator[str]:
         """The unreached files, each by the first of its pages."""

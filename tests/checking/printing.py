@@ -17,6 +17,9 @@ REASONS = {
     "above_folder": "leaves the folder", "outside_base": "outside BASE, on the same host", "not_in_map": "no such page in the mapped folder",
 }
 UNLISTED = "not in a sitemap"
+# By the beginning of a link to a missing page, what may be missing in it
+INCOMPLETE = {"http//": "a colon", "https//": "a colon", "www.": "https://"}
+IN_MAIL = re.compile("[A-Za-z0-9+._-]+")  # what the name and the host of a mail address may consist of
 KINDS = ("broken", "invalid", "leaving")
 
 
@@ -109,9 +112,24 @@ def as_written(row: Row, place: Row) -> str:
     return f" (written as {text})" if text is not None and not named(row).endswith(text) else ""
 
 
+def is_mail_address(text: str) -> bool:
+    """Whether a text is a mail address: a name and a host, which begins with a letter and has a dot."""
+    name, _, host = text.partition("@")
+    return all(map(IN_MAIL.fullmatch, (name, host))) and host[0].isalpha() and "." in host
+
+
+def question(row: Row, place: Row) -> str:
+    """What may be missing in a link to a missing page, in brackets."""
+    text = row["target"] if place["written"] is None else place["written"]
+    if row.get("missing") != "page":
+        return ""
+    found = [what for begin, what in INCOMPLETE.items() if text.startswith(begin)] + ["mailto:"] * is_mail_address(text)
+    return f" (is {found[0]} missing?)" if found else ""
+
+
 def line_of(row: Row, place: Row) -> str:
     """The line of a location in a report as text."""
-    return f"{place['file']}:{place['line']}:{place['column']}: {named(row)}: {message(row)}{as_written(row, place)}{advice(row)}"
+    return f"{place['file']}:{place['line']}:{place['column']}: {named(row)}: {message(row)}{as_written(row, place)}{question(row, place)}{advice(row)}"
 
 
 def rest_text(count: int) -> str:
@@ -166,7 +184,7 @@ def list_line(row: Row) -> str:
 
 
 HEADINGS = {
-    "worst": "files with the most broken links:", "redirect": "links to redirects (not errors):", "unreached": "unreached files:", "unlisted": "documents that no sitemap lists:",
+    "worst": "files with the most broken, invalid and leaving links:", "redirect": "links to redirects (not errors; --fix --dry-run shows where):", "unreached": "unreached files:", "unlisted": "documents that no sitemap lists:",
     "external": "external links (not checked):", "unused": "unused --ignore entries:",
 }
 
@@ -175,7 +193,7 @@ def base_hint(row: Row) -> str:
     """The line of a hint at a missing BASE, which names a URL or a folder of paths from the root."""
     folder = row["base"]
     if folder.startswith(("http://", "https://")):
-        return f"hint: {row['paths']} of {row['of']} links begin with {folder}: pass it as BASE"
+        return f"hint: {row['paths']} of {row['of']} HTTP links begin with {folder}: pass it as BASE"
     return f"hint: {row['paths']} of {row['of']} paths from the root begin with {folder}, which is not in the folder: pass BASE, such as https://HOST{folder}"
 
 
@@ -205,8 +223,10 @@ def as_annotations(rows: List[Row], folder: str) -> str:
     front = "" if folder == "." else folder.rstrip("/") + "/"
     lines = [f"::notice::{escaped(base_hint(row), False)}\n" for row in rows if row["kind"] == "hint"]
     for row, places in targets(rows):
-        text = escaped(row["target"] + ": " + message(row) + advice(row, True), False)
-        files = [f" file={escaped(front + place['file'], True)},line={place['line']},col={place['column']}" for place in places]
-        lines += [f"::error{file}::{text}\n" for file in files or [""]]
+        begin, end = row["target"] + ": " + message(row), advice(row, True)
+        for place in places:
+            file = f" file={escaped(front + place['file'], True)},line={place['line']},col={place['column']}"
+            lines.append(f"::error{file}::{escaped(begin + question(row, place) + end, False)}\n")
+        lines += [f"::error::{escaped(begin + end, False)}\n"] if not places else []
     lines += [f"::error::{escaped(row['name'], False)}: {message(row)}\n" for row in rows if row["kind"] == "unlisted"]
     return "".join(lines)

@@ -10,7 +10,7 @@ from urllib.parse import quote
 from xml.etree import ElementTree
 
 from checking.model import Row
-from checking.printing import advice, as_written, in_order, message, named, place_order, shown, targets
+from checking.printing import advice, as_written, base_hint, in_order, message, named, place_order, question, shown, targets
 
 # A URI reference by RFC 3986, as far as its characters show it
 PCHAR = r"(?:[A-Za-z0-9\-._~!$&'()*+,;=:@]|%[0-9A-Fa-f]{2})"
@@ -44,6 +44,7 @@ ELEMENTS = {
     "testsuite": element("name tests", "failures errors skipped time timestamp hostname id package file", "properties testcase system-out system-err"),
     "testcase": element("name", "classname assertions time status file line", "skipped error failure system-out system-err"),
     "failure": element("", "message type", ""),
+    "skipped": element("", "message type", ""),
     "system-out": element("", "", ""),
 }
 
@@ -62,7 +63,7 @@ def junit_faults(node: ElementTree.Element) -> Iterator[str]:
     names = set(node.attrib)
     if not kind.required <= names <= kind.required | kind.optional:
         yield f"{node.tag} has the attributes {sorted(names)}"
-    counted = {"tests": "testcase", "failures": "failure", "errors": "error"}
+    counted = {"tests": "testcase", "failures": "failure", "errors": "error", "skipped": "skipped"}
     for name in counted.keys() & names:
         if node.attrib[name] != str(count(node, counted[name])):
             yield f"{name} of {node.tag} is {node.attrib[name]}"
@@ -80,7 +81,8 @@ class Link(NamedTuple):
 
     def text(self) -> str:
         """What is wrong."""
-        return f"{named(self.row)}: {message(self.row)}{as_written(self.row, self.place) if self.place else ''}{advice(self.row)}"
+        notes = as_written(self.row, self.place) + question(self.row, self.place) if self.place else ""
+        return f"{named(self.row)}: {message(self.row)}{notes}{advice(self.row)}"
 
     def suite(self) -> str:
         """The name of the test suite that has the link."""
@@ -109,28 +111,37 @@ def in_xml(text: str) -> str:
     return re.sub("[\ufffe\uffff]", lambda one: f"\\u{{{ord(one[0]):x}}}", shown(text))
 
 
-Case = Tuple[Dict[str, str], Optional[Dict[str, str]], str]  # the attributes of a test case and of its failure, and its text
+# The attributes of a test case, and the elements in it: their names, attributes and texts
+Case = Tuple[Dict[str, str], List[Tuple[str, Dict[str, str], str]]]
+
+
+def hint_texts(rows: List[Row]) -> List[str]:
+    """The hint at BASE, if there is one."""
+    return [base_hint(row) for row in rows if row["kind"] == "hint"]
 
 
 def expected_suites(rows: List[Row], folder: str) -> Iterator[Tuple[str, List[Case]]]:
-    """The names of the test suites, and their cases: one suite for each file, one for targets without a location, and one for sitemaps."""
+    """The names of the test suites, and their cases: one suite for the hint at BASE, as a test that was skipped, one for each file, one for
+    targets without a location, and one for sitemaps.
+    """
+    for hint in hint_texts(rows):
+        yield "hint", [({"name": "BASE", "classname": "hint"}, [("skipped", {"message": in_xml(hint)}, "")])]
     links = links_of(rows)
     if not links:
-        yield "links", [({"name": "no broken links", "classname": "links"}, None, "")]
+        yield "links", [({"name": "no broken links", "classname": "links"}, [])]
     for (_, name), some in groupby(links, key=lambda link: (link.place is None, link.suite())):
         cases: List[Case] = []
         for link in some:
             location = f"{link.place['line']}:{link.place['column']}: " if link.place else ""
             case = {"name": location + in_xml(named(link.row)), "classname": name}
             case.update({"file": in_xml(path_in(folder, link.place["file"]))} if link.place else {})
-            cases.append((case, {"type": link.rule(), "message": in_xml(link.text())}, in_xml(link.text())))
+            cases.append((case, [("failure", {"type": link.rule(), "message": in_xml(link.text())}, in_xml(link.text()))]))
         yield name, cases
 
 
 def actual_case(case: ElementTree.Element) -> Case:
     """A test case of a report."""
-    failure = case.find("failure")
-    return dict(case.attrib), None if failure is None else dict(failure.attrib), "" if failure is None else failure.text or ""
+    return dict(case.attrib), [(child.tag, dict(child.attrib), child.text or "") for child in case]
 
 
 def junit_fault(actual: str, rows: List[Row], folder: str) -> Optional[str]:
@@ -143,7 +154,7 @@ def junit_fault(actual: str, rows: List[Row], folder: str) -> Optional[str]:
     for one, other in zip(suites, expected_suites(rows, folder)):
         if one != other:
             return f"\n  actual   {one}\n  expected {other}"
-    names = [(case["classname"], case["name"]) for _, cases in suites for case, _, _ in cases]
+    names = [(case["classname"], case["name"]) for _, cases in suites for case, _ in cases]
     return None if len(suites) == len(list(expected_suites(rows, folder))) and len(set(names)) == len(names) else "suites or names"
 
 
@@ -175,6 +186,11 @@ class Sarif:
         for base in bases.values():
             uri = base.get("uri", "")
             self.want(ABSOLUTE.fullmatch(uri) and uri.endswith("/"), f"originalUriBaseIds: {uri}")
+        for invocation in run.get("invocations", []):
+            self.want(isinstance(invocation.get("executionSuccessful"), bool), "executionSuccessful")
+            for notification in invocation.get("toolConfigurationNotifications", []):
+                self.want(isinstance(notification.get("message", {}).get("text"), str), "message.text of a notification")
+                self.want(notification.get("level", "warning") in LEVELS, "level of a notification")
         self.want(isinstance(run.get("results"), list), "results")
         for result in run.get("results") or []:
             self.read_result(result, rules, bases)
@@ -214,6 +230,9 @@ def sarif_fault(actual: str, rows: List[Row], folder: str, sources: str = "") ->
     bases = {"SOURCES": {"uri": sources.rstrip("/") + "/"}} if sources else None
     if run.get("originalUriBaseIds") != bases:
         return f"bases {run.get('originalUriBaseIds')}"
+    notes = [{"level": "note", "message": {"text": shown(hint)}} for hint in hint_texts(rows)]
+    if run.get("invocations") != ([{"executionSuccessful": True, "toolConfigurationNotifications": notes}] if notes else None):
+        return f"invocations {run.get('invocations')}"
     results = [expected_result(link, folder, sources) for link in links_of(rows)]
     for one, other in zip(run["results"], results):
         if {key: value for key, value in one.items() if key != "ruleIndex"} != other:

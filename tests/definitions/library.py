@@ -440,7 +440,7 @@ NATIVES: Dict[str, Native] = {
     "result_ok": (lambda r: some(r[1]) if r[0] == "Ok" else NONE, 1),
     "utf8_lossy": (utf8_lossy, 1), "is_utf8": (is_utf8, 1), "chars": (chars, 1), "trim": (trim, 1), "lines": (lines, 1),
     "str_eq_ignore_ascii_case": (str_eq_ignore_ascii_case, 2), "encode_utf8": (lambda c: text(chr(c).encode()), 1),
-    "to_ascii_lowercase": (to_ascii_lowercase, 1), "digit_value": (digit_value, 1), "is_digit": (is_digit, 2), "is_control": (is_control, 1),
+    "to_ascii_lowercase": (to_ascii_lowercase, 1), "str_to_ascii_lowercase": (lambda xs: text(unlisted(xs).lower()), 1), "digit_value": (digit_value, 1), "is_digit": (is_digit, 2), "is_control": (is_control, 1),
     "is_ascii_alphanumeric": (lambda b: 48 <= b < 58 or 65 <= b < 91 or 97 <= b < 123, 1), "IsAscii": (lambda xs: all(b < 128 for b in items(xs)), 1),
     "percent_encode": (percent_encode, 2), "percent_decode": (percent_decode, 1), "rsplit_once": (rsplit_once, 2), "url.specs.Input.trim_end": (trim_end, 2),
     "strip_tabs_and_new_lines": (lambda xs: listed(b for b in items(xs) if b not in b"\t\n\r"), 1),
