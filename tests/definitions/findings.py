@@ -117,6 +117,8 @@ def crawled_by(library: Library, model: Model, files: Files, pages: Pages, folde
     unmapped = library.function("mercator_site.Maps.unmapped")(folders, results)
     reached = library.function("mercator_site.Own.own_of")(files.server.top, results_of(pages.crawl(pages.starts(False))))
     listed_urls = pages.listed() if model.settings.sitemap else NIL
+    for listed_url in items(listed_urls):
+        pages.at(unlisted(listed_url))  # which may be an alias that the crawl does not reach
     aliases = listed(Record(url=text(url), own=text(page.alias)) for url, page in sorted(pages.pages.items()) if page.alias is not None)
     return Crawled(own, unmapped, reached, aliases, documents, places, listed_urls)
 
