@@ -21,6 +21,8 @@ Groups of files (see GROUPS) are searched for phrases that a reader has to trans
 In documents they are also searched for table cells of more than CELL_WORDS words, and sentences of
 more than SENTENCE_WORDS; code in backticks counts as one word. Phrases in quotation marks do not
 count. In Rattle sources comments are searched, and functions without one are counted, but for tests.
+Each name in a source or a definition is searched too, once for each file, as the words that it is
+made of: `tell_fault` is `tell fault`.
 The table CEILINGS has the most that a group may have of each. These numbers may be lowered, but not
 raised.
 
@@ -116,6 +118,9 @@ ITEM = re.compile(r"\s*(?:[-*#>]+|\d+\.)\s+")
 COMMENT = re.compile(r"\s*(.*?)\s*(?<![^\s])(?://[/!]?|--)(?:\s+(.*))?$")
 TESTS = re.compile(r"/tests\b|_tests/|crates/library_calls/")
 FUNCTION = re.compile(r"\s*(?:pub(?:\([^)]*\))? )?(?:const |ghost |unsafe )*fn (\w+)")
+IMPORT = re.compile(r"\s*(?:pub |ghost )?use\b")
+NAME_IN_CODE = re.compile(r"[A-Za-z_]\w*")
+WORD_OF_NAME = re.compile(r"[A-Z]?[a-z0-9]+|[A-Z]+(?![a-z])")
 PLACEHOLDER = re.compile(r"\{[\w:?.#<>]*\}")
 SCRIPT_OF_PAGE = "'use strict'"
 ROFF_TEXT = re.compile(r"\.(?:B|I|BR|RB|BI|IB|IR|RI|SM|SB) (.*)")
@@ -203,6 +208,20 @@ def units_of_comments(text: str) -> Iterator[Unit]:
         if said and not is_fenced and not said.startswith("```"):
             first = first if pieces else number
             pieces.append(TICKED.sub("code", said))
+
+
+def units_of_names(text: str) -> Iterator[Unit]:
+    """The names in the code of a Rattle source or definition, each once, with spaces between their
+    words: `CannotTell` is `Cannot Tell`. Comments, strings and imports have none."""
+    code = RATTLE_TOKEN.sub(lambda it: "\n" * it[0].count("\n"), text)
+    known = {"where"}  # a keyword
+    for number, line in enumerate(code.splitlines(), 1):
+        said = line.partition(" -- ")[0]
+        names = [] if IMPORT.match(said) or said.startswith("--") else NAME_IN_CODE.findall(said)
+        added = [name for name in dict.fromkeys(names) if name not in known]
+        known.update(added)
+        if added:
+            yield Unit(number, "; ".join(" ".join(WORD_OF_NAME.findall(name)) for name in added))
 
 
 def functions_without_comment(text: str) -> Iterator[tuple[int, str]]:
@@ -373,6 +392,7 @@ GROUPS = (
         r"|(?:examples|clients|tools)/.*\.(?:py|sh)|(?:try|install)\.sh")),
     Group("others", re.compile(r".*\.md"), frozenset({"subqueue"})),
     Group("comments", re.compile(r".*\.(?:rt|antt)"), frozenset({"subqueue"}), units_of_comments),
+    Group("names", re.compile(r"crates/\w+/(?:src/.*\.rt|specs/.*\.antt)"), frozenset({"subqueue"}), units_of_names),
 )
 ANY_FILE = Group("any", re.compile(r".*"))
 
@@ -451,38 +471,38 @@ def counts_of(files: Files) -> Counts:
 # The most that each group of files may have of each phrase. Run `docs/check.py --ceilings` to print
 # this table with the counts as they are now.
 CEILINGS: Counts = {
-    "tell": [0, 0, 0, 0],
-    "stand": [0, 0, 0, 0],
-    "want": [0, 0, 0, 0],
-    "answer (of a function)": [2, 0, 2, 1],
-    "asked": [0, 0, 0, 0],
-    "go on": [0, 0, 0, 0],
-    "mend": [0, 0, 0, 0],
-    "where (condition)": [1, 0, 0, 0],
-    "behind": [0, 0, 0, 0],
-    "beside": [0, 0, 0, 0],
-    "at once": [0, 0, 0, 0],
-    "growth": [0, 0, 0, 0],
-    "wrong body": [0, 0, 0, 0],
-    "not taken": [0, 0, 0, 0],
-    "drawn": [0, 0, 0, 0],
-    "reckon": [0, 0, 0, 0],
-    "of processor, of clock": [0, 0, 0, 0],
-    "fault": [0, 0, 1, 0],
-    "words (arguments)": [0, 1, 0, 0],
-    "in hand": [0, 0, 0, 0],
-    "strangers": [0, 0, 0, 0],
-    "kit": [0, 0, 0, 0],
-    "plain texts": [0, 0, 0, 0],
-    "worked row": [0, 0, 0, 0],
-    "subqueue": [0, 1, 0, 0],
-    "one a line": [0, 0, 0, 0],
-    "alone (only)": [0, 0, 0, 0],
-    "so many, as many": [0, 0, 0, 0],
-    "the same of": [0, 0, 0, 0],
-    "cells over 25 words": [0, 0, 0, 0],
-    "sentences over 35 words": [0, 0, 0, 0],
-    "functions without a comment": [0, 0, 0, 0],
+    "tell": [0, 0, 0, 0, 159],
+    "stand": [0, 0, 0, 0, 27],
+    "want": [0, 0, 0, 0, 28],
+    "answer (of a function)": [2, 0, 2, 1, 49],
+    "asked": [0, 0, 0, 0, 25],
+    "go on": [0, 0, 0, 0, 11],
+    "mend": [0, 0, 0, 0, 1],
+    "where (condition)": [1, 0, 0, 0, 10],
+    "behind": [0, 0, 0, 0, 185],
+    "beside": [0, 0, 0, 0, 44],
+    "at once": [0, 0, 0, 0, 9],
+    "growth": [0, 0, 0, 0, 3],
+    "wrong body": [0, 0, 0, 0, 0],
+    "not taken": [0, 0, 0, 0, 0],
+    "drawn": [0, 0, 0, 0, 5],
+    "reckon": [0, 0, 0, 0, 0],
+    "of processor, of clock": [0, 0, 0, 0, 0],
+    "fault": [0, 0, 1, 0, 277],
+    "words (arguments)": [0, 1, 0, 0, 70],
+    "in hand": [0, 0, 0, 0, 0],
+    "strangers": [0, 0, 0, 0, 4],
+    "kit": [0, 0, 0, 0, 0],
+    "plain texts": [0, 0, 0, 0, 11],
+    "worked row": [0, 0, 0, 0, 0],
+    "subqueue": [0, 1, 0, 0, 0],
+    "one a line": [0, 0, 0, 0, 0],
+    "alone (only)": [0, 0, 0, 0, 23],
+    "so many, as many": [0, 0, 0, 0, 2],
+    "the same of": [0, 0, 0, 0, 0],
+    "cells over 25 words": [0, 0, 0, 0, 0],
+    "sentences over 35 words": [0, 0, 0, 0, 0],
+    "functions without a comment": [0, 0, 0, 0, 0],
 }
 
 
