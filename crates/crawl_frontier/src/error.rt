@@ -42,7 +42,7 @@ impl fmt::Display for FrontierError {
 
 impl Error for FrontierError {}
 
-/// Why an offer failed. The part's counts and log and the queue's list are then as before, and a unit that the offer had
+/// Why an offer failed. The sender's counts and log and the queue's list are then as before, and a unit that the offer had
 /// entered with is given back.
 #[derive(Clone, Copy, Debug, PartialEq, Eq)]
 pub enum OfferError {
@@ -52,7 +52,7 @@ pub enum OfferError {
     Closed,
     /// The number of pending URLs is at its maximum, offers in progress included. Later there may be room.
     Full,
-    /// The queue has accepted `found` URLs of this part's id, but only `own` of this part: another part has the same id.
+    /// The queue has accepted `found` URLs of this sender's id, but only `own` of this sender: another one has the same id.
     Crossed { own: u64, found: u64 },
     /// The URL has more than [`crate::HOPS_LIMIT`] hops.
     TooFar,
@@ -83,13 +83,13 @@ impl Error for OfferError {}
 /// Why a run has no account. The variants are in the order of the checks.
 #[derive(Clone, Copy, Debug, PartialEq, Eq)]
 pub enum FinishError {
-    /// A queue's worker is missing, or no part has the id of an accepted URL's sender.
+    /// A queue's worker is missing, or no sender of the run has the id of an accepted URL's sender.
     MissingPart,
     /// The gate is not closed with count 0; `word` is its word. It never occurs, since a closed worker knows that the gate is
     /// closed.
     Unsettled { word: u64 },
     /// The run does not agree for `queue`, the first such queue. Two workers have this queue, its lock holds the shard of
-    /// another queue, its worker was not seen to have taken all URLs, or a part's log differs from its list.
+    /// another queue, its worker was not seen to have taken all URLs, or a sender's log differs from its list.
     Disagree { queue: u32 },
     /// An allocation failed.
     NoMemory,

@@ -1,4 +1,4 @@
-//! The end of a run: the accepted URLs are compared with those that were taken, and with the books of all parts.
+//! The end of a run: the accepted URLs are compared with those that were taken, and with the books of all senders.
 ghost use Rattle.std.specs.Prelude.{◌≡◌, MatchResult};
 ghost use Rattle.crawl_frontier.specs.Accounts.{Accounts, FinishFails};
 
@@ -20,7 +20,7 @@ use settled::{Settled, account_of, settle_run};
 impl<K: Name> Frontier<K> {
     /// Ends a run: returns the account of all accepted URLs, from the closed workers and the senders, in any order.
     ///
-    /// An account shows that each accepted URL was taken by its worker, and that the log of each part agrees. The errors
+    /// An account shows that each accepted URL was taken by its worker, and that the log of each sender agrees. The errors
     /// are `MissingPart`, `Disagree` and `NoMemory` ([`FinishError`]).
     pub fn finish(
         self,

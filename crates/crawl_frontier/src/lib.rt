@@ -11,7 +11,7 @@
 //! - Once the seeding has ended and every accepted URL is done, [`Worker::next`] returns a [`ClosedWorker`].
 //! - [`Frontier::finish`] checks the run, and returns the [`Account`] of all accepted URLs.
 //!
-//! Seeder, workers and senders are the *parts* of the frontier. Each has an id, and a log of what its offers returned.
+//! The seeder, the workers and each [`Sender`] are *senders*. Each has an id, and a log of what its offers returned.
 //!
 //! A worker's thread:
 //!

@@ -36,7 +36,7 @@ pub(crate) struct Candidate<'a> {
 /// The result of an offer and, if the URL was seen, a copy of it that shares the frontier's text.
 pub(crate) type Answer = (Result<Offer, OfferError>, Option<CanonUrl>);
 
-/// Gives a unit back, and returns the pass that it becomes. If it was the last unit the gate may close, so all resting
+/// Gives a unit back, and returns the pass that it becomes. If it was the last unit, the gate may close, so all resting
 /// workers are woken: one of them closes it, and the others find it closed.
 pub(crate) fn give_back<K: Name>(frontier: &Frontier<K>, unit: Unit) -> Pass
     requires { IsSeatOf K.gate unit }
@@ -51,7 +51,7 @@ pub(crate) fn give_back<K: Name>(frontier: &Frontier<K>, unit: Unit) -> Pass
 }
 
 // Admits the URL under the lock of its queue, and extends what the book knows of this queue's list to what the list is then.
-// The book says the same as before. A type cannot say to which queue a lock belongs: if another shard is found there, the
+// What the book says does not change. A type cannot say to which queue a lock belongs: if another shard is found there, the
 // lock is released and taken again.
 fn admit<K: Name, R: Wait>(
     rt: &R,
@@ -140,7 +140,7 @@ pub(crate) fn deliver<K: Name, R: Wait>(
     }
 }
 
-/// Offers a URL for a part that holds a unit, so the gate is open: for the seeder, and for a busy worker.
+/// Offers a URL for a sender that holds a unit, so the gate is open: for the seeder, and for a busy worker.
 pub(crate) fn offer_beside<K: Name, R: Wait>(
     rt: &R,
     frontier: &Frontier<K>,

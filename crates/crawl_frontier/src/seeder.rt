@@ -18,7 +18,7 @@ use std::alloc::Global;
 use std::marker::{Model, PhantomData};
 use std::sync::Wait;
 
-/// The part that offers the first URLs. [`Frontier::new`] makes it, and [`Seeder::end`] turns it into a sender.
+/// The sender that offers the first URLs. [`Frontier::new`] makes it, and [`Seeder::end`] turns it into a [`Sender`].
 ///
 /// It holds the opening unit of the gate, so the gate stays open until its end. Its id is the number of workers. A seeder
 /// that is dropped keeps the gate open for good.
@@ -91,8 +91,8 @@ impl<K: Name> Seeder<K> {
 
     /// A new sender with this id. The only error is `NoMemory`.
     ///
-    /// The ids from 0 to the number of workers belong to the workers and the seeder. An id that another part has is not
-    /// refused here, but offers of the two parts may then fail with [`OfferError::Crossed`].
+    /// The ids from 0 to the number of workers belong to the workers and the seeder. An id that another sender has is not
+    /// refused here, but offers of the two may then fail with [`OfferError::Crossed`].
     pub fn another(
         &mut self,
         alloc: Global,

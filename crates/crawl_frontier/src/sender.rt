@@ -1,4 +1,4 @@
-//! A sender: a part that offers URLs from outside.
+//! A sender that is no worker: it offers URLs from outside.
 ghost use Rattle.std.specs.Prelude.{◌≡◌, ◌↔◌, true, false};
 ghost use Rattle.crawl_gate.specs.Seat.{IsSeatOf};
 ghost use Rattle.crawl_gate.specs.View.{knows_closed};
@@ -17,7 +17,7 @@ use std::marker::{Model, PhantomData};
 use std::mem;
 use std::sync::Wait;
 
-/// A part that offers URLs and takes none. [`crate::Seeder::another`] and [`crate::Seeder::end`] make one.
+/// Offers URLs and takes none. [`crate::Seeder::another`] and [`crate::Seeder::end`] make one.
 ///
 /// It holds no unit, so it does not keep the gate open. Once the gate is closed, its offers fail with `Closed`.
 ///

@@ -23,7 +23,6 @@ pub enum Logged {
 
 /// The sender's id, the number of its URLs that each queue accepted, its log, oldest line first, and a beginning of each queue's
 /// list.
-/// queue's list.
 /// It is a plain struct, so that a contract can say that the log has room. The beginnings have no bytes.
 #[derive(Drop)]
 pub struct Book {

@@ -56,7 +56,7 @@ fn crawl<K: Name, R: Wait>(
     unreachable!()
 }
 
-// Crawls from a seed, with a thread for each worker. A part that is lost because an allocation failed is missing at the end.
+// Crawls from a seed, with a thread for each worker. A sender that is lost because an allocation failed is missing at the end.
 fn crawl_from<K: Name + Send + Sync, R: Threads + Wait + Sync>(
     rt: &R,
     alloc: Global,

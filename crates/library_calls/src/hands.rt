@@ -22,14 +22,14 @@ pub enum Part<K: Name> {
     Gone,
 }
 
-/// A part, and its notes if it runs in a thread of its own.
+/// A hand, and its notes if it runs in a thread of its own.
 #[derive(Drop)]
 pub struct Hand<K: Name> {
     pub part: Part<K>,
     pub notes: Notes,
 }
 
-/// Adds the part at the end.
+/// Adds the hand at the end.
 pub fn push<K: Name>(alloc: Global, hands: &mut Vec<Hand<K>>, part: Part<K>) -> bool {
     let notes = Notes::new(alloc);
     match hands.push(Hand { part, notes }) {
@@ -122,7 +122,7 @@ pub fn go_on<K: Name, R: Wait>(rt: &R, frontier: &Frontier<K>, part: &mut Part<K
     drop(mem::replace(part, next_part(rt, frontier, before)));
 }
 
-/// Drops the part.
+/// Drops the hand.
 pub fn leave<K: Name>(part: &mut Part<K>) {
     drop(mem::replace(part, Part::Gone));
 }
@@ -183,7 +183,7 @@ fn put_turn<K: Name>(turn: Turn<K>, closed: &mut Vec<ClosedWorker<K>>) {
     }
 }
 
-// Adds the part to those that end a run, if it is one of them.
+// Adds the hand to those that end a run, if it is one of them.
 fn put<K: Name>(part: Part<K>, closed: &mut Vec<ClosedWorker<K>>, senders: &mut Vec<Sender<K>>) {
     match part {
         Part::Worker(turn) => put_turn(turn, closed),

@@ -1,4 +1,4 @@
-//! The books of all parts, compared with the lists of all queues.
+//! The books of all senders, compared with the lists of all queues.
 ghost use Rattle.std.specs.Prelude.{◌≡◌, ◌<◌, ◌≤◌, ℕ, List, true, false, IfOk, length, map};
 ghost use Rattle.std.specs.BTreeSet as sets;
 ghost use Rattle.crawl_queues.specs.declared.entry.Entry.{Entry};
@@ -49,7 +49,7 @@ fn all_senders_in(lists: &[AcceptedList], ids: &BTreeSet<u64>) -> bool
     true
 }
 
-/// Whether each entry of each list has its sender among the parts with these books.
+/// Whether each entry of each list has a sender among those with these books.
 pub fn all_have_parts(
     alloc: Global,
     lists: &[AcceptedList],

@@ -1,4 +1,4 @@
-//! The rights and the books of a run's parts.
+//! The rights and the books of a run's senders.
 ghost use Rattle.std.specs.Prelude.{◌≡◌, ◌<◌, ◌≤◌, ℕ, List, [], true, None, Some, IfOk, is_some, map, if◌then◌else◌};
 ghost use Rattle.std.specs.BTreeMap.{get, is_at};
 ghost use Rattle.std.specs.Ordering.{nat_cmp};
@@ -46,7 +46,7 @@ fn add_senders<K: Name>(
     Ok(())
 }
 
-// The rights to pop by queue, the books of all parts, and the first queue that two workers have, or `workers`.
+// The rights to pop by queue, the books of all senders, and the first queue that two workers have, or `workers`.
 pub fn gather<K: Name>(
     alloc: Global,
     mut closed: Vec<ClosedWorker<K>>,

@@ -23,7 +23,7 @@ pub struct Settled {
     pub workers: u32,
     /// The list of each queue.
     pub lists: Vec<AcceptedList>,
-    /// The books of all parts.
+    /// The books of all senders.
     pub books: Vec<Book>,
     /// The first queue that is in doubt, or `workers`.
     pub least: u32,
@@ -45,7 +45,7 @@ fn parts_of<K: Name>(frontier: Frontier<K>) -> (u32, Vec<Subqueue>, Vec<Mutex<Sh
     (workers, queues, shards)
 }
 
-/// A run's queues and books. An entry whose sender is not a part is reported before any book is compared.
+/// A run's queues and books. An entry whose sender is not one of the run is reported before any book is compared.
 pub fn settle_run<K: Name>(
     frontier: Frontier<K>,
     closed: Vec<ClosedWorker<K>>,

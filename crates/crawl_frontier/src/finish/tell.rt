@@ -1,4 +1,4 @@
-//! Extends what each part knows of the lists to what the lists are at the end. So each line of a log is true of the final
+//! Extends what each sender knows of the lists to what the lists are at the end. So each line of a log is true of the final
 //! list, and no line has to be read.
 ghost use Rattle.std.specs.Prelude.{◌≡◌, ◌<◌, ◌+◌, Some, length, map, slice_get, vec_len};
 ghost use Rattle.crawl_queues.specs.Growing.{Stays};
