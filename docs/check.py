@@ -111,6 +111,7 @@ class Unit(NamedTuple):
     text: str
     is_cell: bool = False
     is_title: bool = False
+    is_of_names: bool = False
 
 
 ITEM = re.compile(r"\s*(?:[-*#>]+|\d+\.)\s+")
@@ -221,7 +222,8 @@ def units_of_names(text: str) -> Iterator[Unit]:
         added = [name for name in dict.fromkeys(names) if name not in known]
         known.update(added)
         if added:
-            yield Unit(number, "; ".join(" ".join(WORD_OF_NAME.findall(name)) for name in added))
+            words = "; ".join(" ".join(WORD_OF_NAME.findall(name)) for name in added)
+            yield Unit(number, words, is_of_names=True)
 
 
 def functions_without_comment(text: str) -> Iterator[tuple[int, str]]:
@@ -364,7 +366,8 @@ ALL_NAMES = (*(it.name for it in PHRASES), CELLS, SENTENCES, NO_COMMENT)
 OF_SESSIONS = re.compile(r"docs/(?:SESSION|SCALE|FORMATS)\.md|clients/.*|crates/crawl_session/.*")
 SESSION = re.compile(
     r"\b(?:request|session|client|server|protocol|serve|co-process|http|redis|identity|sync)", re.I)
-# The word of the gate is one of the machine's.
+# The word of the gate is one of the machine's; these crates have names for it, and for those that senders remember.
+OF_GATES = re.compile(r"crates/(?:crawl_(?:core|frontier|gate|queues|run|session|tie)|link_offers)/.*")
 GATE = re.compile(
     r"\b(?:gate|atomic|closed|open|met|load|seat|sender|exchange|in (?:the )?words)", re.I)
 SENTENCE_END = re.compile(r"(?<![.]\.)[.?!][)\"'*]*\s")
@@ -418,7 +421,8 @@ def is_meant(it: Phrase, file: str, unit: Unit) -> bool:
     if it.name.startswith("answer"):
         return OF_SESSIONS.fullmatch(file) is not None or SESSION.search(unit.text) is not None
     if it.name.startswith("words"):
-        return GATE.search(unit.text) is not None
+        is_of_gate = unit.is_of_names and OF_GATES.fullmatch(file) is not None
+        return is_of_gate or GATE.search(unit.text) is not None
     if it.name.startswith("where"):
         return unit.is_title or unit.is_cell and len(unit.text.split()) < 4
     return False
