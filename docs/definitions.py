@@ -70,7 +70,7 @@ THEOREMS = (
     )),
     ("The program", (
         Calls("mercator", "commands.rt", ("run_words", "run_plan")),
-        Calls("mercator", "commands/words.rt", ("plan",)),
+        Calls("mercator", "commands/plan_parser.rt", ("plan",)),
     )),
 )
 

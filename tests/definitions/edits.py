@@ -20,7 +20,7 @@ EDITS: Tuple[Edit, ...] = (
     Edit("site_files.Kinds", 'is_html suffix = str_eq_ignore_ascii_case suffix (codes "html")', 'is_html suffix = bytes_eq suffix (codes "html")'),
     Edit("site_files.Own", "starts_at file.kind url && is_own_url files number url", "starts_at file.kind url"),
     # Documents: elements, the base, ids, references, styles, comments, scripts, templates, feeds, foreign content
-    Edit("html_links.Elements", 'wanted_of element.Area = wants (codes "href") [] []', 'wanted_of element.Area = wants (codes "src") [] []'),
+    Edit("html_links.Elements", 'names_of_attributes element.Area = attribute_names (codes "href") [] []', 'names_of_attributes element.Area = attribute_names (codes "src") [] []'),
     Edit("html_links.Links", "or_later (Some first) later = Some first", "or_later (Some first) later = if is_some later then later else Some first"),
     Edit("html_links.Links", 'anchors_with name v = if bytes_eq name (codes "a")', 'anchors_with name v = if bytes_eq name (codes "area")'),
     Edit("html_links.References", "if c == 38 then Go before Reference", "if c == 38 then Go (before ++ 38 ∷ []) Text"),

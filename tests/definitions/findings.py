@@ -177,7 +177,7 @@ class Check:
     def statements(self) -> Iterator[Statement]:
         """The statements about the report."""
         crawled, report, files = self.crawled, self.report, self.files.value
-        way_of = self.library.function("site_check.Told.way_of")
+        way_of = self.library.function("site_check.RowMeanings.way_of")
         yield Statement("redirects_of", lambda: equal(
             listed(map(way_of, items(report.redirects))), self.call("site_check.Broken.redirects_of", self.front, crawled.own)))
         yield Statement("totals_of", lambda: equal(report.totals, self.call(

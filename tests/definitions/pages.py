@@ -52,7 +52,7 @@ class Pages:
         if response[0] == "Missing" or not self.library.function("document_links.Texts.fits")(5, given):
             return Page(MISSING, None, (), None)
         number = self.numbers[response[1] if response[0] == "Found" else unlisted(response[1])]
-        answer = self.library.function("saved_site.TaskPages.answer_at")(self.files.value, number, given)
+        answer = self.library.function("saved_site.TaskPages.kind_at")(self.files.value, number, given)
         return self.answered(url, number, answer)
 
     def answered(self, url: bytes, number: int, answer: Value) -> Page:

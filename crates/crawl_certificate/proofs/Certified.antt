@@ -1,18 +1,18 @@
 -- A run without errors has the pages of exactly the URLs that can be reached.
-use Rattle.crawl_certificate.proofs.Prelude.{◌≡◌, ◌↔◌, inl, inr, ℕ, zero, suc, ◌+◌, ◌==◌, Bool, true, false, ◌&&◌, not, IsTrue, List, [], ◌∷◌, ◌++◌, map, None, refl, sym, ap, subst, ◌∙◌, arith, length-append, common_steps, Contains, bytes_eq, or_parts, and_parts, both_ways, false_from_ne_true, not-false, cond-true, cond-false, eqb-true, ne_eqb, Entry, Page, PageResult, is_accepted, has_result, stands_in, some_missing, seed_missing, not_fetched, link_missing, is_behind, is_linked, is_founded, unfounded, twice, first_fault, links_of, page_in}
-use Rattle.crawl_certificate.specs.Reachable.{GoesOn, IsWalk, Reachable, WalkOf}
+use Rattle.crawl_certificate.proofs.Prelude.{◌≡◌, ◌↔◌, inl, inr, ℕ, zero, suc, ◌+◌, ◌==◌, Bool, true, false, ◌&&◌, not, IsTrue, List, [], ◌∷◌, ◌++◌, map, None, refl, sym, ap, subst, ◌∙◌, arith, length-append, common_steps, Contains, bytes_eq, or_parts, and_parts, both_ways, false_from_ne_true, not-false, cond-true, cond-false, eqb-true, ne_eqb, Entry, Page, PageResult, is_accepted, has_result, contains_url, some_missing, seed_missing, not_fetched, link_missing, is_one_hop_after, is_linked, is_founded, unfounded, twice, first_error, links_of, page_in}
+use Rattle.crawl_certificate.specs.Reachable.{Continues, IsWalk, Reachable, WalkOf}
 use Rattle.crawl_certificate.proofs.Lists.{no_element, here, there, first_or_later, some_has, any_from, none_has, same_text, text_itself}
 
 -- the run has none of the five errors
-pub record NoFault (allowed : List ℕ → Bool) (seeds : List (List ℕ)) (entries : List Entry) (results : List PageResult) : Type 0 where
+pub record NoError (allowed : List ℕ → Bool) (seeds : List (List ℕ)) (entries : List Entry) (results : List PageResult) : Type 0 where
   pub seeds_accepted : seed_missing allowed seeds entries ≡ false
   pub fetched : not_fetched entries results ≡ false
   pub links_accepted : link_missing allowed entries results ≡ false
   pub founded : unfounded allowed seeds entries results ≡ false
   pub once : twice results ≡ false
 
-pub no_fault : (allowed : List ℕ → Bool) (seeds : List (List ℕ)) (entries : List Entry) (results : List PageResult) → first_fault allowed seeds entries results ≡ None → NoFault allowed seeds entries results
-no_fault allowed seeds entries results h = grind arith
+pub no_error : (allowed : List ℕ → Bool) (seeds : List (List ℕ)) (entries : List Entry) (results : List PageResult) → first_error allowed seeds entries results ≡ None → NoError allowed seeds entries results
+no_error allowed seeds entries results h = grind arith
 
 -- ---- what the tests mean
 
@@ -32,8 +32,8 @@ entry_with entries url h = grind (arith, some_has, same_text)
 pub result_with : (results : List PageResult) (url : List ℕ) → has_result results url ≡ true → ResultWith results url
 result_with results url h = grind (arith, some_has, same_text)
 
-text_stands : (urls : List (List ℕ)) (url : List ℕ) → stands_in urls url ≡ true → Contains urls url
-text_stands urls url h = grind (arith, some_has, same_text)
+text_holds : (urls : List (List ℕ)) (url : List ℕ) → contains_url urls url ≡ true → Contains urls url
+text_holds urls url h = grind (arith, some_has, same_text)
 
 pub in_map : {X Y : Type 0} (f : X → Y) (xs : List X) (x : X) → Contains xs x → Contains (map f xs) (f x)
 in_map f xs x has = grind (arith, common_steps, no_element, first_or_later, here, there)
@@ -61,40 +61,40 @@ page_at_result (x ∷ xs) r once has =
 
 -- ---- walks
 
-GoesOn-push : (page : List ℕ → Page) (allowed : List ℕ → Bool) (url : List ℕ) (rest : List (List ℕ)) (end next : List ℕ) → GoesOn page allowed url rest end → Contains (links_of (page end)) next → IsTrue (allowed next) → GoesOn page allowed url (rest ++ next ∷ []) next
-GoesOn-push page allowed url [] end next goes link allows = (subst (λ u. Contains (links_of (page u)) next) (sym goes) link, allows, refl)
-GoesOn-push page allowed url (x ∷ rest) end next goes link allows = (goes.0, goes.1, GoesOn-push page allowed x rest end next goes.2 link allows)
+Continues-push : (page : List ℕ → Page) (allowed : List ℕ → Bool) (url : List ℕ) (rest : List (List ℕ)) (end next : List ℕ) → Continues page allowed url rest end → Contains (links_of (page end)) next → IsTrue (allowed next) → Continues page allowed url (rest ++ next ∷ []) next
+Continues-push page allowed url [] end next goes link allows = (subst (λ u. Contains (links_of (page u)) next) (sym goes) link, allows, refl)
+Continues-push page allowed url (x ∷ rest) end next goes link allows = (goes.0, goes.1, Continues-push page allowed x rest end next goes.2 link allows)
 
 IsWalk-push : (page : List ℕ → Page) (allowed : List ℕ → Bool) (seeds walk : List (List ℕ)) (end next : List ℕ) → IsWalk page allowed seeds walk end → Contains (links_of (page end)) next → IsTrue (allowed next) → IsWalk page allowed seeds (walk ++ next ∷ []) next
-IsWalk-push page allowed seeds walk end next walks link allows = grind (arith, GoesOn-push)
+IsWalk-push page allowed seeds walk end next walks link allows = grind (arith, Continues-push)
 
 -- ---- the entries have walks, by induction on their hops
 
 linked_walk : (page : List ℕ → Page) (allowed : List ℕ → Bool) (seeds : List (List ℕ)) (entries : List Entry) (results : List PageResult) (hops : ℕ) → ((r : PageResult) → Contains results r → page r.url ≡ r.page) → ((e : Entry) → Contains entries e → e.hops ≡ hops → WalkOf page allowed seeds hops e.url) → (e : Entry) → e.hops ≡ suc hops → IsTrue (allowed e.url) → is_linked entries results e ≡ true → WalkOf page allowed seeds (suc hops) e.url
 linked_walk page allowed seeds entries results hops agrees before e far allows linked =
-    let from = some_has (λ (r : PageResult). stands_in (links_of r.page) e.url && is_behind entries r.url e) results linked in
+    let from = some_has (λ (r : PageResult). contains_url (links_of r.page) e.url && is_one_hop_after entries r.url e) results linked in
     let r = from.0 in
-    let parts = and_parts (stands_in (links_of r.page) e.url) (is_behind entries r.url e) from.2 in
-    let behind = some_has (λ (b : Entry). bytes_eq b.url r.url && e.hops == b.hops + 1) entries parts.1 in
-    let b = behind.0 in
-    let fits = and_parts (bytes_eq b.url r.url) (e.hops == b.hops + 1) behind.2 in
+    let parts = and_parts (contains_url (links_of r.page) e.url) (is_one_hop_after entries r.url e) from.2 in
+    let following = some_has (λ (b : Entry). bytes_eq b.url r.url && e.hops == b.hops + 1) entries parts.1 in
+    let b = following.0 in
+    let fits = and_parts (bytes_eq b.url r.url) (e.hops == b.hops + 1) following.2 in
     let same : b.url ≡ r.url = same_text b.url r.url fits.0 in
     let count : e.hops ≡ b.hops + 1 = eqb-true e.hops (b.hops + 1) fits.1 in
     let nearer : b.hops ≡ hops = omega (arith, count, far) in
-    let walk = before b behind.1 nearer in
+    let walk = before b following.1 nearer in
     let found : page b.url ≡ r.page = ap page same ∙ agrees r from.1 in
-    let link : Contains (links_of (page b.url)) e.url = subst (λ p. Contains (links_of p) e.url) (sym found) (text_stands (links_of r.page) e.url parts.0) in
+    let link : Contains (links_of (page b.url)) e.url = subst (λ p. Contains (links_of p) e.url) (sym found) (text_holds (links_of r.page) e.url parts.0) in
     record {
       walk = walk.walk ++ e.url ∷ [];
       leads = IsWalk-push page allowed seeds walk.walk b.url e.url walk.leads link allows;
       long = omega (arith, length-append walk.walk (e.url ∷ []), walk.long);
     }
 
-founded_entry : (allowed : List ℕ → Bool) (seeds : List (List ℕ)) (entries : List Entry) (results : List PageResult) → NoFault allowed seeds entries results → (e : Entry) → Contains entries e → is_founded allowed seeds entries results e ≡ true
+founded_entry : (allowed : List ℕ → Bool) (seeds : List (List ℕ)) (entries : List Entry) (results : List PageResult) → NoError allowed seeds entries results → (e : Entry) → Contains entries e → is_founded allowed seeds entries results e ≡ true
 founded_entry allowed seeds entries results clear e among = grind (arith, common_steps, or_parts, not-false, none_has)
 
-pub entry_walk : (page : List ℕ → Page) (allowed : List ℕ → Bool) (seeds : List (List ℕ)) (entries : List Entry) (results : List PageResult) → ((r : PageResult) → Contains results r → page r.url ≡ r.page) → NoFault allowed seeds entries results → (hops : ℕ) (e : Entry) → Contains entries e → e.hops ≡ hops → WalkOf page allowed seeds hops e.url
-entry_walk page allowed seeds entries results agrees clear zero e among far = grind (arith, common_steps, and_parts, founded_entry, cond-true, text_stands)
+pub entry_walk : (page : List ℕ → Page) (allowed : List ℕ → Bool) (seeds : List (List ℕ)) (entries : List Entry) (results : List PageResult) → ((r : PageResult) → Contains results r → page r.url ≡ r.page) → NoError allowed seeds entries results → (hops : ℕ) (e : Entry) → Contains entries e → e.hops ≡ hops → WalkOf page allowed seeds hops e.url
+entry_walk page allowed seeds entries results agrees clear zero e among far = grind (arith, common_steps, and_parts, founded_entry, cond-true, text_holds)
 entry_walk page allowed seeds entries results agrees clear (suc hops) e among far = grind (arith, common_steps, and_parts, founded_entry, ne_eqb, cond-false, linked_walk, entry_walk page allowed seeds entries results agrees clear hops)
 
 -- ---- what a walk reaches was accepted, by induction on the walk
@@ -111,27 +111,27 @@ accepted_has_result entries results url fetched accepted =
     let has : has_result results found.entry.url ≡ true = not-false _ (none_has (λ (e : Entry). not (has_result results e.url)) entries found.entry fetched found.among) in
     result_with results url (subst (λ u. has_result results u ≡ true) found.has has)
 
-next_accepted : (page : List ℕ → Page) (allowed : List ℕ → Bool) (seeds : List (List ℕ)) (entries : List Entry) (results : List PageResult) → ((r : PageResult) → Contains results r → page r.url ≡ r.page) → NoFault allowed seeds entries results → (url next : List ℕ) → is_accepted entries url ≡ true → Contains (links_of (page url)) next → IsTrue (allowed next) → is_accepted entries next ≡ true
+next_accepted : (page : List ℕ → Page) (allowed : List ℕ → Bool) (seeds : List (List ℕ)) (entries : List Entry) (results : List PageResult) → ((r : PageResult) → Contains results r → page r.url ≡ r.page) → NoError allowed seeds entries results → (url next : List ℕ) → is_accepted entries url ≡ true → Contains (links_of (page url)) next → IsTrue (allowed next) → is_accepted entries next ≡ true
 next_accepted page allowed seeds entries results agrees clear url next accepted link allows =
     let r = accepted_has_result entries results url clear.fetched accepted in
     let found : page url ≡ r.one.page = ap page (sym r.has) ∙ agrees r.one r.among in
     let none = none_has (λ (x : PageResult). some_missing allowed (is_accepted entries) (links_of x.page)) results r.one clear.links_accepted r.among in
     accepted_missing allowed (is_accepted entries) (links_of r.one.page) next none (subst (λ p. Contains (links_of p) next) found link) allows
 
-walk_accepted : (page : List ℕ → Page) (allowed : List ℕ → Bool) (seeds : List (List ℕ)) (entries : List Entry) (results : List PageResult) → ((r : PageResult) → Contains results r → page r.url ≡ r.page) → NoFault allowed seeds entries results → (url : List ℕ) (rest : List (List ℕ)) (end : List ℕ) → is_accepted entries url ≡ true → GoesOn page allowed url rest end → is_accepted entries end ≡ true
+walk_accepted : (page : List ℕ → Page) (allowed : List ℕ → Bool) (seeds : List (List ℕ)) (entries : List Entry) (results : List PageResult) → ((r : PageResult) → Contains results r → page r.url ≡ r.page) → NoError allowed seeds entries results → (url : List ℕ) (rest : List (List ℕ)) (end : List ℕ) → is_accepted entries url ≡ true → Continues page allowed url rest end → is_accepted entries end ≡ true
 walk_accepted page allowed seeds entries results agrees clear url [] end accepted goes = subst (λ u. is_accepted entries u ≡ true) goes accepted
 walk_accepted page allowed seeds entries results agrees clear url (next ∷ rest) end accepted goes =
     walk_accepted page allowed seeds entries results agrees clear next rest end (next_accepted page allowed seeds entries results agrees clear url next accepted goes.0 goes.1) goes.2
 
-pub reached_accepted : (page : List ℕ → Page) (allowed : List ℕ → Bool) (seeds : List (List ℕ)) (entries : List Entry) (results : List PageResult) → ((r : PageResult) → Contains results r → page r.url ≡ r.page) → NoFault allowed seeds entries results → (walk : List (List ℕ)) (end : List ℕ) → IsWalk page allowed seeds walk end → is_accepted entries end ≡ true
+pub reached_accepted : (page : List ℕ → Page) (allowed : List ℕ → Bool) (seeds : List (List ℕ)) (entries : List Entry) (results : List PageResult) → ((r : PageResult) → Contains results r → page r.url ≡ r.page) → NoError allowed seeds entries results → (walk : List (List ℕ)) (end : List ℕ) → IsWalk page allowed seeds walk end → is_accepted entries end ≡ true
 reached_accepted page allowed seeds entries results agrees clear walk end walks = grind (arith, common_steps, walk_accepted, accepted_missing)
 
 -- ---- together
 
-pub result_accepted : (allowed : List ℕ → Bool) (seeds : List (List ℕ)) (entries : List Entry) (results : List PageResult) → NoFault allowed seeds entries results → (r : PageResult) → Contains results r → is_accepted entries r.url ≡ true
+pub result_accepted : (allowed : List ℕ → Bool) (seeds : List (List ℕ)) (entries : List Entry) (results : List PageResult) → NoError allowed seeds entries results → (r : PageResult) → Contains results r → is_accepted entries r.url ≡ true
 result_accepted allowed seeds entries results clear r among = grind (arith, common_steps, or_parts, not-false, none_has)
 
-pub results_reached : (page : List ℕ → Page) (allowed : List ℕ → Bool) (seeds : List (List ℕ)) (entries : List Entry) (results : List PageResult) → ((r : PageResult) → Contains results r → page r.url ≡ r.page) → NoFault allowed seeds entries results → (url : List ℕ) → Contains (map (λ r. r.url) results) url ↔ Reachable page allowed seeds url
+pub results_reached : (page : List ℕ → Page) (allowed : List ℕ → Bool) (seeds : List (List ℕ)) (entries : List Entry) (results : List PageResult) → ((r : PageResult) → Contains results r → page r.url ≡ r.page) → NoError allowed seeds entries results → (url : List ℕ) → Contains (map (λ r. r.url) results) url ↔ Reachable page allowed seeds url
 results_reached page allowed seeds entries results agrees clear url = (
   λ has.
       let r = from_map (λ (r : PageResult). r.url) results url has in

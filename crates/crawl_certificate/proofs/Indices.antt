@@ -1,5 +1,5 @@
 -- The index of a URL among the entries of all queues, computed from its index in its own queue.
-use Rattle.crawl_certificate.proofs.Prelude.{◌≡◌, inl, inr, ℕ, zero, suc, ◌+◌, ◌<◌, true, List, [], ◌∷◌, ◌++◌, length, take, get_or, slice_get, Option, Some, None, is_some, refl, sym, ap, subst, ◌∙◌, arith, length-append, common_steps, Contains, bytes_eq, cases_lt, false_from_ne_true, length-map, map-append, All-contains, slice_get_within, get_or_from_slice_get, subqueue_of, Entry, AccountId, get_last, entries_in, DifferByUrl, is_accepted, entry_urls, at_this, stands_at, Finds, AreFirsts, AreLaidOut, get_before}
+use Rattle.crawl_certificate.proofs.Prelude.{◌≡◌, inl, inr, ℕ, zero, suc, ◌+◌, ◌<◌, true, List, [], ◌∷◌, ◌++◌, length, take, get_or, slice_get, Option, Some, None, is_some, refl, sym, ap, subst, ◌∙◌, arith, length-append, common_steps, Contains, bytes_eq, cases_lt, false_from_ne_true, length-map, map-append, All-contains, slice_get_within, get_or_from_slice_get, subqueue_of, Entry, AccountId, get_last, entries_in, DifferByUrl, is_accepted, entry_urls, at_this, has_url_at, Finds, AreFirsts, AreLaidOut, get_before}
 use Rattle.std.proofs.Common.{if◌then◌else◌, option_map}
 use Rattle.hash_index.specs.Lists.{index_of}
 use Rattle.hash_index.proofs.Listed.{found_at, absent_at, has_index}
@@ -21,9 +21,9 @@ add_both a b c is o = grind arith
 -- ---- a text's index in two lists, one after the other
 
 -- if the first list does not have the text, its index is that in the second list, plus the length of the first
-behind : (front back : List (List ℕ)) (key : List ℕ) → index_of front key ≡ None → index_of (front ++ back) key ≡ option_map (λ i. length front + i) (index_of back key)
-behind [] back key none = grind arith
-behind (text ∷ front) back key none = grind (arith, behind front back key)
+following : (front back : List (List ℕ)) (key : List ℕ) → index_of front key ≡ None → index_of (front ++ back) key ≡ option_map (λ i. length front + i) (index_of back key)
+following [] back key none = grind arith
+following (text ∷ front) back key none = grind (arith, following front back key)
 
 -- if the second list does not have the text, its index is that in the first list
 ahead : (front back : List (List ℕ)) (key : List ℕ) → index_of back key ≡ None → index_of (front ++ back) key ≡ index_of front key
@@ -61,7 +61,7 @@ in_queues subqueue n (es ∷ rest) from url (suc queue) own here at =
     let before = entries_in (take queue rest) in
     let long : length (es ++ before) ≡ length (entry_urls es) + length before = omega (arith, length-append es before, length-map es (λ (e : Entry). e.url)) in
     ap (λ us. index_of us url) (map-append (λ (e : Entry). e.url) es (entries_in rest))
-    ∙ behind (entry_urls es) (entry_urls (entries_in rest)) url first
+    ∙ following (entry_urls es) (entry_urls (entries_in rest)) url first
     ∙ ap (option_map (λ i. length (entry_urls es) + i)) (in_queues subqueue (suc n) rest from.2 url queue own next at)
     ∙ add_both (length (entry_urls es)) (length before) (length (es ++ before)) long (index_of (entry_urls own) url)
 
@@ -73,7 +73,7 @@ module _ (account : AccountId) (all : List Entry) (firsts : List ℕ) (are : Are
   before = length (entries_in (take queue account.queues))
 
   in_account : (o : Option ℕ) → ((es : List Entry) → slice_get account.queues queue ≡ Some es → o ≡ index_of (entry_urls es) url) → index_of (entry_urls all) url ≡ option_map (λ i. before + i) o
-  in_account o told =
+  in_account o least =
       let there = are.first queue below in
       let queues = take account.workers account.queues in
       let from_zero : queue ≡ 0 + queue = omega arith in
@@ -82,7 +82,7 @@ module _ (account : AccountId) (all : List Entry) (firsts : List ℕ) (are : Are
       let first : length (entries_in (take queue queues)) ≡ before = ap (λ (qs : List (List Entry)). length (entries_in qs)) (take_less account.workers queue account.queues below) in
       ap (λ (es : List Entry). index_of (entry_urls es) url) are.whole ∙ whole
       ∙ ap (λ n. option_map (λ i. n + i) (index_of (entry_urls there.0) url)) first
-      ∙ ap (option_map (λ i. before + i)) (sym (told there.0 there.1))
+      ∙ ap (option_map (λ i. before + i)) (sym (least there.0 there.1))
 
 -- one more queue
 pub firsts_push : (n : ℕ) (queues : List (List Entry)) (firsts : List ℕ) (first : ℕ) (own : List Entry) → length firsts ≡ n → first ≡ length (entries_in (take n queues)) → slice_get queues n ≡ Some own
@@ -126,19 +126,19 @@ answer all apart url o is = record { found = finds_of all apart url o is; accept
 
 module _ (account : AccountId) (all : List Entry) (firsts : List ℕ) (are : AreLaidOut account all firsts) (url : List ℕ) (queue : ℕ) (own : queue ≡ subqueue_of url account.workers) (below : queue < account.workers) where
   pub answers_absent : ((es : List Entry) → slice_get account.queues queue ≡ Some es → None ≡ index_of (entry_urls es) url) → IsAnswer all url None
-  answers_absent told = answer all (laid_apart account all firsts are) url None (in_account account all firsts are url queue own below None told)
+  answers_absent least = answer all (laid_apart account all firsts are) url None (in_account account all firsts are url queue own below None least)
 
   pub queue_within : queue < length firsts
   queue_within = let there = are.first queue below in slice_get_within firsts queue (before account all firsts are url queue own below) there.2
 
   pub answers_there : (first i : ℕ) → first ≡ get_or firsts queue first → ((es : List Entry) → slice_get account.queues queue ≡ Some es → Some i ≡ index_of (entry_urls es) url) → IsAnswer all url (Some (first + i))
-  answers_there first i at told =
+  answers_there first i at least =
       let there = are.first queue below in
       let is : before account all firsts are url queue own below ≡ first = sym (at ∙ get_or_from_slice_get firsts queue (before account all firsts are url queue own below) first there.2) in
-      answer all (laid_apart account all firsts are) url (Some (first + i)) (in_account account all firsts are url queue own below (Some i) told ∙ ap (λ n. Some (n + i)) is)
+      answer all (laid_apart account all firsts are) url (Some (first + i)) (in_account account all firsts are url queue own below (Some i) least ∙ ap (λ n. Some (n + i)) is)
 
 -- if the entry at a guessed index has the URL, the guess is right
-pub answers_guess : (account : AccountId) (all : List Entry) (firsts : List ℕ) → AreLaidOut account all firsts → (url : List ℕ) (k : ℕ) → stands_at all k url ≡ true → IsAnswer all url (Some k)
+pub answers_guess : (account : AccountId) (all : List Entry) (firsts : List ℕ) → AreLaidOut account all firsts → (url : List ℕ) (k : ℕ) → has_url_at all k url ≡ true → IsAnswer all url (Some k)
 answers_guess account all firsts are url k stands = of_this (slice_get all k) refl stands
   where
     of_this : (o : Option Entry) → slice_get all k ≡ o → at_this o url ≡ true → IsAnswer all url (Some k)

@@ -1,5 +1,5 @@
 -- What is known while entries, seeds and results are looked up.
-use Rattle.crawl_certificate.proofs.Prelude.{◌≡◌, inl, inr, ℕ, zero, suc, ◌+◌, ◌<◌, ◌==◌, Bool, true, false, ◌||◌, ◌&&◌, cond, List, [], ◌∷◌, ◌++◌, length, map, replicate, get_or, set, slice_get, Some, None, refl, sym, ap, subst, ◌∙◌, arith, common_steps, Bor, Contains, list_any, bytes_eq, or-false, cases_Bool, both_ways, false_from_ne_true, and_parts, and_from, or_right, slice_get_within, get_or_from_slice_get, get_or-map, list_any-append, Entry, same_at, PageResult, has_result, stands_in, is_behind, is_linked, links_of, Finds, Urls, is_in, pointed}
+use Rattle.crawl_certificate.proofs.Prelude.{◌≡◌, inl, inr, ℕ, zero, suc, ◌+◌, ◌<◌, ◌==◌, Bool, true, false, ◌||◌, ◌&&◌, cond, List, [], ◌∷◌, ◌++◌, length, map, replicate, get_or, set, slice_get, Some, None, refl, sym, ap, subst, ◌∙◌, arith, common_steps, Bor, Contains, list_any, bytes_eq, or-false, cases_Bool, both_ways, false_from_ne_true, and_parts, and_from, or_right, slice_get_within, get_or_from_slice_get, get_or-map, list_any-append, Entry, same_at, PageResult, has_result, contains_url, is_one_hop_after, is_linked, links_of, Finds, Urls, is_in, pointed}
 use Rattle.std.specs.BTreeSet as sorted
 use Rattle.hash_order.specs.HashOrder.{by_hash, by_hash_ties}
 use Rattle.crawl_certificate.proofs.Lists.{no_element, first_or_later, some_has, any_from, same_text, text_itself}
@@ -87,13 +87,13 @@ pub marked : (entries : List Entry) (url : List ℕ) (k : ℕ) → Finds entries
 marked entries url k found known test e at passes = grind (arith, set_agrees, same_at, or_none, own_url, text_itself, false_from_ne_true)
 
 -- one more link
-pub marks_push : (entries : List Entry) (links : List (List ℕ)) (link : List ℕ) (known test : Entry → Bool) → map (λ e. (known e || (stands_in links e.url && test e)) || (bytes_eq link e.url && test e)) entries ≡ map (λ e. known e || (stands_in (links ++ link ∷ []) e.url && test e)) entries
+pub marks_push : (entries : List Entry) (links : List (List ℕ)) (link : List ℕ) (known test : Entry → Bool) → map (λ e. (known e || (contains_url links e.url && test e)) || (bytes_eq link e.url && test e)) entries ≡ map (λ e. known e || (contains_url (links ++ link ∷ []) e.url && test e)) entries
 marks_push entries links link known test = grind (arith, maps_agree, any_push)
 
 -- ---- entries one hop after the entry of a URL
 
-behind_found : (entries : List Entry) (url : List ℕ) (k : ℕ) → Finds entries url (Some k) → (before : Entry) → slice_get entries k ≡ Some before → (e : Entry) → (e.hops == before.hops + 1) ≡ is_behind entries url e
-behind_found entries url k found before at e =
+after_found : (entries : List Entry) (url : List ℕ) (k : ℕ) → Finds entries url (Some k) → (before : Entry) → slice_get entries k ≡ Some before → (e : Entry) → (e.hops == before.hops + 1) ≡ is_one_hop_after entries url e
+after_found entries url k found before at e =
     let p : Entry → Bool = λ b. bytes_eq b.url url && e.hops == b.hops + 1 in
     elim (cases_Bool (e.hops == before.hops + 1)) [
       | inl next ↦
@@ -110,8 +110,8 @@ behind_found entries url k found before at e =
           both_ways _ not_next (subst (λ z. (e.hops == z.hops + 1) ≡ true) (sym one) fits.1)))
     ]
 
-behind_none : (entries : List Entry) (url : List ℕ) → Finds entries url None → (e : Entry) → is_behind entries url e ≡ false
-behind_none entries url none e =
+after_none : (entries : List Entry) (url : List ℕ) → Finds entries url None → (e : Entry) → is_one_hop_after entries url e ≡ false
+after_none entries url none e =
     let p : Entry → Bool = λ b. bytes_eq b.url url && e.hops == b.hops + 1 in
     false_from_ne_true _ (λ has.
     let some = some_has p entries has in
@@ -121,15 +121,15 @@ behind_none entries url none e =
     both_ways _ (none there.0 some.0 there.1) (subst (λ u. bytes_eq url u ≡ true) same_url (text_itself url)))
 
 -- the marks that the links of a result give, by the hops of the result's entry
-pub behind_marks : (entries : List Entry) (r : PageResult) (k : ℕ) → Finds entries r.url (Some k) → (before : Entry) → slice_get entries k ≡ Some before → (known : Entry → Bool) → map (λ e. known e || (stands_in (links_of r.page) e.url && e.hops == before.hops + 1)) entries ≡ map (λ e. known e || (stands_in (links_of r.page) e.url && is_behind entries r.url e)) entries
-behind_marks entries r k found before at known = grind (arith, maps_agree, behind_found)
+pub after_marks : (entries : List Entry) (r : PageResult) (k : ℕ) → Finds entries r.url (Some k) → (before : Entry) → slice_get entries k ≡ Some before → (known : Entry → Bool) → map (λ e. known e || (contains_url (links_of r.page) e.url && e.hops == before.hops + 1)) entries ≡ map (λ e. known e || (contains_url (links_of r.page) e.url && is_one_hop_after entries r.url e)) entries
+after_marks entries r k found before at known = grind (arith, maps_agree, after_found)
 
 -- a result whose URL is not accepted gives no marks
-pub behind_no_marks : (entries : List Entry) (r : PageResult) → Finds entries r.url None → (known : Entry → Bool) → map known entries ≡ map (λ e. known e || (stands_in (links_of r.page) e.url && is_behind entries r.url e)) entries
-behind_no_marks entries r none known = grind (arith, maps_agree, or_none_last, behind_none)
+pub after_no_marks : (entries : List Entry) (r : PageResult) → Finds entries r.url None → (known : Entry → Bool) → map known entries ≡ map (λ e. known e || (contains_url (links_of r.page) e.url && is_one_hop_after entries r.url e)) entries
+after_no_marks entries r none known = grind (arith, maps_agree, or_none_last, after_none)
 
 -- one more result
-pub linked_push : (entries : List Entry) (results : List PageResult) (r : PageResult) (known : Entry → Bool) → map (λ e. (known e || is_linked entries results e) || (stands_in (links_of r.page) e.url && is_behind entries r.url e)) entries ≡ map (λ e. known e || is_linked entries (results ++ r ∷ []) e) entries
+pub linked_push : (entries : List Entry) (results : List PageResult) (r : PageResult) (known : Entry → Bool) → map (λ e. (known e || is_linked entries results e) || (contains_url (links_of r.page) e.url && is_one_hop_after entries r.url e)) entries ≡ map (λ e. known e || is_linked entries (results ++ r ∷ []) e) entries
 linked_push entries results r known = grind (arith, maps_agree, any_push)
 
 -- ---- entries with a result

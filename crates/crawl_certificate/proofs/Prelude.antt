@@ -1,10 +1,10 @@
 -- The names that most proofs cite, passed on from one place. Declares nothing.
 pub use Rattle.crawl_certificate.specs.AccountEntries.{DifferByUrl, entries_in, entries_of}
-pub use Rattle.crawl_certificate.specs.CertFaults.{first_fault, first_of, has_result, is_accepted, is_behind, is_founded, is_linked, link_missing, not_fetched, seed_missing, some_missing, stands_in, twice, unfounded}
-pub use Rattle.crawl_certificate.specs.Certificate.{AllowedAreIn, ArePages, AreReachable, CountsOf, IsAscending, IsCrawl, NothingLost, entry_urls, result_urls, unless_fault}
-pub use Rattle.crawl_certificate.specs.Culprits.{HasNoneAt, IsCulprit, Names, NamesCulprit, NamesFirst, first_named, is_a_link, is_a_stray, is_at_fault, is_lost, is_twice, is_unfounded}
+pub use Rattle.crawl_certificate.specs.CertErrors.{first_error, first_of, has_result, is_accepted, is_one_hop_after, is_founded, is_linked, link_missing, not_fetched, seed_missing, some_missing, contains_url, twice, unfounded}
+pub use Rattle.crawl_certificate.specs.Certificate.{AllowedAreIn, ArePages, AreReachable, CountsOf, IsAscending, IsCrawl, NothingLost, entry_urls, result_urls, unless_error}
+pub use Rattle.crawl_certificate.specs.Culprits.{HasNoneAt, IsCulprit, Names, NamesCulprit, NamesFirst, first_named, is_a_link, is_a_stray, shows_error, is_lost, is_twice, is_unfounded}
 pub use Rattle.crawl_certificate.specs.Least.{IsLeast, is_below, lesser, url_if, url_of}
-pub use Rattle.crawl_certificate.specs.Lookups.{Finds, Urls, at_this, is_in, pointed, stands_at}
+pub use Rattle.crawl_certificate.specs.Lookups.{Finds, Urls, at_this, is_in, pointed, has_url_at}
 pub use Rattle.crawl_certificate.specs.Marks.{AreMarks, AreTogether, MarksOnly, in_one}
 pub use Rattle.crawl_certificate.specs.Queues.{AreFirsts, AreLaidOut, AreQueues}
 pub use Rattle.crawl_certificate.specs.Reachable.{WalkOf}

@@ -1,12 +1,12 @@
 -- Crawls over pages that are the same for each URL that is reached.
 use Rattle.crawl_certificate.proofs.Prelude.{◌≡◌, ℕ, Bool, List, [], ◌∷◌, ◌++◌, refl, sym, subst, ◌∙◌, All-contains, All-contains_itself, All-weaker, Contains, Page, PageResult, links_of, result_urls, IsCrawl}
 use Rattle.std.specs.Prelude.{IsTrue}
-use Rattle.crawl_certificate.specs.Reachable.{AgreeOnReached, GoesOn, IsWalk, Reachable}
+use Rattle.crawl_certificate.specs.Reachable.{AgreeOnReached, Continues, IsWalk, Reachable}
 use Rattle.crawl_certificate.proofs.Certified.{in_map}
 
 -- ---- one URL further
 
-goes_further : (page : List ℕ → Page) (allowed : List ℕ → Bool) (url : List ℕ) (rest : List (List ℕ)) (end next : List ℕ) → GoesOn page allowed url rest end → Contains (links_of (page end)) next → IsTrue (allowed next) → GoesOn page allowed url (rest ++ next ∷ []) next
+goes_further : (page : List ℕ → Page) (allowed : List ℕ → Bool) (url : List ℕ) (rest : List (List ℕ)) (end next : List ℕ) → Continues page allowed url rest end → Contains (links_of (page end)) next → IsTrue (allowed next) → Continues page allowed url (rest ++ next ∷ []) next
 goes_further page allowed url [] end next goes link allow = (subst (λ u. Contains (links_of (page u)) next) (sym goes) link, allow, refl)
 goes_further page allowed url (one ∷ rest) end next goes link allow = (goes.0, goes.1, goes_further page allowed one rest end next goes.2 link allow)
 
@@ -25,7 +25,7 @@ reach_seed page allowed seeds url seed allow = record { walk = url ∷ []; leads
 
 -- ---- the same walks
 
-goes_there : (page other : List ℕ → Page) (allowed : List ℕ → Bool) (seeds : List (List ℕ)) → AgreeOnReached page other allowed seeds → (url : List ℕ) → Reachable page allowed seeds url → (rest : List (List ℕ)) (end : List ℕ) → GoesOn page allowed url rest end → GoesOn other allowed url rest end
+goes_there : (page other : List ℕ → Page) (allowed : List ℕ → Bool) (seeds : List (List ℕ)) → AgreeOnReached page other allowed seeds → (url : List ℕ) → Reachable page allowed seeds url → (rest : List (List ℕ)) (end : List ℕ) → Continues page allowed url rest end → Continues other allowed url rest end
 goes_there page other allowed seeds agree url reach [] end goes = goes
 goes_there page other allowed seeds agree url reach (next ∷ rest) end goes = (
   subst (λ p. Contains (links_of p) next) (sym (agree url reach)) goes.0,
@@ -33,7 +33,7 @@ goes_there page other allowed seeds agree url reach (next ∷ rest) end goes = (
   goes_there page other allowed seeds agree next (reach_next page allowed seeds url next reach goes.0 goes.1) rest end goes.2,
 )
 
-goes_back : (page other : List ℕ → Page) (allowed : List ℕ → Bool) (seeds : List (List ℕ)) → AgreeOnReached page other allowed seeds → (url : List ℕ) → Reachable page allowed seeds url → (rest : List (List ℕ)) (end : List ℕ) → GoesOn other allowed url rest end → GoesOn page allowed url rest end
+goes_back : (page other : List ℕ → Page) (allowed : List ℕ → Bool) (seeds : List (List ℕ)) → AgreeOnReached page other allowed seeds → (url : List ℕ) → Reachable page allowed seeds url → (rest : List (List ℕ)) (end : List ℕ) → Continues other allowed url rest end → Continues page allowed url rest end
 goes_back page other allowed seeds agree url reach [] end goes = goes
 goes_back page other allowed seeds agree url reach (next ∷ rest) end goes =
     let link = subst (λ p. Contains (links_of p) next) (agree url reach) goes.0 in (

@@ -1,5 +1,5 @@
 -- What two passes over results find, combined.
-use Rattle.crawl_certificate.proofs.Prelude.{◌≡◌, ℕ, zero, suc, ◌<◌, ◌≤◌, Bool, ◌||◌, ◌&&◌, not, List, [], ◌∷◌, ◌++◌, length, map, set, get_or, refl, sym, ap, subst, ◌∙◌, arith, list_any, bytes_eq, length-map, list_any-append, Entry, PageResult, links_of, is_accepted, has_result, stands_in, is_behind, is_lost, is_a_link, is_a_stray, is_twice, IsLeast, url_of, AreMarks, AreTogether, in_one, Marks}
+use Rattle.crawl_certificate.proofs.Prelude.{◌≡◌, ℕ, zero, suc, ◌<◌, ◌≤◌, Bool, ◌||◌, ◌&&◌, not, List, [], ◌∷◌, ◌++◌, length, map, set, get_or, refl, sym, ap, subst, ◌∙◌, arith, list_any, bytes_eq, length-map, list_any-append, Entry, PageResult, links_of, is_accepted, has_result, contains_url, is_one_hop_after, is_lost, is_a_link, is_a_stray, is_twice, IsLeast, url_of, AreMarks, AreTogether, in_one, Marks}
 use Rattle.crawl_certificate.proofs.LeastUrls.{least_append, lesser_none}
 use Rattle.crawl_certificate.proofs.Twice.{least_twice_of_both}
 
@@ -26,7 +26,7 @@ in_one_map f g (x ∷ xs) = ap (λ ms. (f x || g x) ∷ ms) (in_one_map f g xs)
 
 marks_together : (allowed : List ℕ → Bool) (entries : List Entry) (xs ys : List PageResult) (first second found : Marks) → AreMarks allowed entries xs first → AreMarks allowed entries ys second → AreTogether entries first second found → AreMarks allowed entries (xs ++ ys) found
 marks_together allowed entries xs ys first second found p q both =
-    let has_link : Entry → PageResult → Bool = λ e r. stands_in (links_of r.page) e.url && is_behind entries r.url e in
+    let has_link : Entry → PageResult → Bool = λ e r. contains_url (links_of r.page) e.url && is_one_hop_after entries r.url e in
     record {
       fetched =
           both.fetched ∙ (λ i. in_one (p.fetched i) (q.fetched i))
@@ -38,15 +38,15 @@ marks_together allowed entries xs ys first second found p q both =
           ∙ (λ i. map (λ (e : Entry). sym (list_any-append (has_link e) xs ys) i) entries);
       missing =
           subst (IsLeast (λ url. is_a_link (xs ++ ys) url && is_lost allowed entries url)) (sym both.missing)
-          (least_append (λ (r : PageResult) url. stands_in (links_of r.page) url) (is_lost allowed entries) xs ys (url_of first.told.missing) (url_of second.told.missing) p.missing q.missing);
+          (least_append (λ (r : PageResult) url. contains_url (links_of r.page) url) (is_lost allowed entries) xs ys (url_of first.least.missing) (url_of second.least.missing) p.missing q.missing);
       stray =
           subst (IsLeast (is_a_stray entries (xs ++ ys))) (sym both.stray)
-          (least_append (λ (r : PageResult) url. bytes_eq r.url url) (λ url. not (is_accepted entries url)) xs ys (url_of first.told.stray) (url_of second.told.stray) p.stray q.stray);
+          (least_append (λ (r : PageResult) url. bytes_eq r.url url) (λ url. not (is_accepted entries url)) xs ys (url_of first.least.stray) (url_of second.least.stray) p.stray q.stray);
       twice = λ none.
-          let parts = lesser_none (url_of first.told.stray) (url_of second.told.stray) (sym both.stray ∙ none) in
+          let parts = lesser_none (url_of first.least.stray) (url_of second.least.stray) (sym both.stray ∙ none) in
           let shared = both.shared (λ e. has_result xs e.url) (λ e. has_result ys e.url) p.fetched q.fetched in
           subst (IsLeast (is_twice (xs ++ ys))) (sym both.twice)
-          (least_twice_of_both entries xs ys (url_of first.told.twice) (url_of second.told.twice) both.both
+          (least_twice_of_both entries xs ys (url_of first.least.twice) (url_of second.least.twice) both.both
           (subst (IsLeast (is_a_stray entries xs)) parts.0 p.stray) (p.twice parts.0) (q.twice parts.1) shared);
     }
 

@@ -37,11 +37,11 @@ pub twice_push : (xs : List PageResult) (r : PageResult) (url : List ℕ) → is
 twice_push xs r url = grind (arith, ltb, count_append, two_of, any_counts)
 
 -- one more result, if no result has a stray URL
-pub least_twice : (xs : List PageResult) (r : PageResult) (stray of_one told again : Option (List ℕ)) → (stray ≡ None → IsLeast (is_twice xs) told) → (of_one ≡ None → again ≡ url_if (has_result xs r.url) r.url) → lesser stray of_one ≡ None → IsLeast (is_twice (xs ++ r ∷ [])) (lesser told again)
-least_twice xs r stray of_one told again before now none =
+pub least_twice : (xs : List PageResult) (r : PageResult) (stray of_one least again : Option (List ℕ)) → (stray ≡ None → IsLeast (is_twice xs) least) → (of_one ≡ None → again ≡ url_if (has_result xs r.url) r.url) → lesser stray of_one ≡ None → IsLeast (is_twice (xs ++ r ∷ [])) (lesser least again)
+least_twice xs r stray of_one least again before now none =
     let parts = lesser_none stray of_one none in
     let one : IsLeast (λ u. bytes_eq r.url u && has_result xs u) again = subst (IsLeast (λ u. bytes_eq r.url u && has_result xs u)) (sym (now parts.1)) (only_one r.url (has_result xs)) in
-    by_test _ _ (lesser told again) (λ u. sym (twice_push xs r u)) (least_of_both (is_twice xs) (λ u. bytes_eq r.url u && has_result xs u) told again (before parts.0) one)
+    by_test _ _ (lesser least again) (λ u. sym (twice_push xs r u)) (least_of_both (is_twice xs) (λ u. bytes_eq r.url u && has_result xs u) least again (before parts.0) one)
 
 -- ---- two lists
 
@@ -87,5 +87,5 @@ url_is_twice (r ∷ rest) u h = elim (or_cases (is_twice rest u) (bytes_eq r.url
       or_left _ _ (subst (λ t. has_result rest t ≡ true) (sym (same_text r.url u parts.0)) parts.1)
 ]
 
-pub some_twice : (results : List PageResult) (told : Option (List ℕ)) → IsLeast (is_twice results) told → is_some told ≡ twice results
-some_twice results told is = some_least (twice results) (is_twice results) told is (some_url_twice results) (url_is_twice results)
+pub some_twice : (results : List PageResult) (least : Option (List ℕ)) → IsLeast (is_twice results) least → is_some least ≡ twice results
+some_twice results least is = some_least (twice results) (is_twice results) least is (some_url_twice results) (url_is_twice results)

@@ -1,5 +1,5 @@
 -- Marks that only linked entries have, and a run that lost nothing.
-use Rattle.crawl_certificate.proofs.Prelude.{common_steps, ◌≡◌, ℕ, zero, suc, ◌+◌, ◌<◌, ◌^◌, ◌==◌, Bool, true, false, not, ◌||◌, ◌&&◌, List, [], ◌∷◌, ◌++◌, length, get_or, slice_get, Option, Some, None, IfSome, IsSomeAnd, Vec, Global, refl, sym, ap, subst, ◌∙◌, arith, length-append, if◌then◌else◌, Bor, bytes_eq, and_from, cases_lt, eq-eqb, not_from_true, or_from, or_left, or_right, slice_get_read, All-contains_itself, All-weaker, list_any-append, list_any_none, Entry, same_at, PageResult, links_of, DifferByUrl, first_fault, has_result, is_accepted, is_behind, is_founded, is_linked, stands_in, twice, NothingLost, entry_urls, result_urls, Urls, at_this, is_in, pointed, stands_at, MarksOnly, in_one, AreFrom, IsWalk}
+use Rattle.crawl_certificate.proofs.Prelude.{common_steps, ◌≡◌, ℕ, zero, suc, ◌+◌, ◌<◌, ◌^◌, ◌==◌, Bool, true, false, not, ◌||◌, ◌&&◌, List, [], ◌∷◌, ◌++◌, length, get_or, slice_get, Option, Some, None, IfSome, IsSomeAnd, Vec, Global, refl, sym, ap, subst, ◌∙◌, arith, length-append, if◌then◌else◌, Bor, bytes_eq, and_from, cases_lt, eq-eqb, not_from_true, or_from, or_left, or_right, slice_get_read, All-contains_itself, All-weaker, list_any-append, list_any_none, Entry, same_at, PageResult, links_of, DifferByUrl, first_error, has_result, is_accepted, is_one_hop_after, is_founded, is_linked, contains_url, twice, NothingLost, entry_urls, result_urls, Urls, at_this, is_in, pointed, has_url_at, MarksOnly, in_one, AreFrom, IsWalk}
 use Rattle.std.specs.List.{AllByRecursion, Contains, IsDistinct, list_any}
 use Rattle.crawl_certificate.proofs.Certified.{in_map}
 use Rattle.crawl_keys.proofs.FilterLemmas.{bytes_eq-comm}
@@ -10,7 +10,7 @@ use Rattle.crawl_certificate.proofs.Places.{among_at, length_pointed, read_point
 
 -- an entry that is linked from the result of the entry before it
 pub linked_from : (entries : List Entry) (results : List PageResult) (i j : ℕ) (r : PageResult) (before : Entry) → slice_get results i ≡ Some r → slice_get entries j ≡ Some before → before.url ≡ r.url
-    → (e : Entry) → stands_in (links_of r.page) e.url ≡ true → e.hops ≡ before.hops + 1 → is_linked entries results e ≡ true
+    → (e : Entry) → contains_url (links_of r.page) e.url ≡ true → e.hops ≡ before.hops + 1 → is_linked entries results e ≡ true
 linked_from entries results i j r before at there same e link far = grind (arith, common_steps, any_from, among_at, and_from, text_itself, eq-eqb)
 
 -- ---- no error
@@ -38,26 +38,26 @@ all_founded allowed seeds entries results each =
 
 -- a run that lost nothing, whose results are those of its entries in their order
 pub faultless : (allowed : List ℕ → Bool) (seeds : List (List ℕ)) (entries : List Entry) (results : List PageResult) → NothingLost allowed seeds entries results → DifferByUrl entries → entry_urls entries ≡ result_urls results
-    → ((e : Entry) → Contains entries e → is_founded allowed seeds entries results e ≡ true) → first_fault allowed seeds entries results ≡ None
+    → ((e : Entry) → Contains entries e → is_founded allowed seeds entries results e ≡ true) → first_error allowed seeds entries results ≡ None
 faultless allowed seeds entries results kept apart same each = grind (arith, nothing_lost, or_from, all_founded, all_listed, once, distinct_entries)
 
 -- ---- steps of the walk
 
 -- the link at an index is among the links
-pub stands_at_place : (links : List (List ℕ)) (i : ℕ) (link url : List ℕ) → i < length links → link ≡ get_or links i link → url ≡ link → stands_in links url ≡ true
-stands_at_place links i link url within is same = any_from (λ own. bytes_eq own url) links link (i, within, sym is) (subst (λ u. bytes_eq link u ≡ true) (sym same) (text_itself link))
+pub has_url_at_place : (links : List (List ℕ)) (i : ℕ) (link url : List ℕ) → i < length links → link ≡ get_or links i link → url ≡ link → contains_url links url ≡ true
+has_url_at_place links i link url within is same = any_from (λ own. bytes_eq own url) links link (i, within, sym is) (subst (λ u. bytes_eq link u ≡ true) (sym same) (text_itself link))
 
 -- the element that is read at an index
 pub read_at : {X : Type 0} (xs : List X) (i : ℕ) (x : X) → i < length xs → x ≡ get_or xs i x → slice_get xs i ≡ Some x
 read_at xs i x within is = slice_get_read xs (length xs) i x refl within is
 
--- the test `stands_at` passes at the index of an entry with the URL
-pub stands_here : (entries : List Entry) (k : ℕ) (e : Entry) (url : List ℕ) → slice_get entries k ≡ Some e → e.url ≡ url → stands_at entries k url ≡ true
-stands_here entries k e url at same = subst (λ o. at_this o url ≡ true) (sym at) (subst (λ u. bytes_eq e.url u ≡ true) same (text_itself e.url))
+-- the test `has_url_at` passes at the index of an entry with the URL
+pub has_url_here : (entries : List Entry) (k : ℕ) (e : Entry) (url : List ℕ) → slice_get entries k ≡ Some e → e.url ≡ url → has_url_at entries k url ≡ true
+has_url_here entries k e url at same = subst (λ o. at_this o url ≡ true) (sym at) (subst (λ u. bytes_eq e.url u ≡ true) same (text_itself e.url))
 
 -- one more result
-pub own_more : (entries : List Entry) (first : ℕ) (results : List PageResult) (i : ℕ) (r : PageResult) → ((k : ℕ) (x : PageResult) → k < i → slice_get results k ≡ Some x → stands_at entries (first + k) x.url ≡ true)
-    → slice_get results i ≡ Some r → stands_at entries (first + i) r.url ≡ true → (k : ℕ) (x : PageResult) → k < i + 1 → slice_get results k ≡ Some x → stands_at entries (first + k) x.url ≡ true
+pub own_more : (entries : List Entry) (first : ℕ) (results : List PageResult) (i : ℕ) (r : PageResult) → ((k : ℕ) (x : PageResult) → k < i → slice_get results k ≡ Some x → has_url_at entries (first + k) x.url ≡ true)
+    → slice_get results i ≡ Some r → has_url_at entries (first + i) r.url ≡ true → (k : ℕ) (x : PageResult) → k < i + 1 → slice_get results k ≡ Some x → has_url_at entries (first + k) x.url ≡ true
 own_more entries first results i r so_far at stands k x below there = grind (arith, cases_lt, same_at)
 
 stays : (a z s m : Bool) → (a && (if z then s else false)) ≡ true → (a && (if z then s else m)) ≡ true
@@ -76,7 +76,7 @@ founded_more allowed seeds holds entries marks i e mark within is at only passes
     by_mark false then' h = stays (allowed e.now.url) (e.now.hops == 0) (is_in seeds e.now.url) (holds e.now) h
 
 -- entries and results of equal number have the same URLs if each result has the URL of the entry at its index
-urls_by_index : (entries : List Entry) (results : List PageResult) → length entries ≡ length results → ((k : ℕ) (r : PageResult) → slice_get results k ≡ Some r → stands_at entries k r.url ≡ true) → entry_urls entries ≡ result_urls results
+urls_by_index : (entries : List Entry) (results : List PageResult) → length entries ≡ length results → ((k : ℕ) (r : PageResult) → slice_get results k ≡ Some r → has_url_at entries k r.url ≡ true) → entry_urls entries ≡ result_urls results
 urls_by_index [] [] long own = refl
 urls_by_index [] (r ∷ rs) long own = absurd (omega (arith, long))
 urls_by_index (e ∷ es) [] long own = absurd (omega (arith, long))
@@ -87,11 +87,11 @@ urls_by_index (e ∷ es) (r ∷ rs) long own =
 
 pub all_urls : (entries : List Entry) (results : List PageResult) → length entries ≡ length results → AreFrom entries 0 results → entry_urls entries ≡ result_urls results
 all_urls entries results long own =
-    urls_by_index entries results long (λ k r at. let same : 0 + k ≡ k = omega arith in subst (λ n. stands_at entries n r.url ≡ true) same (own k r at))
+    urls_by_index entries results long (λ k r at. let same : 0 + k ≡ k = omega arith in subst (λ n. has_url_at entries n r.url ≡ true) same (own k r at))
 
--- if the test `stands_at` passes at an index, an entry with the URL is there
-pub stands_there : (entries : List Entry) (k : ℕ) (url : List ℕ) → stands_at entries k url ≡ true → (e : Entry) × (slice_get entries k ≡ Some e) × (e.url ≡ url)
-stands_there entries k url h = grind (arith, same_text)
+-- if the test `has_url_at` passes at an index, an entry with the URL is there
+pub has_url_there : (entries : List Entry) (k : ℕ) (url : List ℕ) → has_url_at entries k url ≡ true → (e : Entry) × (slice_get entries k ≡ Some e) × (e.url ≡ url)
+has_url_there entries k url h = grind (arith, same_text)
 
 -- ---- two walks combined
 
@@ -115,30 +115,30 @@ length_in_one (x ∷ xs) (y ∷ ys) = ap suc (length_in_one xs ys)
 own_append : (entries : List Entry) (first : ℕ) (xs ys : List PageResult) → AreFrom entries first xs → AreFrom entries (first + length xs) ys → AreFrom entries first (xs ++ ys)
 own_append entries first [] ys own more k r at =
     let same : (first + 0) + k ≡ first + k = omega arith in
-    subst (λ n. stands_at entries n r.url ≡ true) same (more k r at)
+    subst (λ n. has_url_at entries n r.url ≡ true) same (more k r at)
 own_append entries first (x ∷ xs) ys own more zero r at = own zero r at
 own_append entries first (x ∷ xs) ys own more (suc k) r at =
     let next : suc first + k ≡ first + suc k = omega arith in
-    subst (λ n. stands_at entries n r.url ≡ true) next
+    subst (λ n. has_url_at entries n r.url ≡ true) next
     (own_append entries (suc first) xs ys
-    (λ i y there. let e : first + suc i ≡ suc first + i = omega arith in subst (λ n. stands_at entries n y.url ≡ true) e (own (suc i) y there))
-    (λ i y there. let e : (first + suc (length xs)) + i ≡ (suc first + length xs) + i = omega arith in subst (λ n. stands_at entries n y.url ≡ true) e (more i y there))
+    (λ i y there. let e : first + suc i ≡ suc first + i = omega arith in subst (λ n. has_url_at entries n y.url ≡ true) e (own (suc i) y there))
+    (λ i y there. let e : (first + suc (length xs)) + i ≡ (suc first + length xs) + i = omega arith in subst (λ n. has_url_at entries n y.url ≡ true) e (more i y there))
     k r at)
 
 linked_front : (entries : List Entry) (xs ys : List PageResult) (e : Entry) → is_linked entries xs e ≡ true → is_linked entries (xs ++ ys) e ≡ true
-linked_front entries xs ys e link = list_any-append (λ (r : PageResult). stands_in (links_of r.page) e.url && is_behind entries r.url e) xs ys ∙ or_left _ _ link
+linked_front entries xs ys e link = list_any-append (λ (r : PageResult). contains_url (links_of r.page) e.url && is_one_hop_after entries r.url e) xs ys ∙ or_left _ _ link
 
 linked_back : (entries : List Entry) (xs ys : List PageResult) (e : Entry) → is_linked entries ys e ≡ true → is_linked entries (xs ++ ys) e ≡ true
-linked_back entries xs ys e link = list_any-append (λ (r : PageResult). stands_in (links_of r.page) e.url && is_behind entries r.url e) xs ys ∙ or_right _ _ link
+linked_back entries xs ys e link = list_any-append (λ (r : PageResult). contains_url (links_of r.page) e.url && is_one_hop_after entries r.url e) xs ys ∙ or_right _ _ link
 
 -- walks over results and over those after them
-walks_together : (entries : List Entry) (first behind : ℕ) (xs ys : List PageResult) (marks more : List Bool) → (first + length (xs ++ ys) < 2 ^ 64 → behind ≡ first + length xs) → IsWalk entries first xs marks → IsWalk entries behind ys more → IsWalk entries first (xs ++ ys) (in_one marks more)
-walks_together entries first behind xs ys marks more at p q = record {
+walks_together : (entries : List Entry) (first following : ℕ) (xs ys : List PageResult) (marks more : List Bool) → (first + length (xs ++ ys) < 2 ^ 64 → following ≡ first + length xs) → IsWalk entries first xs marks → IsWalk entries following ys more → IsWalk entries first (xs ++ ys) (in_one marks more)
+walks_together entries first following xs ys marks more at p q = record {
   long = length_in_one marks more ∙ p.long;
   own = λ fits.
       let sum : length (xs ++ ys) ≡ length xs + length ys = length-append xs ys in
-      let middle : behind ≡ first + length xs = at fits in
-      let later : AreFrom entries behind ys = q.own (omega (arith, fits, sum, middle)) in
+      let middle : following ≡ first + length xs = at fits in
+      let later : AreFrom entries following ys = q.own (omega (arith, fits, sum, middle)) in
       own_append entries first xs ys (p.own (omega (arith, fits, sum))) (subst (λ n. AreFrom entries n ys) middle later);
   only =
       in_one_only (is_linked entries (xs ++ ys)) entries marks more
@@ -146,16 +146,16 @@ walks_together entries first behind xs ys marks more at p q = record {
 }
 
 -- likewise for two parts of a chunk
-pub parts_together : (entries here' there' : List Entry) → here' ≡ entries → there' ≡ entries → (first front behind : ℕ) → front ≡ first → (xs ys whole : List PageResult) → xs ++ ys ≡ whole → (first + length whole < 2 ^ 64 → behind ≡ first + length xs)
-    → (one other all : List Bool) → IsWalk here' front xs one → IsWalk there' behind ys other → all ≡ in_one one other → IsWalk entries first whole all
-parts_together entries here' there' e f first front behind at xs ys whole joined past one other all p q both =
+pub parts_together : (entries here' there' : List Entry) → here' ≡ entries → there' ≡ entries → (first front following : ℕ) → front ≡ first → (xs ys whole : List PageResult) → xs ++ ys ≡ whole → (first + length whole < 2 ^ 64 → following ≡ first + length xs)
+    → (one other all : List Bool) → IsWalk here' front xs one → IsWalk there' following ys other → all ≡ in_one one other → IsWalk entries first whole all
+parts_together entries here' there' e f first front following at xs ys whole joined past one other all p q both =
     let own : IsWalk entries first xs one = subst (λ n. IsWalk entries n xs one) at (subst (λ es. IsWalk es front xs one) e p) in
-    let later : IsWalk entries behind ys other = subst (λ es. IsWalk es behind ys other) f q in
+    let later : IsWalk entries following ys other = subst (λ es. IsWalk es following ys other) f q in
     let sum : IsWalk entries first (xs ++ ys) (in_one one other) =
-    walks_together entries first behind xs ys one other (λ fits. past (subst (λ rs. first + length rs < 2 ^ 64) joined fits)) own later in
+    walks_together entries first following xs ys one other (λ fits. past (subst (λ rs. first + length rs < 2 ^ 64) joined fits)) own later in
     subst (λ ms. IsWalk entries first whole ms) (sym both) (subst (λ rs. IsWalk entries first rs (in_one one other)) joined sum)
 
 -- a property of the combined marks of two walks that follows from properties of the marks of each
-pub both_told : (P Q R : List Bool → Type 0) → ((one other all : List Bool) → P one → Q other → all ≡ in_one one other → R all) → (first second told : Option (Vec Bool Global))
-    → IfSome first (λ v. P v.items) → IfSome second (λ v. Q v.items) → IfSome told (λ all. IsSomeAnd first (λ one. IsSomeAnd second (λ other. all.items ≡ in_one one.items other.items))) → IfSome told (λ v. R v.items)
-both_told P Q R sum first second told p q t = grind arith
+pub both_least : (P Q R : List Bool → Type 0) → ((one other all : List Bool) → P one → Q other → all ≡ in_one one other → R all) → (first second least : Option (Vec Bool Global))
+    → IfSome first (λ v. P v.items) → IfSome second (λ v. Q v.items) → IfSome least (λ all. IsSomeAnd first (λ one. IsSomeAnd second (λ other. all.items ≡ in_one one.items other.items))) → IfSome least (λ v. R v.items)
+both_least P Q R sum first second least p q t = grind arith

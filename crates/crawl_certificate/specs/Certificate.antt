@@ -47,13 +47,13 @@ pub record IsCrawl (meaning : List ℕ → Page) (allowed : List ℕ → Bool) (
   pub reached : AreReachable meaning allowed seeds (result_urls pages)
 
 -- the error if there is one, and otherwise Ok
-abbrev pub unless_fault : Option CertError → Result (Unit {0}) CertError
-unless_fault None = Ok tt
-unless_fault (Some fault) = Err fault
+abbrev pub unless_error : Option CertError → Result (Unit {0}) CertError
+unless_error None = Ok tt
+unless_error (Some error) = Err error
 
 -- the result is the error if there is one, and otherwise Ok; or it is out of memory
-abbrev pub Tells : {T : Type 0} → Result T CertError → Option CertError → Type 0
-Tells result fault = Gives NoMemory (λ _. tt) result (unless_fault fault)
+abbrev pub Reports : {T : Type 0} → Result T CertError → Option CertError → Type 0
+Reports result error = Gives NoMemory (λ _. tt) result (unless_error error)
 
 -- each allowed URL of the second list is also in the first list
 abbrev pub AllowedAreIn : (List ℕ → Bool) → List (List ℕ) → List (List ℕ) → Type 0

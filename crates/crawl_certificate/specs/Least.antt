@@ -20,7 +20,7 @@ abbrev pub url_of : Option (Bor (List ℕ)) → Option (List ℕ)
 url_of url = option_map (λ u. u.now) url
 
 abbrev pub url_if : Bool → List ℕ → Option (List ℕ)
-url_if at_fault url = if at_fault then Some url else None
+url_if is_culprit url = if is_culprit then Some url else None
 
 -- the lesser of two texts; if one is none, the other
 abbrev pub lesser : Option (List ℕ) → Option (List ℕ) → Option (List ℕ)

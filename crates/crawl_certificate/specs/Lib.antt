@@ -1,5 +1,5 @@
 pub mod AccountEntries
-pub mod CertFaults
+pub mod CertErrors
 pub mod Certificate
 pub mod Culprits
 pub mod Least

@@ -15,8 +15,8 @@ at_this None url = false
 at_this (Some e) url = bytes_eq e.url url
 
 -- some entry is at the index, and has the URL
-abbrev pub stands_at : List Entry → ℕ → List ℕ → Bool
-stands_at entries index url = at_this (slice_get entries index) url
+abbrev pub has_url_at : List Entry → ℕ → List ℕ → Bool
+has_url_at entries index url = at_this (slice_get entries index) url
 
 -- the index of the only entry with the URL, or none if no entry has it
 abbrev pub Finds : List Entry → List ℕ → Option ℕ → Type 0

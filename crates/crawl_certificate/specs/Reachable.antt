@@ -4,14 +4,14 @@ use Rattle.crawl_pages.specs.declared.page.Page.{Page}
 use Rattle.crawl_pages.specs.Pages.{links_of}
 
 -- a walk continues from a URL along this list: each URL is allowed and is a link of the page before it, and the last URL is `end`
-abbrev pub GoesOn : (List ℕ → Page) → (List ℕ → Bool) → List ℕ → List (List ℕ) → List ℕ → Type 0
-GoesOn page allowed url [] end = url ≡ end
-GoesOn page allowed url (next ∷ rest) end = Contains (links_of (page url)) next × IsTrue (allowed next) × GoesOn page allowed next rest end
+abbrev pub Continues : (List ℕ → Page) → (List ℕ → Bool) → List ℕ → List (List ℕ) → List ℕ → Type 0
+Continues page allowed url [] end = url ≡ end
+Continues page allowed url (next ∷ rest) end = Contains (links_of (page url)) next × IsTrue (allowed next) × Continues page allowed next rest end
 
 -- the list of URLs is a walk to `end`: it begins with an allowed seed, and continues from there
 abbrev pub IsWalk : (List ℕ → Page) → (List ℕ → Bool) → List (List ℕ) → List (List ℕ) → List ℕ → Type 0
 IsWalk page allowed seeds [] end = ⊥
-IsWalk page allowed seeds (first ∷ rest) end = Contains seeds first × IsTrue (allowed first) × GoesOn page allowed first rest end
+IsWalk page allowed seeds (first ∷ rest) end = Contains seeds first × IsTrue (allowed first) × Continues page allowed first rest end
 
 -- some walk leads to the URL
 pub record Reachable (page : List ℕ → Page) (allowed : List ℕ → Bool) (seeds : List (List ℕ)) (url : List ℕ) : Type 0 where

@@ -2,13 +2,13 @@
 use Rattle.std.specs.Prelude.{◌≡◌, ℕ, ◌+◌, ◌<◌, ◌^◌, Bool, true, List, length, slice_get, Some}
 use Rattle.crawl_queues.specs.declared.entry.Entry.{Entry}
 use Rattle.crawl_pages.specs.declared.page.PageResult.{PageResult}
-use Rattle.crawl_certificate.specs.CertFaults.{is_linked}
-use Rattle.crawl_certificate.specs.Lookups.{stands_at}
+use Rattle.crawl_certificate.specs.CertErrors.{is_linked}
+use Rattle.crawl_certificate.specs.Lookups.{has_url_at}
 use Rattle.crawl_certificate.specs.Marks.{MarksOnly}
 
 -- from this index on, the URLs of the entries are those of the results, in order
 abbrev pub AreFrom : List Entry → ℕ → List PageResult → Type 0
-AreFrom entries first results = (k : ℕ) (r : PageResult) → slice_get results k ≡ Some r → stands_at entries (first + k) r.url ≡ true
+AreFrom entries first results = (k : ℕ) (r : PageResult) → slice_get results k ≡ Some r → has_url_at entries (first + k) r.url ≡ true
 
 -- the results have the URLs of the entries from `first` on, if a u64 can count them; and to each marked entry a result of an entry
 -- with one hop less links

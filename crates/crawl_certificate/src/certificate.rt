@@ -4,12 +4,12 @@ ghost use Rattle.crawl_keys.specs.HostFilter.{allows};
 ghost use Rattle.crawl_certificate.specs.AccountEntries.{entries_of, DifferByUrl};
 ghost use Rattle.crawl_certificate.specs.ResultPages.{page_in};
 ghost use Rattle.crawl_certificate.specs.Reachable.{WalkOf};
-ghost use Rattle.crawl_certificate.specs.Certificate.{Tells, IsAscending, AreReachable, CountsOf, NothingLost, entry_urls, result_urls};
+ghost use Rattle.crawl_certificate.specs.Certificate.{Reports, IsAscending, AreReachable, CountsOf, NothingLost, entry_urls, result_urls};
 ghost use Rattle.crawl_pages.specs.ResultOrder.{results_by_url};
 ghost use Rattle.crawl_pages.specs.declared.page.PageResult.{PageResult};
 ghost use Rattle.crawl_certificate.specs.Lookups.{pointed};
 ghost use Rattle.crawl_certificate.specs.Marks.{AreMarks};
-ghost use Rattle.crawl_certificate.specs.CertFaults.{first_fault};
+ghost use Rattle.crawl_certificate.specs.CertErrors.{first_error};
 ghost use Rattle.crawl_certificate.specs.Culprits.{NamesCulprit, NamesFirst, first_named};
 ghost use Rattle.crawl_certificate.specs.Least.{url_of};
 
@@ -19,7 +19,7 @@ use crate::error::CertError;
 use crate::founded::least_unfounded;
 use crate::least::lesser;
 use crate::lookups::{Accepted, url_set};
-use crate::marks::{Marks, Told, marks_of};
+use crate::marks::{LeastUrls, Marks, marks_of};
 use crate::missing::{least_missing, least_unmarked};
 use crate::threads::marks_by;
 use crate::walk::is_faultless;
@@ -79,7 +79,7 @@ pub fn certify(
     results: &[PageResult],
 ) -> Result<CrawlResult, CertError>
     // Ok if and only if the run has no error; otherwise the first one, unless an allocation failed.
-    ensures fault { Tells result (first_fault (allows filter.now) seeds.now (entries_of account.now) results.now) }
+    ensures error { Reports result (first_error (allows filter.now) seeds.now (entries_of account.now) results.now) }
     // The pages are the given results in ascending order of URL, one for each entry of each queue.
     ensures same { IfOk result (λ pages. IsPermutation results.now pages) }
     ensures ascends { IfOk result (λ pages. IsAscending (result_urls pages)) }
@@ -92,7 +92,7 @@ pub fn certify(
 {
     let accepted = Accepted::of(alloc, account)?;
     let marks = marks_of(alloc, filter, &accepted, 0, results)?;
-    fault_by_marks(alloc, filter, seeds, &accepted, marks)?;
+    error_by_marks(alloc, filter, seeds, &accepted, marks)?;
     let pages = sorted_copies(alloc, results)?;
     Ok(CrawlResult { pages })
 }
@@ -113,7 +113,7 @@ pub fn certify_with<R: Threads + Sync>(
 ) -> Result<CrawlResult, Culprit>
     requires lost { settings.is_lossless ≡ true → NothingLost (allows filter.now) seeds.now (entries_of account.now) results.items }
     // Ok if and only if the run has no error; otherwise the first one and the least URL that has it, unless an allocation failed.
-    ensures fault { NamesCulprit (allows filter.now) seeds.now (entries_of account.now) results.items result }
+    ensures error { NamesCulprit (allows filter.now) seeds.now (entries_of account.now) results.items result }
     // The pages are the given results in ascending order of URL, one for each entry of each queue.
     ensures same { IfOk result (λ pages. IsPermutation results.items pages) }
     ensures ascends { IfOk result (λ pages. IsAscending (result_urls pages)) }
@@ -127,7 +127,7 @@ pub fn certify_with<R: Threads + Sync>(
     let alloc = *results.allocator();
     let accepted = Accepted::of(alloc, account)?;
     let all = Chunk::whole(&accepted, &results);
-    find_fault(rt, alloc, settings, filter, seeds, all)?;
+    find_error(rt, alloc, settings, filter, seeds, all)?;
     // Its memory can then be used for the sort.
     drop(accepted);
     let pages = in_order(rt, alloc, results, settings.threads)?;
@@ -135,7 +135,7 @@ pub fn certify_with<R: Threads + Sync>(
 }
 
 /// Returns Ok if the run has no error, and otherwise the first error and its least URL.
-fn find_fault<'a, R: Threads + Sync>(
+fn find_error<'a, R: Threads + Sync>(
     rt: &R,
     alloc: Global,
     settings: CertifySettings,
@@ -153,11 +153,11 @@ fn find_fault<'a, R: Threads + Sync>(
         return Ok(());
     }
     let marks = marks_by(rt, alloc, filter, threads, whole)?;
-    fault_by_marks(alloc, filter, seeds, whole.accepted, marks)
+    error_by_marks(alloc, filter, seeds, whole.accepted, marks)
 }
 
 /// Returns Ok if the run has no error, and otherwise the first error and its least URL, from what a pass over the results found.
-fn fault_by_marks<'a>(
+fn error_by_marks<'a>(
     alloc: Global,
     filter: &Filter,
     seeds: &'a [CanonUrl],
@@ -173,11 +173,11 @@ fn fault_by_marks<'a>(
     let not_fetched = least_unmarked(entries, &marks.fetched);
     let seed_set = url_set(alloc, seeds)?;
     let groundless = least_unfounded(filter, &seed_set, entries, &marks.linked);
-    let Told {
+    let LeastUrls {
         missing,
         stray,
         twice,
-    } = marks.told;
+    } = marks.least;
     verdict(
         seed_missing,
         not_fetched,

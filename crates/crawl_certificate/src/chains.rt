@@ -55,8 +55,8 @@ impl Chains {
 
     // Adds the entries of a subqueue. The first of them has index `first` among all.
     fn add(&mut self, queue: u32, first: usize, entries: &[Entry]) {
-        for behind in 0..entries.len() {
-            let place = entries.len() - 1 - behind;
+        for later in 0..entries.len() {
+            let place = entries.len() - 1 - later;
             self.put(entries[place].sender, queue, first.saturating_add(place));
         }
     }

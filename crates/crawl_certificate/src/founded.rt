@@ -6,7 +6,7 @@ ghost use Rattle.crawl_keys.specs.HostFilter.{allows};
 ghost use Rattle.crawl_certificate.specs.Least.{IsLeast, url_of};
 ghost use Rattle.crawl_certificate.specs.Lookups.{pointed, is_in};
 
-use crate::least::{lesser, where_at_fault};
+use crate::least::{culprit_if, lesser};
 use crate::lookups::Urls;
 use crawl_frontier::Entry;
 use crawl_keys::{CanonUrl, Filter};
@@ -24,7 +24,7 @@ pub fn least_unfounded<'e, 'a>(
     let mut least = None;
     for (index, entry) in entries.iter().enumerate() {
         let founded = is_founded(filter, seeds, entry, marks[index]);
-        let one = where_at_fault(&entry.url, !founded);
+        let one = culprit_if(&entry.url, !founded);
         least = lesser(least, one);
     }
     least

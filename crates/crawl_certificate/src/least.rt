@@ -5,10 +5,10 @@ ghost use Rattle.crawl_certificate.specs.Least.{is_below, url_of, url_if, lesser
 use crawl_keys::CanonUrl;
 
 /// Returns the URL if it has the error.
-pub fn where_at_fault<'a>(url: &'a CanonUrl, at_fault: bool) -> Option<&'a CanonUrl>
-    ensures { url_of result ≡ url_if at_fault url.now }
+pub fn culprit_if<'a>(url: &'a CanonUrl, is_culprit: bool) -> Option<&'a CanonUrl>
+    ensures { url_of result ≡ url_if is_culprit url.now }
 {
-    if at_fault { Some(url) } else { None }
+    if is_culprit { Some(url) } else { None }
 }
 
 /// Returns the lesser of two URLs. If one is `None`, the other.

@@ -4,8 +4,8 @@ ghost use Rattle.std.specs.Prelude.{◌≡◌, ◌<◌, ℕ, List, Some, take, l
 ghost use Rattle.crawl_keys.specs.Assignment.{subqueue_of};
 ghost use Rattle.crawl_certificate.specs.Queues.{AreQueues};
 ghost use Rattle.crawl_certificate.specs.AccountEntries.{entries_of, DifferByUrl};
-ghost use Rattle.crawl_certificate.specs.Lookups.{pointed, stands_at, Finds, is_in};
-ghost use Rattle.crawl_certificate.specs.CertFaults.{is_accepted, stands_in};
+ghost use Rattle.crawl_certificate.specs.Lookups.{pointed, has_url_at, Finds, is_in};
+ghost use Rattle.crawl_certificate.specs.CertErrors.{is_accepted, contains_url};
 
 use crawl_frontier::{Account, Entry};
 use crawl_keys::{CanonUrl, hash};
@@ -122,7 +122,7 @@ impl<'a> Accepted<'a> {
     }
 
     /// Returns the entry at the index, if it has the URL.
-    #[tactic(auto, using(crate::proofs::Walks::stands_there, std::proofs::lemmas::Option::slice_get_within, crawl_frontier::proofs::Gets::same_at))]
+    #[tactic(auto, using(crate::proofs::Walks::has_url_there, std::proofs::lemmas::Option::slice_get_within, crawl_frontier::proofs::Gets::same_at))]
     pub fn with_url(&self, index: usize, url: &CanonUrl) -> Option<&Entry>
         ensures { IfSome result (λ entry. (slice_get self.now index ≡ Some entry.now) × (entry.now.url ≡ url.now)) }
     {
@@ -135,7 +135,7 @@ impl<'a> Accepted<'a> {
 
     /// Whether the entry at the index has the URL.
     fn is_at(&self, index: usize, url: &CanonUrl) -> bool
-        ensures { result ≡ stands_at self.now index url.now }
+        ensures { result ≡ has_url_at self.now index url.now }
     {
         match self.entries.get(index) {
             Some(entry) => entry.url == *url,
@@ -149,7 +149,7 @@ pub type Urls<'a> = BTreeSet<HashedText<'a>>;
 
 /// Makes a set of the URLs.
 pub fn url_set(alloc: Global, urls: &[CanonUrl]) -> Result<Urls<'_>, AllocError>
-    ensures { IfOk result (λ set. (url : List ℕ) → is_in set url ≡ stands_in urls.now url) }
+    ensures { IfOk result (λ set. (url : List ℕ) → is_in set url ≡ contains_url urls.now url) }
 {
     let mut set = BTreeSet::new(alloc);
     for url in urls {

@@ -4,12 +4,12 @@ ghost use Rattle.std.specs.Prelude.{◌≡◌, ◌+◌, ◌==◌, ℕ, Bool, fal
 ghost use Rattle.crawl_queues.specs.declared.entry.Entry.{Entry};
 ghost use Rattle.crawl_keys.specs.HostFilter.{allows};
 ghost use Rattle.crawl_pages.specs.Pages.{links_of};
-ghost use Rattle.crawl_certificate.specs.CertFaults.{is_accepted, stands_in, has_result, is_behind, is_linked};
+ghost use Rattle.crawl_certificate.specs.CertErrors.{is_accepted, contains_url, has_result, is_one_hop_after, is_linked};
 ghost use Rattle.crawl_certificate.specs.Culprits.{is_lost, is_a_link, is_a_stray, is_twice};
 ghost use Rattle.crawl_certificate.specs.Least.{IsLeast, url_of, url_if, lesser};
 ghost use Rattle.crawl_certificate.specs.Marks.{AreMarks};
 
-use crate::least::{lesser, where_at_fault};
+use crate::least::{culprit_if, lesser};
 use crate::lookups::Accepted;
 use crate::missing::least_missing;
 use crawl_frontier::Entry;
@@ -19,7 +19,7 @@ use std::alloc::{AllocError, Global};
 
 /// What results show: for each of these errors, the least URL that has it.
 #[derive(Clone, Copy)]
-pub struct Told<'r, 'e> {
+pub struct LeastUrls<'r, 'e> {
     /// A link that the filter allows is not accepted.
     pub missing: Option<&'r CanonUrl>,
     /// The URL of a result was not accepted.
@@ -35,17 +35,17 @@ pub struct Marks<'r, 'e> {
     pub fetched: Vec<bool>,
     /// For each entry, whether a result of an entry with one hop less links to it.
     pub linked: Vec<bool>,
-    pub told: Told<'r, 'e>,
+    pub least: LeastUrls<'r, 'e>,
 }
 
-impl<'r, 'e> Told<'r, 'e> {
+impl<'r, 'e> LeastUrls<'r, 'e> {
     /// Combines what two lists of results show: for each error the lesser of the two URLs.
-    pub fn and(self, more: Told<'r, 'e>) -> Told<'r, 'e>
+    pub fn and(self, more: LeastUrls<'r, 'e>) -> LeastUrls<'r, 'e>
         ensures missing { url_of result.missing ≡ lesser (url_of self.entry.missing) (url_of more.entry.missing) }
         ensures stray { url_of result.stray ≡ lesser (url_of self.entry.stray) (url_of more.entry.stray) }
         ensures twice { url_of result.twice ≡ lesser (url_of self.entry.twice) (url_of more.entry.twice) }
     {
-        Told {
+        LeastUrls {
             missing: lesser(self.missing, more.missing),
             stray: lesser(self.stray, more.stray),
             twice: lesser(self.twice, more.twice),
@@ -68,11 +68,11 @@ pub fn marks_of<'r, 'e>(
 {
     let mut fetched = no_marks(alloc, accepted)?;
     let mut linked = no_marks(alloc, accepted)?;
-    let told = mark_results(filter, accepted, &mut fetched, &mut linked, first, results);
+    let least = mark_results(filter, accepted, &mut fetched, &mut linked, first, results);
     Ok(Marks {
         fetched,
         linked,
-        told,
+        least,
     })
 }
 
@@ -93,7 +93,7 @@ fn mark_results<'r, 'e>(
     linked: &mut [bool],
     first: usize,
     results: &'r [PageResult],
-) -> Told<'r, 'e>
+) -> LeastUrls<'r, 'e>
     requires none_fetched { fetched.old ≡ map (λ _. false) accepted.now }
     requires none_linked { linked.old ≡ map (λ _. false) accepted.now }
     ensures fetched { fetched.new ≡ map (λ e. has_result results.now e.url) accepted.now }
@@ -102,7 +102,7 @@ fn mark_results<'r, 'e>(
     ensures stray { IsLeast (is_a_stray accepted.now results.now) (url_of result.stray) }
     ensures twice { url_of result.stray ≡ None → IsLeast (is_twice results.now) (url_of result.twice) }
 {
-    let mut told = Told {
+    let mut least = LeastUrls {
         missing: None,
         stray: None,
         twice: None,
@@ -110,9 +110,9 @@ fn mark_results<'r, 'e>(
     let mut guess = first;
     for one in results {
         let of_one = mark_result(filter, accepted, fetched, linked, &mut guess, one);
-        told = told.and(of_one);
+        least = least.and(of_one);
     }
-    told
+    least
 }
 
 /// Marks the entry of the result, and the entries to which the result links and that have one hop more. `twice` returns whether the
@@ -124,12 +124,12 @@ fn mark_result<'r, 'e>(
     linked: &mut [bool],
     guess: &mut usize,
     one: &'r PageResult,
-) -> Told<'r, 'e>
+) -> LeastUrls<'r, 'e>
     requires long_fetched { length fetched.old ≡ length accepted.now }
     requires long_linked { length linked.old ≡ length accepted.now }
     ensures fetched { (known : List ℕ → Bool) → fetched.old ≡ map (λ e. known e.url) accepted.now → fetched.new ≡ map (λ e. known e.url || bytes_eq one.now.url e.url) accepted.now }
-    ensures linked { (known : Entry → Bool) → linked.old ≡ map known accepted.now → linked.new ≡ map (λ e. known e || (stands_in (links_of one.now.page) e.url && is_behind accepted.now one.now.url e)) accepted.now }
-    ensures missing { IsLeast (λ url. stands_in (links_of one.now.page) url && is_lost (allows filter.now) accepted.now url) (url_of result.missing) }
+    ensures linked { (known : Entry → Bool) → linked.old ≡ map known accepted.now → linked.new ≡ map (λ e. known e || (contains_url (links_of one.now.page) e.url && is_one_hop_after accepted.now one.now.url e)) accepted.now }
+    ensures missing { IsLeast (λ url. contains_url (links_of one.now.page) url && is_lost (allows filter.now) accepted.now url) (url_of result.missing) }
     ensures stray { url_of result.stray ≡ url_if (not (is_accepted accepted.now one.now.url)) one.now.url }
     ensures twice { (known : List ℕ → Bool) → fetched.old ≡ map (λ e. known e.url) accepted.now → url_of result.stray ≡ None → url_of result.twice ≡ url_if (known one.now.url) one.now.url }
 {
@@ -141,13 +141,13 @@ fn mark_result<'r, 'e>(
             fetched[index] = true;
             let entry = accepted.entry(index);
             let missing = mark_links(filter, accepted, linked, entry.hops, links);
-            Told {
+            LeastUrls {
                 missing,
                 stray: None,
-                twice: where_at_fault(&entry.url, twice),
+                twice: culprit_if(&entry.url, twice),
             }
         }
-        None => Told {
+        None => LeastUrls {
             missing: least_missing(filter, accepted, links),
             stray: Some(&one.url),
             twice: None,
@@ -167,8 +167,8 @@ fn mark_links<'a>(
     links: &'a [CanonUrl],
 ) -> Option<&'a CanonUrl>
     requires long { length linked.old ≡ length accepted.now }
-    ensures linked { (known : Entry → Bool) → linked.old ≡ map known accepted.now → linked.new ≡ map (λ e. known e || (stands_in links.now e.url && e.hops == hops + 1)) accepted.now }
-    ensures missing { IsLeast (λ url. stands_in links.now url && is_lost (allows filter.now) accepted.now url) (url_of result) }
+    ensures linked { (known : Entry → Bool) → linked.old ≡ map known accepted.now → linked.new ≡ map (λ e. known e || (contains_url links.now e.url && e.hops == hops + 1)) accepted.now }
+    ensures missing { IsLeast (λ url. contains_url links.now url && is_lost (allows filter.now) accepted.now url) (url_of result) }
 {
     let mut missing = None;
     let mut guess = 0;
@@ -202,7 +202,7 @@ fn mark<'a>(
             }
             None
         }
-        None => where_at_fault(link, filter.allows(link)),
+        None => culprit_if(link, filter.allows(link)),
     }
 }
 

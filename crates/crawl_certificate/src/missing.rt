@@ -3,12 +3,12 @@
 ghost use Rattle.std.specs.Prelude.{◌≡◌, ℕ, List, Bool, not, ◌&&◌, map, length, bytes_eq};
 ghost use Rattle.std.specs.List.{list_any};
 ghost use Rattle.crawl_keys.specs.HostFilter.{allows};
-ghost use Rattle.crawl_certificate.specs.CertFaults.{stands_in};
+ghost use Rattle.crawl_certificate.specs.CertErrors.{contains_url};
 ghost use Rattle.crawl_certificate.specs.Least.{IsLeast, url_of};
 ghost use Rattle.crawl_certificate.specs.Culprits.{is_lost};
 ghost use Rattle.crawl_certificate.specs.Lookups.{pointed};
 
-use crate::least::{lesser, where_at_fault};
+use crate::least::{culprit_if, lesser};
 use crate::lookups::Accepted;
 use crawl_frontier::Entry;
 use crawl_keys::{CanonUrl, Filter};
@@ -26,11 +26,11 @@ pub fn least_missing<'a>(
     accepted: &Accepted<'_>,
     urls: &'a [CanonUrl],
 ) -> Option<&'a CanonUrl>
-    ensures { IsLeast (λ url. stands_in urls.now url && is_lost (allows filter.now) accepted.now url) (url_of result) }
+    ensures { IsLeast (λ url. contains_url urls.now url && is_lost (allows filter.now) accepted.now url) (url_of result) }
 {
     let mut least = None;
     for url in urls {
-        let one = where_at_fault(url, is_missing(filter, accepted, url));
+        let one = culprit_if(url, is_missing(filter, accepted, url));
         least = lesser(least, one);
     }
     least
@@ -43,7 +43,7 @@ pub fn least_unmarked<'e>(entries: &'e [&Entry], marks: &[bool]) -> Option<&'e C
 {
     let mut least = None;
     for (index, entry) in entries.iter().enumerate() {
-        let one = where_at_fault(&entry.url, !marks[index]);
+        let one = culprit_if(&entry.url, !marks[index]);
         least = lesser(least, one);
     }
     least

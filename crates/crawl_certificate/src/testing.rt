@@ -21,7 +21,7 @@ pub fn seen_linked<R: Threads + Sync>(
     account: &Account,
     results: &[PageResult],
 ) -> Result<Option<Vec<bool>>, AllocError>
-    ensures { IfOk result (λ told. IfSome told (λ marks. IsWalk (entries_of account.now) 0 results.now marks.items)) }
+    ensures { IfOk result (λ found. IfSome found (λ marks. IsWalk (entries_of account.now) 0 results.now marks.items)) }
 {
     let accepted = Accepted::of(alloc, account)?;
     linked_by(rt, alloc, THREADS, Chunk::whole(&accepted, results))

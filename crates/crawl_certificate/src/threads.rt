@@ -8,9 +8,9 @@ ghost use Rattle.crawl_certificate.specs.Lookups.{pointed};
 ghost use Rattle.crawl_certificate.specs.Marks.{AreMarks, AreTogether, in_one};
 
 use crate::chunk::Chunk;
-use crate::least::{lesser, where_at_fault};
+use crate::least::{culprit_if, lesser};
 use crate::lookups::Accepted;
-use crate::marks::{Marks, Told, marks_of};
+use crate::marks::{LeastUrls, Marks, marks_of};
 use crawl_frontier::Entry;
 use crawl_keys::{CanonUrl, Filter};
 use std::alloc::{AllocError, Global};
@@ -57,7 +57,7 @@ fn together<'r, 'e>(
     requires more_linked { vec_len second.linked ≡ length entries.now }
     ensures { AreTogether (pointed entries.now) first.entry second.entry result }
 {
-    let told = first.told.and(second.told);
+    let least = first.least.and(second.least);
     let mut fetched = first.fetched;
     let in_both = add_marks(entries, fetched.as_mut_slice(), &second.fetched);
     let mut linked = first.linked;
@@ -65,9 +65,9 @@ fn together<'r, 'e>(
     Marks {
         fetched,
         linked,
-        told: Told {
-            twice: lesser(told.twice, in_both),
-            ..told
+        least: LeastUrls {
+            twice: lesser(least.twice, in_both),
+            ..least
         },
     }
 }
@@ -87,7 +87,7 @@ pub fn add_marks<'e>(
     for (index, entry) in entries.iter().enumerate() {
         let marked = marks[index];
         let more_marked = more[index];
-        let one = where_at_fault(&entry.url, marked & more_marked);
+        let one = culprit_if(&entry.url, marked & more_marked);
         both = lesser(both, one);
         marks[index] = marked | more_marked;
     }

@@ -10,7 +10,7 @@ ghost use Rattle.crawl_keys.specs.HostFilter.{allows};
 ghost use Rattle.crawl_pages.specs.Pages.{links_of};
 ghost use Rattle.crawl_pages.specs.declared.page.PageResult.{PageResult};
 ghost use Rattle.crawl_certificate.specs.AccountEntries.{DifferByUrl};
-ghost use Rattle.crawl_certificate.specs.CertFaults.{first_fault, is_linked, stands_in};
+ghost use Rattle.crawl_certificate.specs.CertErrors.{first_error, is_linked, contains_url};
 ghost use Rattle.crawl_certificate.specs.Certificate.{NothingLost};
 ghost use Rattle.crawl_certificate.specs.Lookups.{is_in, pointed};
 ghost use Rattle.crawl_certificate.specs.Marks.{MarksOnly, in_one};
@@ -40,7 +40,7 @@ pub fn is_faultless<R: Threads + Sync>(
     requires lost { NothingLost (allows filter.now) seeds.now whole.accepted.now whole.results.now }
     requires apart { DifferByUrl whole.accepted.now }
     requires first { whole.first ≡ 0 }
-    ensures { IfOk result (λ seen. seen ≡ true → first_fault (allows filter.now) seeds.now whole.entry.accepted.now whole.entry.results.now ≡ None) }
+    ensures { IfOk result (λ seen. seen ≡ true → first_error (allows filter.now) seeds.now whole.entry.accepted.now whole.entry.results.now ≡ None) }
 {
     if whole.accepted.entries().len() != whole.results.len() {
         return Ok(false);
@@ -57,7 +57,7 @@ pub fn linked_by<R: Threads + Sync>(
     threads: usize,
     whole: Chunk<'_, '_, '_>,
 ) -> Result<Option<Vec<bool>>, AllocError>
-    ensures { IfOk result (λ told. IfSome told (λ linked. IsWalk whole.entry.accepted.now whole.entry.first whole.entry.results.now linked.items)) }
+    ensures { IfOk result (λ found. IfSome found (λ linked. IsWalk whole.entry.accepted.now whole.entry.first whole.entry.results.now linked.items)) }
 {
     let chains = Chains::of(alloc, whole.accepted.account(), whole.results.len())?;
     walked_by(rt, alloc, threads, &chains, whole)
@@ -73,7 +73,7 @@ fn walked_by<R: Threads + Sync>(
     chains: &Chains,
     chunk: Chunk<'_, '_, '_>,
 ) -> Result<Option<Vec<bool>>, AllocError>
-    ensures { IfOk result (λ told. IfSome told (λ linked. IsWalk chunk.entry.accepted.now chunk.entry.first chunk.entry.results.now linked.items)) }
+    ensures { IfOk result (λ found. IfSome found (λ linked. IsWalk chunk.entry.accepted.now chunk.entry.first chunk.entry.results.now linked.items)) }
 {
     if threads < 2 {
         return walked(alloc, chains, chunk);
@@ -84,10 +84,10 @@ fn walked_by<R: Threads + Sync>(
         return walked(alloc, chains, chunk);
     }
     let of_front = move || -> Result<Option<Vec<bool>>, AllocError>
-        ensures { IfOk result (λ told. IfSome told (λ linked. IsWalk front.entry.accepted.now front.entry.first front.entry.results.now linked.items)) }
+        ensures { IfOk result (λ found. IfSome found (λ linked. IsWalk front.entry.accepted.now front.entry.first front.entry.results.now linked.items)) }
     { walked_by(rt, alloc, half, chains, front) };
     let of_back = move || -> Result<Option<Vec<bool>>, AllocError>
-        ensures { IfOk result (λ told. IfSome told (λ linked. IsWalk back.entry.accepted.now back.entry.first back.entry.results.now linked.items)) }
+        ensures { IfOk result (λ found. IfSome found (λ linked. IsWalk back.entry.accepted.now back.entry.first back.entry.results.now linked.items)) }
     { walked_by(rt, alloc, half, chains, back) };
     let (first, second) = join(rt, of_front, of_back);
     let first = first?;
@@ -120,7 +120,7 @@ fn is_founded_by(
     linked: Option<Vec<bool>>,
 ) -> Result<bool, AllocError>
     requires { IfSome linked (λ marks. vec_len marks ≡ length accepted.now) }
-    ensures { (results : List PageResult) → NothingLost (allows filter.now) seeds.now accepted.now results → DifferByUrl accepted.now → length accepted.now ≡ length results → IfSome linked (λ marks. IsWalk accepted.now 0 results marks.items) → IfOk result (λ seen. seen ≡ true → first_fault (allows filter.now) seeds.now accepted.now results ≡ None) }
+    ensures { (results : List PageResult) → NothingLost (allows filter.now) seeds.now accepted.now results → DifferByUrl accepted.now → length accepted.now ≡ length results → IfSome linked (λ marks. IsWalk accepted.now 0 results marks.items) → IfOk result (λ seen. seen ≡ true → first_error (allows filter.now) seeds.now accepted.now results ≡ None) }
 {
     let Some(marks) = linked else {
         return Ok(false);
@@ -136,7 +136,7 @@ fn walked(
     chains: &Chains,
     chunk: Chunk<'_, '_, '_>,
 ) -> Result<Option<Vec<bool>>, AllocError>
-    ensures { IfOk result (λ told. IfSome told (λ linked. IsWalk chunk.entry.accepted.now chunk.entry.first chunk.entry.results.now linked.items)) }
+    ensures { IfOk result (λ found. IfSome found (λ linked. IsWalk chunk.entry.accepted.now chunk.entry.first chunk.entry.results.now linked.items)) }
 {
     let mut linked = no_marks(alloc, chunk.accepted)?;
     let mut heads = Heads::of(alloc, chains, chunk.accepted.entries())?;
@@ -180,7 +180,7 @@ fn walk_page(
 )
     requires long { length linked.old ≡ length accepted.now }
     ensures long { length linked.new ≡ length linked.old }
-    ensures marks { (holds : Entry → Bool) → ((e : Entry) → stands_in links.now e.url ≡ true → e.hops ≡ hops + 1 → holds e ≡ true) → MarksOnly holds accepted.now linked.old → MarksOnly holds accepted.now linked.new }
+    ensures marks { (holds : Entry → Bool) → ((e : Entry) → contains_url links.now e.url ≡ true → e.hops ≡ hops + 1 → holds e ≡ true) → MarksOnly holds accepted.now linked.old → MarksOnly holds accepted.now linked.new }
 {
     for link in links {
         mark_next(accepted, heads, worker, linked, hops, link);

@@ -1,7 +1,7 @@
 -- How the count of the kept state changes with a subqueue, and that the machine's events on subqueues are the table's moves.
 use Rattle.crawl_core.proofs.Prelude.{◌≡◌, ℕ, suc, ◌-◌, ◌≤◌, true, false, List, ◌∷◌, length, drop, slice_get, slice_set, Option, Some, None, is_some, refl, ap, ◌∙◌, arith, option_map, nat_cmp, is_at, length_push, length-remove_key, Event, Take, Done, Reply, one_if, let_go, holds, Kept, KeptQueue, IsCounted, kept_count, outstanding}
 use Rattle.crawl_core.proofs.Places.{sum_at}
-use Rattle.crawl_core.specs.declared.reply.Reply.TheVariants as told
+use Rattle.crawl_core.specs.declared.reply.Reply.TheVariants as says
 use Rattle.crawl_core.specs.Moves.{Moves, accepting}
 
 -- the result of a test at an index is its result for the element at that index
@@ -28,7 +28,7 @@ busy_counts {kept} {count} place counted busy =
     let one : one_if here.0.busy ≡ 1 = ap one_if here.2 in
     omega (arith, sum, one, counted.counted)
 
-pub done_fits : {kept : Kept} {count : ℕ} (place : ℕ) (new : List KeptQueue) → IsCounted kept count → option_map (λ q. q.busy) (slice_get kept.queues place) ≡ Some true → ((queue : KeptQueue) → slice_get kept.queues place ≡ Some queue → new ≡ slice_set kept.queues place (record queue { busy = false })) → Fits kept (Done place) (told.Count (count - 1)) (with_queues kept new) (count - 1)
+pub done_fits : {kept : Kept} {count : ℕ} (place : ℕ) (new : List KeptQueue) → IsCounted kept count → option_map (λ q. q.busy) (slice_get kept.queues place) ≡ Some true → ((queue : KeptQueue) → slice_get kept.queues place ≡ Some queue → new ≡ slice_set kept.queues place (record queue { busy = false })) → Fits kept (Done place) (says.Count (count - 1)) (with_queues kept new) (count - 1)
 done_fits {kept} {count} place new counted busy set =
     let here = there (λ (q : KeptQueue). q.busy) (slice_get kept.queues place) true busy in
     let is_new = set here.0 here.1 in
@@ -38,13 +38,13 @@ done_fits {kept} {count} place new counted busy set =
     record {
       counts = record { counted = left; within = omega (arith, counted.within); small = counted.small };
       moves = record {
-        reply_is = rw (here.1, here.2) (ap told.Count left ∙ ap (λ queues. told.Count (kept_count (with_queues kept queues))) is_new);
+        reply_is = rw (here.1, here.2) (ap says.Count left ∙ ap (λ queues. says.Count (kept_count (with_queues kept queues))) is_new);
         kept_is = rw (here.1, here.2) (ap (with_queues kept) is_new);
       };
     }
 
 -- a URL that is taken is still unfinished: it no longer waits, and its subqueue is busy
-pub take_fits : {kept : Kept} {count : ℕ} (place : ℕ) (url : List ℕ) (new : List KeptQueue) → IsCounted kept count → option_map (λ q. q.busy) (slice_get kept.queues place) ≡ Some false → ((queue : KeptQueue) → slice_get kept.queues place ≡ Some queue → queue.waiting ≡ url ∷ drop 1 queue.waiting) → ((queue : KeptQueue) → slice_get kept.queues place ≡ Some queue → new ≡ slice_set kept.queues place (record queue { waiting = drop 1 queue.waiting; busy = true })) → Fits kept (Take place) (told.Taken url) (with_queues kept new) count
+pub take_fits : {kept : Kept} {count : ℕ} (place : ℕ) (url : List ℕ) (new : List KeptQueue) → IsCounted kept count → option_map (λ q. q.busy) (slice_get kept.queues place) ≡ Some false → ((queue : KeptQueue) → slice_get kept.queues place ≡ Some queue → queue.waiting ≡ url ∷ drop 1 queue.waiting) → ((queue : KeptQueue) → slice_get kept.queues place ≡ Some queue → new ≡ slice_set kept.queues place (record queue { waiting = drop 1 queue.waiting; busy = true })) → Fits kept (Take place) (says.Taken url) (with_queues kept new) count
 take_fits {kept} {count} place url new counted idle oldest set =
     let here = there (λ (q : KeptQueue). q.busy) (slice_get kept.queues place) false idle in
     let first = oldest here.0 here.1 in

@@ -1,6 +1,6 @@
 -- The effect of one step on the invariants and on each subqueue, event by event.
 use Rattle.crawl_core.proofs.Prelude.{◌≡◌, ℕ, zero, suc, ◌+◌, cond, arith, ◌≤◌, Bool, true, false, not, List, [], ◌∷◌, ◌++◌, length, take, map, slice_get, Option, Some, None, refl, sym, ap, ◌∙◌, eqb-true, true≢false, common_steps, if◌then◌else◌, option_to_list, take-append-le, map-append, Event, Look, Enter, Admit, Back, EndSeeds, Take, Done, Close, one_if, Message, has_url, Subqueue, finished, oldest, next_message, after_finishing, GateTurn, holds, State, count_of, Turn, turn, by_gate, with_subqueue, put, admit_to, take_oldest, take_from, done_with, accepted_by, taken_by, done_by, SubqueueInvariant, EachSubqueue}
-use Rattle.crawl_core.specs.declared.reply.Reply.TheVariants as told
+use Rattle.crawl_core.specs.declared.reply.Reply.TheVariants as says
 use Rattle.crawl_core.proofs.Places.{set_cases}
 
 -- a property of both branches is a property of the choice
@@ -32,7 +32,7 @@ pub record QueueEffect (old : State) (event : Event) (done : Turn) : Type 0 wher
   pub takes : (queue : ℕ) → urls_taken (slice_get done.state.subqueues queue) ≡ urls_taken (slice_get old.subqueues queue) ++ option_to_list (taken_by queue event done.reply)
   pub finishes : (queue : ℕ) → finished_at (slice_get done.state.subqueues queue) ≡ finished_at (slice_get old.subqueues queue) + cond (done_by queue event done.reply) 1 0
   pub begins : (queue : ℕ) (url : List ℕ) → taken_by queue event done.reply ≡ Some url → (is_busy (slice_get old.subqueues queue) ≡ false) × (is_busy (slice_get done.state.subqueues queue) ≡ true)
-  pub ends : (queue : ℕ) → is_busy (slice_get old.subqueues queue) ≡ true → is_busy (slice_get done.state.subqueues queue) ≡ false → (left : ℕ) × (event ≡ Done queue) × (done.reply ≡ told.Count left)
+  pub ends : (queue : ℕ) → is_busy (slice_get old.subqueues queue) ≡ true → is_busy (slice_get done.state.subqueues queue) ≡ false → (left : ℕ) × (event ≡ Done queue) × (done.reply ≡ says.Count left)
 
 pub append_nil : {A : Type 0} (xs : List A) → xs ≡ xs ++ []
 append_nil xs = grind (arith, common_steps)
@@ -52,7 +52,7 @@ put_effect state sender url place queue at within =
     let message = next_message queue sender url in
     let front : take queue.taken (queue.accepted ++ message ∷ []) ≡ take queue.taken queue.accepted = take-append-le queue.taken queue.accepted (message ∷ []) within in
     record {
-      accepts = λ there. set_cases (λ o. messages o ≡ messages (slice_get state.subqueues there) ++ option_to_list (accepted_by there (Admit sender url place) (told.Accepted place (next_message queue sender url).number))) state.subqueues place there queue _ at
+      accepts = λ there. set_cases (λ o. messages o ≡ messages (slice_get state.subqueues there) ++ option_to_list (accepted_by there (Admit sender url place) (says.Accepted place (next_message queue sender url).number))) state.subqueues place there queue _ at
           (λ here found. rw (found, here) refl)
           (λ apart. rw apart (append_nil (messages (slice_get state.subqueues there))));
       takes = λ there. set_cases (λ o. urls_taken o ≡ urls_taken (slice_get state.subqueues there) ++ []) state.subqueues place there queue _ at
@@ -62,7 +62,7 @@ put_effect state sender url place queue at within =
           (λ here found. rw found (omega arith))
           (λ apart. omega arith);
       begins = λ there u taken. absurd (cc);
-      ends = λ there. set_cases (λ o. is_busy (slice_get state.subqueues there) ≡ true → is_busy o ≡ false → (left : ℕ) × (Admit sender url place ≡ Done there) × (told.Accepted place (next_message queue sender url).number ≡ told.Count left)) state.subqueues place there queue _ at
+      ends = λ there. set_cases (λ o. is_busy (slice_get state.subqueues there) ≡ true → is_busy o ≡ false → (left : ℕ) × (Admit sender url place ≡ Done there) × (says.Accepted place (next_message queue sender url).number ≡ says.Count left)) state.subqueues place there queue _ at
           (λ here found busy idle. let was = rw found at busy in absurd (cc))
           (λ apart busy idle. absurd (cc));
     }
@@ -84,16 +84,16 @@ oldest_effect state place queue at idle (Some message) first =
       accepts = λ there. set_cases (λ o. messages o ≡ messages (slice_get state.subqueues there) ++ []) state.subqueues place there queue _ at
           (λ here found. rw found (append_nil queue.accepted))
           (λ apart. append_nil (messages (slice_get state.subqueues there)));
-      takes = λ there. set_cases (λ o. urls_taken o ≡ urls_taken (slice_get state.subqueues there) ++ option_to_list (taken_by there (Take place) (told.Taken message.url))) state.subqueues place there queue _ at
+      takes = λ there. set_cases (λ o. urls_taken o ≡ urls_taken (slice_get state.subqueues there) ++ option_to_list (taken_by there (Take place) (says.Taken message.url))) state.subqueues place there queue _ at
           (λ here found. rw (found, here, one_more, map-append) refl)
           (λ apart. rw apart (append_nil (urls_taken (slice_get state.subqueues there))));
       finishes = λ there. set_cases (λ o. finished_at o ≡ finished_at (slice_get state.subqueues there) + 0) state.subqueues place there queue _ at
           (λ here found. rw (found, idle) (omega arith))
           (λ apart. omega arith);
-      begins = λ there url. set_cases (λ o. taken_by there (Take place) (told.Taken message.url) ≡ Some url → (is_busy (slice_get state.subqueues there) ≡ false) × (is_busy o ≡ true)) state.subqueues place there queue _ at
+      begins = λ there url. set_cases (λ o. taken_by there (Take place) (says.Taken message.url) ≡ Some url → (is_busy (slice_get state.subqueues there) ≡ false) × (is_busy o ≡ true)) state.subqueues place there queue _ at
           (λ here found taken. (rw found idle, refl))
           (λ apart taken. let none = rw apart at taken in absurd (cc));
-      ends = λ there. set_cases (λ o. is_busy (slice_get state.subqueues there) ≡ true → is_busy o ≡ false → (left : ℕ) × (Take place ≡ Done there) × (told.Taken message.url ≡ told.Count left)) state.subqueues place there queue _ at
+      ends = λ there. set_cases (λ o. is_busy (slice_get state.subqueues there) ≡ true → is_busy o ≡ false → (left : ℕ) × (Take place ≡ Done there) × (says.Taken message.url ≡ says.Count left)) state.subqueues place there queue _ at
           (λ here found busy ended. absurd (cc))
           (λ apart busy ended. absurd (cc));
     }
@@ -112,11 +112,11 @@ done_effect state place (Some queue) at sound =
       takes = λ there. set_cases (λ o. urls_taken o ≡ urls_taken (slice_get state.subqueues there) ++ []) state.subqueues place there queue _ at
           (λ here found. rw found (append_nil (urls_taken (Some queue))))
           (λ apart. append_nil (urls_taken (slice_get state.subqueues there)));
-      finishes = λ there. set_cases (λ o. finished_at o ≡ finished_at (slice_get state.subqueues there) + cond (done_by there (Done place) (told.Count (count_of (with_subqueue state place (after_finishing queue))))) 1 0) state.subqueues place there queue _ at
+      finishes = λ there. set_cases (λ o. finished_at o ≡ finished_at (slice_get state.subqueues there) + cond (done_by there (Done place) (says.Count (count_of (with_subqueue state place (after_finishing queue))))) 1 0) state.subqueues place there queue _ at
           (λ here found. let one : one_if queue.busy ≡ 1 = ap one_if busy in let begun = (sound queue at).begun in rw (found, here) (omega (arith, one, begun)))
           (λ apart. rw apart (omega arith));
       begins = λ there url taken. absurd (cc);
-      ends = λ there. set_cases (λ o. is_busy (slice_get state.subqueues there) ≡ true → is_busy o ≡ false → (left : ℕ) × (Done place ≡ Done there) × (told.Count (count_of (with_subqueue state place (after_finishing queue))) ≡ told.Count left)) state.subqueues place there queue _ at
+      ends = λ there. set_cases (λ o. is_busy (slice_get state.subqueues there) ≡ true → is_busy o ≡ false → (left : ℕ) × (Done place ≡ Done there) × (says.Count (count_of (with_subqueue state place (after_finishing queue))) ≡ says.Count left)) state.subqueues place there queue _ at
           (λ here found busy ended. (count_of (with_subqueue state place (after_finishing queue)), ap Done (eqb-true place there here), refl))
           (λ apart busy ended. let clash : true ≡ false = sym busy ∙ ended in absurd (true≢false clash));
     })

@@ -2,7 +2,7 @@
 pub use Rattle.crawl_core.specs.Flags.{one_if}
 pub use Rattle.crawl_core.specs.GateSide.{GateSide, GateTurn, back, close, end_seeds, enter, enter_with, grant, holds, let_go, look, new_gate, remembers, same_word, shown_word, units_out}
 pub use Rattle.crawl_core.specs.Handing.{Hands, can_hand_over, handed_over, has_room, is_fetching, kept_progress, lets_in, progress, progress_of}
-pub use Rattle.crawl_core.specs.History.{AcceptsOnce, AreOut, AssignsEachUrl, FetchesOneAtATime, IsAdmitted, LeavesInOrder, NamesItsSubqueue, StaysClosed, TakesInOrder, TakesOnce, TakesWhereAdmitted, TellsClosing, TellsUnits, accepted_by, accepted_in, accepted_urls, comes_back, comes_out, done_by, done_in, ends_seeds, has_unit, holds_after, is_quiet, last_word, left_in, says_closed, taken_by, taken_urls, told_count, was_closed, was_ended, word_after}
+pub use Rattle.crawl_core.specs.History.{AcceptsOnce, AreOut, AssignsEachUrl, FetchesOneAtATime, IsAdmitted, LeavesInOrder, NamesItsSubqueue, StaysClosed, TakesInOrder, TakesOnce, TakesAsAdmitted, ReportsClosing, ReportsUnits, accepted_by, accepted_in, accepted_urls, comes_back, comes_out, done_by, done_in, ends_seeds, has_unit, holds_after, is_quiet, last_word, left_in, says_closed, taken_by, taken_urls, stated_count, was_closed, was_ended, word_after}
 pub use Rattle.crawl_core.specs.Invariants.{EachSubqueue, GateInvariant, HasRoom, IsAfter, IsFinished, IsState, SubqueueInvariant}
 pub use Rattle.crawl_core.specs.Kept.{IsCounted, Kept, KeptQueue, empty_queue, has_seen, has_text, kept_count, number_at, outstanding}
 pub use Rattle.crawl_core.specs.Messages.{Message, NumbersInOrder, UrlsDiffer, count_from, has_url, message_with, numbers_of}

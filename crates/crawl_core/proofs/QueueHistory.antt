@@ -1,6 +1,6 @@
 -- What a run's history states about a subqueue.
 use Rattle.crawl_core.proofs.Prelude.{common_steps, cond, ◌≡◌, ℕ, zero, suc, ◌+◌, ◌-◌, ◌<◌, Bool, true, false, List, [], ◌∷◌, ◌++◌, take, drop, map, slice_get, Option, Some, None, refl, sym, ap, subst, ◌∙◌, arith, true≢false, zip, cons_option, option_to_list, append_assoc, sum_by-cons, Event, Take, Done, Reply, Message, numbers_of, Subqueue, State, start, turn, Run, IsRun, accepted_by, taken_by, done_by, accepted_in, taken_urls, done_in, left_in, TakesInOrder, AcceptsOnce, LeavesInOrder, FetchesOneAtATime, SubqueueInvariant}
-use Rattle.crawl_core.specs.declared.reply.Reply.TheVariants as told
+use Rattle.crawl_core.specs.declared.reply.Reply.TheVariants as says
 use Rattle.crawl_core.proofs.Effects.{QueueEffect, queue_effect, append_nil, messages, urls_taken, finished_at, is_busy}
 use Rattle.crawl_core.proofs.Leaving.{firsts_found, firsts_numbered}
 use Rattle.crawl_core.proofs.RunParts.{eqb_same, pair_is, run_at, run_sound, start_sound, get-replicate, slice_get-drop, later_place}
@@ -130,7 +130,7 @@ leaves_in_order workers max events replies run = record {
 -- ## One fetch at a time
 
 -- after a subqueue is busy, the next take from it comes after a done
-done_before : (queue : ℕ) (old : State) (history : List (Event × Reply)) (new : State) → Sound old → Run old history new → is_busy (slice_get old.subqueues queue) ≡ true → (j : ℕ) (url : List ℕ) → slice_get history j ≡ Some (Take queue, told.Taken url) → (k : ℕ) × (left : ℕ) × (k < j) × (slice_get history k ≡ Some (Done queue, told.Count left))
+done_before : (queue : ℕ) (old : State) (history : List (Event × Reply)) (new : State) → Sound old → Run old history new → is_busy (slice_get old.subqueues queue) ≡ true → (j : ℕ) (url : List ℕ) → slice_get history j ≡ Some (Take queue, says.Taken url) → (k : ℕ) × (left : ℕ) × (k < j) × (slice_get history k ≡ Some (Done queue, says.Count left))
 done_before queue old [] new sound run busy j url at = absurd (cc)
 done_before queue old (x ∷ xs) new sound run busy zero url at =
     let effect = step_effect old sound x.0 in
@@ -143,23 +143,23 @@ done_before queue old (x ∷ xs) new sound run busy (suc j) url at =
     after : Sound run.0
     after = subst Sound (sym run.1.state_is) (gate_effect old sound x.0).sound
 
-    by_flag : (b : Bool) → is_busy (slice_get run.0.subqueues queue) ≡ b → (is_busy (slice_get run.0.subqueues queue) ≡ true → (k : ℕ) × (left : ℕ) × (k < j) × (slice_get xs k ≡ Some (Done queue, told.Count left))) → (k : ℕ) × (left : ℕ) × (k < suc j) × (slice_get (x ∷ xs) k ≡ Some (Done queue, told.Count left))
+    by_flag : (b : Bool) → is_busy (slice_get run.0.subqueues queue) ≡ b → (is_busy (slice_get run.0.subqueues queue) ≡ true → (k : ℕ) × (left : ℕ) × (k < j) × (slice_get xs k ≡ Some (Done queue, says.Count left))) → (k : ℕ) × (left : ℕ) × (k < suc j) × (slice_get (x ∷ xs) k ≡ Some (Done queue, says.Count left))
     by_flag true still later = let rest = later still in (suc rest.0, rest.1, omega (arith, rest.2), rest.3)
     by_flag false ended later =
         let effect = step_effect old sound x.0 in
         let over : is_busy (slice_get (turn old x.0).state.subqueues queue) ≡ false = rw (← run.1.state_is) ended in
         let done = effect.ends queue busy over in
-        let reply : x.1 ≡ told.Count done.0 = run.1.reply_is ∙ done.2 in
+        let reply : x.1 ≡ says.Count done.0 = run.1.reply_is ∙ done.2 in
         (0, done.0, omega arith, ap Some (pair_is done.1 reply))
 
 pub fetches_one_at_a_time : (workers max : ℕ) (events : List Event) (replies : List Reply) → IsRun workers max events replies → FetchesOneAtATime (zip events replies)
 fetches_one_at_a_time workers max events replies run queue i j first second below at_i at_j =
     let history = zip events replies in
-    let moment = run_at (start workers max) history i (Take queue, told.Taken first) run.end run.run at_i in
+    let moment = run_at (start workers max) history i (Take queue, says.Taken first) run.end run.run at_i in
     let sound = run_sound workers max (take i history) moment.before moment.came in
     let effect = step_effect moment.before sound (Take queue) in
     let taken : taken_by queue (Take queue) (turn moment.before (Take queue)).reply ≡ Some first = rw (← moment.step.reply_is, eqb_same queue) refl in
     let busy : is_busy (slice_get moment.after.subqueues queue) ≡ true = rw moment.step.state_is (effect.begins queue first taken).1 in
     let after = subst Sound (sym moment.step.state_is) (gate_effect moment.before sound (Take queue)).sound in
-    let done = done_before queue moment.after (drop (suc i) history) run.end after moment.goes busy (j - suc i) second (later_place history i j (Take queue, told.Taken second) below at_j) in
+    let done = done_before queue moment.after (drop (suc i) history) run.end after moment.goes busy (j - suc i) second (later_place history i j (Take queue, says.Taken second) below at_j) in
     (suc i + done.0, done.1, omega arith, omega (arith, below, done.2), sym (slice_get-drop history (suc i) done.0) ∙ done.3)

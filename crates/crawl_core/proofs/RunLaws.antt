@@ -1,7 +1,7 @@
 -- The laws of whole runs.
-use Rattle.crawl_core.proofs.Prelude.{cond, ◌≡◌, inl, inr, ℕ, zero, suc, ◌-◌, ◌<◌, ◌≤◌, Bool, true, false, List, [], ◌∷◌, ◌++◌, length, take, drop, map, nat_eq, slice_get, Option, Some, None, refl, sym, ap, subst, ◌∙◌, arith, eqb-true, ◌||◌, filter_map, if◌then◌else◌, zip, cons_option, Contains, list_any, option_map, append_assoc, length-map, map-append, nil_from_length, take-append-drop, cases_lt, sum_by-append, bytes_eq, bytes_eq-Decides, slice_get_past, Event, Look, Enter, Admit, Back, EndSeeds, Take, Done, Close, Reply, one_if, Message, Subqueue, finished, unfinished, State, start, count_of, take_from, turn, admit_to, Run, IsRun, accepted_by, taken_by, done_by, accepted_in, accepted_urls, taken_urls, done_in, is_quiet, AssignsEachUrl, IsAdmitted, TakesOnce, TakesWhereAdmitted, NamesItsSubqueue, StaysClosed, SubqueueInvariant, EachSubqueue, GateInvariant, HasRoom, IsAfter, IsState, IsFinished}
+use Rattle.crawl_core.proofs.Prelude.{cond, ◌≡◌, inl, inr, ℕ, zero, suc, ◌-◌, ◌<◌, ◌≤◌, Bool, true, false, List, [], ◌∷◌, ◌++◌, length, take, drop, map, nat_eq, slice_get, Option, Some, None, refl, sym, ap, subst, ◌∙◌, arith, eqb-true, ◌||◌, filter_map, if◌then◌else◌, zip, cons_option, Contains, list_any, option_map, append_assoc, length-map, map-append, nil_from_length, take-append-drop, cases_lt, sum_by-append, bytes_eq, bytes_eq-Decides, slice_get_past, Event, Look, Enter, Admit, Back, EndSeeds, Take, Done, Close, Reply, one_if, Message, Subqueue, finished, unfinished, State, start, count_of, take_from, turn, admit_to, Run, IsRun, accepted_by, taken_by, done_by, accepted_in, accepted_urls, taken_urls, done_in, is_quiet, AssignsEachUrl, IsAdmitted, TakesOnce, TakesAsAdmitted, NamesItsSubqueue, StaysClosed, SubqueueInvariant, EachSubqueue, GateInvariant, HasRoom, IsAfter, IsState, IsFinished}
 use Rattle.std.proofs.lemmas.List.Elements.{Contains-append_right}
-use Rattle.crawl_core.specs.declared.reply.Reply.TheVariants as told
+use Rattle.crawl_core.specs.declared.reply.Reply.TheVariants as says
 use Rattle.crawl_core.proofs.Places.{from_filter_map, at_rank, rank_below, zip_first, slice_get-map}
 use Rattle.crawl_core.proofs.Holders.{rising_differ}
 use Rattle.crawl_core.proofs.Effects.{messages, urls_taken, finished_at, cond_both}
@@ -34,12 +34,12 @@ after_history place history state queue at said =
     let accepted : accepted_in place history ≡ queue.accepted = rw at at said.accepted in
     let taken : taken_urls place history ≡ map (λ (m : Message). m.url) (take queue.taken queue.accepted) = rw at at said.taken in
     let done : done_in place history ≡ finished queue = rw at at said.done in
-    let as_many : length (taken_urls place history) ≡ queue.taken = rw (taken, length-map) (length_first queue.accepted queue.taken inv.within) in
+    let right_length : length (taken_urls place history) ≡ queue.taken = rw (taken, length-map) (length_first queue.accepted queue.taken inv.within) in
     record {
       accepted = sym accepted;
-      taken = sym as_many;
+      taken = sym right_length;
       waits = rw (accepted, taken, ← map-append, take-append-drop queue.taken queue.accepted) refl;
-      done = omega (arith, done, as_many, inv.begun);
+      done = omega (arith, done, right_length, inv.begun);
     }
 
 pub state_of_history : (workers max : ℕ) (history : List (Event × Reply)) (state : State) → Run (start workers max) history state → IsState workers max history state
@@ -47,11 +47,11 @@ state_of_history workers max history state run =
     let shape = run_shape workers max history state run in
     record {
       maximum = shape.maximum;
-      as_many = shape.as_many;
+      right_length = shape.right_length;
       queues = λ place queue at. after_history place history state queue at (history_at workers max place history state run);
       no_others = λ place beyond.
           let said = history_at workers max place history state run in
-          let none = slice_get_past state.subqueues place (omega (arith, beyond, shape.as_many)) in
+          let none = slice_get_past state.subqueues place (omega (arith, beyond, shape.right_length)) in
           (rw none at said.accepted, rw none at said.taken);
       units = units_out_of workers max history state run;
       closed = closed_of workers max history state run;
@@ -82,9 +82,9 @@ finished_at_zero state sound none = record {
         let idle : one_if queue.busy ≡ 0 = omega (arith, none, inv.within, inv.begun) in
         (omega (arith, none, inv.within, idle), no_flag queue.busy idle)
 
-pub closed_means_finished : (workers max : ℕ) (front back : List (Event × Reply)) (event : Event) (end : State) → Run (start workers max) (front ++ (event, told.Closed) ∷ back) end → (state : State) × Run (start workers max) (front ++ (event, told.Closed) ∷ []) state × IsFinished state
+pub closed_means_finished : (workers max : ℕ) (front back : List (Event × Reply)) (event : Event) (end : State) → Run (start workers max) (front ++ (event, says.Closed) ∷ back) end → (state : State) × Run (start workers max) (front ++ (event, says.Closed) ∷ []) state × IsFinished state
 closed_means_finished workers max front back event end run =
-    let x : Event × Reply = (event, told.Closed) in
+    let x : Event × Reply = (event, says.Closed) in
     let whole : Run (start workers max) ((front ++ x ∷ []) ++ back) end = rw append_assoc run in
     let parts = run_split (start workers max) (front ++ x ∷ []) back end whole in
     let last = run_split (start workers max) front (x ∷ []) parts.0 parts.1 in
@@ -98,7 +98,7 @@ closed_means_finished workers max front back event end run =
 pub closed_for_good : (workers max : ℕ) (events : List Event) (replies : List Reply) → IsRun workers max events replies → StaysClosed (zip events replies)
 closed_for_good workers max events replies run i j event later below at_i at_j =
     let history = zip events replies in
-    let first = run_at (start workers max) history i (event, told.Closed) run.end run.run at_i in
+    let first = run_at (start workers max) history i (event, says.Closed) run.end run.run at_i in
     let sound = run_sound workers max (take i history) first.before first.came in
     let effect = gate_effect first.before sound event in
     let closing : Sound (turn first.before event).state × ((turn first.before event).state.gate.closed ≡ true) = (effect.sound, effect.closes (sym first.step.reply_is)) in
@@ -111,7 +111,7 @@ closed_for_good workers max events replies run i j event later below at_i at_j =
 -- ## Admissions
 
 -- an accepted message comes from an admission of its URL, whose reply names the subqueue
-accepted_source : (queue : ℕ) (event : Event) (reply : Reply) (m : Message) → accepted_by queue event reply ≡ Some m → (sender place number : ℕ) × (event ≡ Admit sender m.url place) × (reply ≡ told.Accepted queue number)
+accepted_source : (queue : ℕ) (event : Event) (reply : Reply) (m : Message) → accepted_by queue event reply ≡ Some m → (sender place number : ℕ) × (event ≡ Admit sender m.url place) × (reply ≡ says.Accepted queue number)
 accepted_source queue (Look s) reply m is = absurd (cc)
 accepted_source queue (Enter s) reply m is = absurd (cc)
 accepted_source queue (Back s) reply m is = absurd (cc)
@@ -119,21 +119,21 @@ accepted_source queue EndSeeds reply m is = absurd (cc)
 accepted_source queue (Take q) reply m is = absurd (cc)
 accepted_source queue (Done q) reply m is = absurd (cc)
 accepted_source queue Close reply m is = absurd (cc)
-accepted_source queue (Admit sender url place) (told.Accepted there number) m is = by_test (nat_eq there queue) refl is
+accepted_source queue (Admit sender url place) (says.Accepted there number) m is = by_test (nat_eq there queue) refl is
   where
-    by_test : (b : Bool) → nat_eq there queue ≡ b → (if b then Some (record { url = url; sender = sender; number = number }) else None) ≡ Some m → (from to n : ℕ) × (Admit sender url place ≡ Admit from m.url to) × (told.Accepted there number ≡ told.Accepted queue n)
+    by_test : (b : Bool) → nat_eq there queue ≡ b → (if b then Some (record { url = url; sender = sender; number = number }) else None) ≡ Some m → (from to n : ℕ) × (Admit sender url place ≡ Admit from m.url to) × (says.Accepted there number ≡ says.Accepted queue n)
     by_test true same is = let url_is : url ≡ m.url = ap (λ (x : Message). x.url) (some_is is) in (sender, place, number, rw url_is refl, rw (eqb-true there queue same) refl)
     by_test false other is = absurd (cc)
 accepted_source queue (Admit sender url place) _ m is = absurd (cc)
 
 -- the reply `Accepted` names the subqueue of its event
-told_place : (state : State) (sender place : ℕ) (url : List ℕ) (o : Option Subqueue) (there number : ℕ) → told.Accepted there number ≡ (admit_to state sender url place o).reply → there ≡ place
-told_place state sender place url o there number = grind arith
+stated_place : (state : State) (sender place : ℕ) (url : List ℕ) (o : Option Subqueue) (there number : ℕ) → says.Accepted there number ≡ (admit_to state sender url place o).reply → there ≡ place
+stated_place state sender place url o there number = grind arith
 
 named_in : (workers max : ℕ) (history : List (Event × Reply)) (end : State) → Run (start workers max) history end → NamesItsSubqueue history
 named_in workers max history end run k sender queue there number url at =
-    let moment = run_at (start workers max) history k (Admit sender url queue, told.Accepted there number) end run at in
-    told_place moment.before sender queue url (slice_get moment.before.subqueues queue) there number moment.step.reply_is
+    let moment = run_at (start workers max) history k (Admit sender url queue, says.Accepted there number) end run at in
+    stated_place moment.before sender queue url (slice_get moment.before.subqueues queue) there number moment.step.reply_is
 
 pub names_its_subqueue : (workers max : ℕ) (events : List Event) (replies : List Reply) → IsRun workers max events replies → NamesItsSubqueue (zip events replies)
 names_its_subqueue workers max events replies run = named_in workers max (zip events replies) run.end run.run
@@ -143,39 +143,39 @@ admission : (workers max queue : ℕ) (history : List (Event × Reply)) (end : S
 admission workers max queue history end run k m at =
     let source = from_filter_map (λ (x : Event × Reply). accepted_by queue x.0 x.1) history k m at in
     let came = accepted_source queue source.item.0 source.item.1 m source.gives in
-    let item : source.item ≡ (Admit came.0 m.url came.1, told.Accepted queue came.2) = pair_is came.3 came.4 in
-    let there : slice_get history source.place ≡ Some (Admit came.0 m.url came.1, told.Accepted queue came.2) = source.at ∙ ap Some item in
+    let item : source.item ≡ (Admit came.0 m.url came.1, says.Accepted queue came.2) = pair_is came.3 came.4 in
+    let there : slice_get history source.place ≡ Some (Admit came.0 m.url came.1, says.Accepted queue came.2) = source.at ∙ ap Some item in
     let same : queue ≡ came.1 = named_in workers max history end run source.place came.0 came.1 queue came.2 m.url there in
-    let At : ℕ → Type 0 = λ q. slice_get history source.place ≡ Some (Admit came.0 m.url q, told.Accepted queue came.2) in
-    (source.place, came.0, told.Accepted queue came.2, subst At (sym same) there)
+    let At : ℕ → Type 0 = λ q. slice_get history source.place ≡ Some (Admit came.0 m.url q, says.Accepted queue came.2) in
+    (source.place, came.0, says.Accepted queue came.2, subst At (sym same) there)
 
 -- a URL that is taken was admitted to the subqueue
-pub was_admitted : (workers max : ℕ) (events : List Event) (replies : List Reply) → IsRun workers max events replies → (i queue : ℕ) (url : List ℕ) → slice_get (zip events replies) i ≡ Some (Take queue, told.Taken url) → IsAdmitted events queue url
+pub was_admitted : (workers max : ℕ) (events : List Event) (replies : List Reply) → IsRun workers max events replies → (i queue : ℕ) (url : List ℕ) → slice_get (zip events replies) i ≡ Some (Take queue, says.Taken url) → IsAdmitted events queue url
 was_admitted workers max events replies run i queue url at =
     let history = zip events replies in
-    let here : taken_by queue (Take queue) (told.Taken url) ≡ Some url = rw (eqb_same queue) refl in
-    let taken = at_rank (λ (x : Event × Reply). taken_by queue x.0 x.1) history i (Take queue, told.Taken url) url at here in
+    let here : taken_by queue (Take queue) (says.Taken url) ≡ Some url = rw (eqb_same queue) refl in
+    let taken = at_rank (λ (x : Event × Reply). taken_by queue x.0 x.1) history i (Take queue, says.Taken url) url at here in
     let accepted = takes_in_order workers max events replies run queue _ url taken in
     let message = url_at (accepted_in queue history) _ url accepted in
     let came = admission workers max queue history run.end run.run _ message.0 message.1 in
     let place = zip_first events replies came.0 (Admit came.1 message.0.url queue) came.2 came.3 in
     (came.0, came.1, rw message.2 at place)
 
-pub takes_where_admitted : (workers max : ℕ) (events : List Event) (replies : List Reply) → IsRun workers max events replies → AssignsEachUrl events → TakesWhereAdmitted events (zip events replies)
+pub takes_where_admitted : (workers max : ℕ) (events : List Event) (replies : List Reply) → IsRun workers max events replies → AssignsEachUrl events → TakesAsAdmitted events (zip events replies)
 takes_where_admitted workers max events replies run assigned i j sender queue there url at_i at_j =
     let was = was_admitted workers max events replies run i queue url at_i in
     assigned was.0 j was.1 sender url queue there was.2 at_j
 
 -- two takes of the same URL from the same subqueue are the same take
-not_before : (workers max : ℕ) (events : List Event) (replies : List Reply) → IsRun workers max events replies → (i j queue : ℕ) (url : List ℕ) → i < j → slice_get (zip events replies) i ≡ Some (Take queue, told.Taken url) → slice_get (zip events replies) j ≡ Some (Take queue, told.Taken url) → ⊥
+not_before : (workers max : ℕ) (events : List Event) (replies : List Reply) → IsRun workers max events replies → (i j queue : ℕ) (url : List ℕ) → i < j → slice_get (zip events replies) i ≡ Some (Take queue, says.Taken url) → slice_get (zip events replies) j ≡ Some (Take queue, says.Taken url) → ⊥
 not_before workers max events replies run i j queue url below at_i at_j =
     let history = zip events replies in
     let h : Event × Reply → Option (List ℕ) = λ x. taken_by queue x.0 x.1 in
-    let here : taken_by queue (Take queue) (told.Taken url) ≡ Some url = rw (eqb_same queue) refl in
-    let first = takes_in_order workers max events replies run queue _ url (at_rank h history i (Take queue, told.Taken url) url at_i here) in
-    let second = takes_in_order workers max events replies run queue _ url (at_rank h history j (Take queue, told.Taken url) url at_j here) in
+    let here : taken_by queue (Take queue) (says.Taken url) ≡ Some url = rw (eqb_same queue) refl in
+    let first = takes_in_order workers max events replies run queue _ url (at_rank h history i (Take queue, says.Taken url) url at_i here) in
+    let second = takes_in_order workers max events replies run queue _ url (at_rank h history j (Take queue, says.Taken url) url at_j here) in
     let same = accepts_once workers max events replies run queue _ _ url first second in
-    let apart = rank_below h history i j (Take queue, told.Taken url) url below at_i here in
+    let apart = rank_below h history i j (Take queue, says.Taken url) url below at_i here in
     omega (arith, same, apart)
 
 pub takes_once : (workers max : ℕ) (events : List Event) (replies : List Reply) → IsRun workers max events replies → AssignsEachUrl events → TakesOnce (zip events replies)
@@ -183,7 +183,7 @@ takes_once workers max events replies run assigned i j queue there url at_i at_j
     let first = was_admitted workers max events replies run i queue url at_i in
     let second = was_admitted workers max events replies run j there url at_j in
     let same : queue ≡ there = assigned first.0 second.0 first.1 second.1 url queue there first.2 second.2 in
-    let at_i' : slice_get (zip events replies) i ≡ Some (Take there, told.Taken url) = rw same at at_i in
+    let at_i' : slice_get (zip events replies) i ≡ Some (Take there, says.Taken url) = rw same at at_i in
     elim (cases_lt i j) [
       | inl below ↦ absurd (not_before workers max events replies run i j there url below at_i' at_j)
       | inr least ↦ elim (cases_lt j i) [
@@ -203,10 +203,10 @@ message_was_admitted workers max history state run queue k found m at at_k =
 
 -- ## What the history of a closed run states
 
-closing_accepts : (queue : ℕ) (event : Event) → accepted_by queue event told.Closed ≡ None
+closing_accepts : (queue : ℕ) (event : Event) → accepted_by queue event says.Closed ≡ None
 closing_accepts queue event = grind arith
 
-closing_takes : (queue : ℕ) (event : Event) → taken_by queue event told.Closed ≡ None
+closing_takes : (queue : ℕ) (event : Event) → taken_by queue event says.Closed ≡ None
 closing_takes queue event = grind arith
 
 -- a `filter_map` over a list is not changed by a last element that gives nothing
@@ -224,9 +224,9 @@ take_all (x ∷ xs) (suc n) e = ap (λ ys. x ∷ ys) (take_all xs n (omega (arit
 taken_whole : (o : Option Subqueue) → ((found : Subqueue) → o ≡ Some found → found.taken ≡ length found.accepted) → urls_taken o ≡ map (λ m. m.url) (messages o)
 taken_whole o all = grind (arith, take_all)
 
-pub drained : (workers max : ℕ) (front back : List (Event × Reply)) (event : Event) (end : State) → Run (start workers max) (front ++ (event, told.Closed) ∷ back) end → (queue : ℕ) → taken_urls queue front ≡ accepted_urls queue front
+pub drained : (workers max : ℕ) (front back : List (Event × Reply)) (event : Event) (end : State) → Run (start workers max) (front ++ (event, says.Closed) ∷ back) end → (queue : ℕ) → taken_urls queue front ≡ accepted_urls queue front
 drained workers max front back event end run queue =
-    let x : Event × Reply = (event, told.Closed) in
+    let x : Event × Reply = (event, says.Closed) in
     let finished = closed_means_finished workers max front back event end run in
     let said = history_at workers max queue (front ++ x ∷ []) finished.0 finished.1 in
     let whole = taken_whole (slice_get finished.0.subqueues queue) (λ found at. (finished.2.done queue found at).0) in
@@ -234,16 +234,16 @@ drained workers max front back event end run queue =
     let accepted = filter_map-last (λ (y : Event × Reply). accepted_by queue y.0 y.1) front x (closing_accepts queue event) in
     sym taken ∙ said.taken ∙ whole ∙ ap (map (λ (m : Message). m.url)) (sym said.accepted ∙ accepted)
 
-closing_done : (queue : ℕ) (event : Event) → done_by queue event told.Closed ≡ false
+closing_done : (queue : ℕ) (event : Event) → done_by queue event says.Closed ≡ false
 closing_done queue event = grind arith
 
 -- if nothing is being fetched, the number of finished URLs is the number of URLs that were taken
 done_whole : (o : Option Subqueue) → ((found : Subqueue) → o ≡ Some found → (found.busy ≡ false) × (found.taken ≤ length found.accepted)) → finished_at o ≡ length (urls_taken o)
 done_whole o all = grind (arith, length_first, length-map)
 
-pub all_done : (workers max : ℕ) (front back : List (Event × Reply)) (event : Event) (end : State) → Run (start workers max) (front ++ (event, told.Closed) ∷ back) end → (queue : ℕ) → done_in queue front ≡ length (taken_urls queue front)
+pub all_done : (workers max : ℕ) (front back : List (Event × Reply)) (event : Event) (end : State) → Run (start workers max) (front ++ (event, says.Closed) ∷ back) end → (queue : ℕ) → done_in queue front ≡ length (taken_urls queue front)
 all_done workers max front back event end run queue =
-    let x : Event × Reply = (event, told.Closed) in
+    let x : Event × Reply = (event, says.Closed) in
     let finished = closed_means_finished workers max front back event end run in
     let said = history_at workers max queue (front ++ x ∷ []) finished.0 finished.1 in
     let whole = done_whole (slice_get finished.0.subqueues queue) (λ found at. ((finished.2.done queue found at).1, (said.sound found at).within)) in
@@ -261,10 +261,10 @@ accepted_among (x ∷ xs) url e = by_first (bytes_eq x.url url) refl (accepted_a
     by_first false _ rest later = Contains-append_right (x.url ∷ []) (map (λ (m : Message). m.url) xs) url (rest later)
 
 -- a reply `Seen` was given by a subqueue that had accepted the URL
-seen_by : (state : State) (sender place : ℕ) (url : List ℕ) (o : Option Subqueue) → told.Seen ≡ (admit_to state sender url place o).reply → Contains (map (λ (m : Message). m.url) (messages o)) url
+seen_by : (state : State) (sender place : ℕ) (url : List ℕ) (o : Option Subqueue) → says.Seen ≡ (admit_to state sender url place o).reply → Contains (map (λ (m : Message). m.url) (messages o)) url
 seen_by state sender place url o = grind (arith, cond_both, accepted_among)
 
-pub seen_means_accepted : (workers max : ℕ) (front back : List (Event × Reply)) (sender queue : ℕ) (url : List ℕ) (end : State) → Run (start workers max) (front ++ (Admit sender url queue, told.Seen) ∷ back) end → Contains (accepted_urls queue front) url
+pub seen_means_accepted : (workers max : ℕ) (front back : List (Event × Reply)) (sender queue : ℕ) (url : List ℕ) (end : State) → Run (start workers max) (front ++ (Admit sender url queue, says.Seen) ∷ back) end → Contains (accepted_urls queue front) url
 seen_means_accepted workers max front back sender queue url end run = grind (arith, run_split, history_at, seen_by)
 
 -- ## Empty
@@ -282,8 +282,8 @@ take_beyond (x ∷ xs) zero beyond = absurd (omega (arith, beyond))
 take_beyond (x ∷ xs) (suc n) beyond = ap (λ ys. x ∷ ys) (take_beyond xs n (omega (arith, beyond)))
 
 -- a reply `Empty` was given by a subqueue with nothing left
-empty_by : (state : State) (place : ℕ) (o : Option Subqueue) → told.Empty ≡ (take_from state place o).reply → urls_taken o ≡ map (λ (m : Message). m.url) (messages o)
+empty_by : (state : State) (place : ℕ) (o : Option Subqueue) → says.Empty ≡ (take_from state place o).reply → urls_taken o ≡ map (λ (m : Message). m.url) (messages o)
 empty_by state place o = grind (arith, urls_taken, cond_both, take_beyond, get_none)
 
-pub empty_means_taken : (workers max : ℕ) (front back : List (Event × Reply)) (queue : ℕ) (end : State) → Run (start workers max) (front ++ (Take queue, told.Empty) ∷ back) end → taken_urls queue front ≡ accepted_urls queue front
+pub empty_means_taken : (workers max : ℕ) (front back : List (Event × Reply)) (queue : ℕ) (end : State) → Run (start workers max) (front ++ (Take queue, says.Empty) ∷ back) end → taken_urls queue front ≡ accepted_urls queue front
 empty_means_taken workers max front back queue end run = grind (arith, run_split, history_at, empty_by)

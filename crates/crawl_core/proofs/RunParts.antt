@@ -1,7 +1,7 @@
 -- Parts of a run, and the invariants of every run.
-use Rattle.crawl_core.proofs.Prelude.{common_steps, Bool, true, ◌||◌, eq-eqb, ◌≡◌, ℕ, zero, suc, ◌+◌, ◌-◌, ◌<◌, List, [], ◌∷◌, ◌++◌, length, take, drop, nat_eq, replicate, slice_get, Some, refl, sym, ap, subst, ◌∙◌, arith, mul-zero, zero-add, count_by, zip, length-replicate, sum_by-cons, Event, Look, Reply, empty_subqueue, unfinished, holds, State, start, count_of, Step, turn, Run, IsRun, comes_out, comes_back, told_count, AreOut, TellsUnits, was_closed, TellsClosing}
+use Rattle.crawl_core.proofs.Prelude.{common_steps, Bool, true, ◌||◌, eq-eqb, ◌≡◌, ℕ, zero, suc, ◌+◌, ◌-◌, ◌<◌, List, [], ◌∷◌, ◌++◌, length, take, drop, nat_eq, replicate, slice_get, Some, refl, sym, ap, subst, ◌∙◌, arith, mul-zero, zero-add, count_by, zip, length-replicate, sum_by-cons, Event, Look, Reply, empty_subqueue, unfinished, holds, State, start, count_of, Step, turn, Run, IsRun, comes_out, comes_back, stated_count, AreOut, ReportsUnits, was_closed, ReportsClosing}
 use Rattle.std.proofs.lemmas.List.Folds.{sum_by-replicate}
-use Rattle.crawl_core.specs.declared.reply.Reply.TheVariants as told
+use Rattle.crawl_core.specs.declared.reply.Reply.TheVariants as says
 use Rattle.crawl_core.proofs.Effects.{take_one_more}
 use Rattle.crawl_core.proofs.RunSteps.{Run-push}
 use Rattle.crawl_core.proofs.Sound.{Sound, gate_effect, or_nothing, some_is}
@@ -88,12 +88,12 @@ units_out_of workers max history state run =
     let changes = run_units (start workers max) history state (start_sound workers max) run in
     rw (start_count workers max) at changes
 
-pub tells_units : (workers max : ℕ) (events : List Event) (replies : List Reply) → IsRun workers max events replies → TellsUnits (zip events replies)
-tells_units workers max events replies run k count event reply at told_is =
+pub reports_units : (workers max : ℕ) (events : List Event) (replies : List Reply) → IsRun workers max events replies → ReportsUnits (zip events replies)
+reports_units workers max events replies run k count event reply at answered_is =
     let history = zip events replies in
     let moment = run_at (start workers max) history k (event, reply) run.end run.run at in
     let effect = gate_effect moment.before (run_sound workers max (take k history) moment.before moment.came) event in
-    let told_here : told_count (turn moment.before event).reply ≡ Some count = rw (← moment.step.reply_is) told_is in
+    let told_here : stated_count (turn moment.before event).reply ≡ Some count = rw (← moment.step.reply_is) answered_is in
     let is_count : count_of moment.after ≡ count = rw moment.step.state_is (effect.tells count told_here) in
     let whole : Run (start workers max) (take (suc k) history) moment.after = rw (take_one_more history k (event, reply) at) (Run-push (start workers max) (take k history) moment.before (event, reply) moment.after moment.came moment.step) in
     rw (← is_count) (units_out_of workers max (take (suc k) history) moment.after whole)
@@ -110,13 +110,13 @@ run_closes old (x ∷ xs) new sound run = grind (arith, gate_effect, or_three, r
 pub closed_of : (workers max : ℕ) (history : List (Event × Reply)) (state : State) → Run (start workers max) history state → state.gate.closed ≡ was_closed history
 closed_of workers max history state run = run_closes (start workers max) history state (start_sound workers max) run
 
-flag_of_word : {a b : ℕ} {c d : Bool} → told.Word a c ≡ told.Word b d → c ≡ d
+flag_of_word : {a b : ℕ} {c d : Bool} → says.Word a c ≡ says.Word b d → c ≡ d
 flag_of_word e = cc
 
-pub tells_closing : (workers max : ℕ) (events : List Event) (replies : List Reply) → IsRun workers max events replies → TellsClosing (zip events replies)
-tells_closing workers max events replies run k sender count closed at =
+pub reports_closing : (workers max : ℕ) (events : List Event) (replies : List Reply) → IsRun workers max events replies → ReportsClosing (zip events replies)
+reports_closing workers max events replies run k sender count closed at =
     let history = zip events replies in
-    let moment = run_at (start workers max) history k (Look sender, told.Word count closed) run.end run.run at in
+    let moment = run_at (start workers max) history k (Look sender, says.Word count closed) run.end run.run at in
     flag_of_word moment.step.reply_is ∙ closed_of workers max (take k history) moment.before moment.came
 
 -- ## The numbers of a frontier
@@ -124,27 +124,27 @@ tells_closing workers max events replies run k sender count closed at =
 pub record Shape (workers max : ℕ) (state : State) : Type 0 where
   pub sound : Sound state
   pub maximum : state.gate.max ≡ max
-  pub as_many : length state.subqueues ≡ workers
+  pub right_length : length state.subqueues ≡ workers
 
 pub run_shape : (workers max : ℕ) (history : List (Event × Reply)) (state : State) → Run (start workers max) history state → Shape workers max state
 run_shape workers max history state run =
-    run_keeps (Shape workers max) (λ s shape event. let effect = gate_effect s shape.sound event in record { sound = effect.sound; maximum = effect.max ∙ shape.maximum; as_many = effect.as_many ∙ shape.as_many }) (start workers max) history state (record { sound = start_sound workers max; maximum = refl; as_many = length-replicate workers empty_subqueue }) run
+    run_keeps (Shape workers max) (λ s shape event. let effect = gate_effect s shape.sound event in record { sound = effect.sound; maximum = effect.max ∙ shape.maximum; right_length = effect.right_length ∙ shape.right_length }) (start workers max) history state (record { sound = start_sound workers max; maximum = refl; right_length = length-replicate workers empty_subqueue }) run
 
 -- ## A run for all events
 
 record Replied (old : State) (events : List Event) : Type 0 where
   pub replies : List Reply
-  pub as_many : length replies ≡ length events
+  pub right_length : length replies ≡ length events
   pub end : State
   pub run : Run old (zip events replies) end
 
 replied : (old : State) (events : List Event) → Replied old events
-replied old [] = record { replies = []; as_many = refl; end = old; run = refl }
+replied old [] = record { replies = []; right_length = refl; end = old; run = refl }
 replied old (e ∷ es) =
     let rest = replied (turn old e).state es in
     record {
       replies = (turn old e).reply ∷ rest.replies;
-      as_many = ap suc rest.as_many;
+      right_length = ap suc rest.right_length;
       end = rest.end;
       run = ((turn old e).state, record { reply_is = refl; state_is = refl }, rest.run);
     }
@@ -152,4 +152,4 @@ replied old (e ∷ es) =
 pub some_run : (workers max : ℕ) (events : List Event) → (replies : List Reply) × IsRun workers max events replies
 some_run workers max events =
     let all = replied (start workers max) events in
-    (all.replies, record { as_many = all.as_many; end = all.end; run = all.run })
+    (all.replies, record { right_length = all.right_length; end = all.end; run = all.run })

@@ -3,7 +3,7 @@ use Rattle.crawl_core.proofs.Prelude.{◌≡◌, ℕ, List, [], ◌∷◌, ◌++
 
 -- a new frontier had these replies to these events, and this is kept after them
 pub record RunTo (workers max : ℕ) (events : List Event) (replies : List Reply) (kept : Kept) : Type 0 where
-  pub as_many : length replies ≡ length events
+  pub right_length : length replies ≡ length events
   pub state : State
   pub run : Run (start workers max) (zip events replies) state
   pub shown : Shows kept state

@@ -1,7 +1,7 @@
 -- A move of what is kept is a step of each state that it may represent.
 use Rattle.crawl_core.proofs.Prelude.{eqb-true, unwrap_or, subst, ◌≡◌, ℕ, zero, suc, Bool, true, false, cond, ◌||◌, not, nat_eq, ◌+◌, List, [], ◌∷◌, ◌++◌, map, drop, replicate, slice_get, slice_set, Option, Some, None, refl, sym, ap, ◌∙◌, arith, MatchOption, if◌then◌else◌, AllZip, sum_by, nat_cmp, bytes_eq, is_at, lookup, nat_cmp_total, length-map, length-drop, map-append, drop-append-le, length_push, sum_by-cons, sum_by_push, nat_tests, slice_get_within, Event, Look, Enter, Admit, Back, EndSeeds, Take, Done, Close, Reply, Message, has_url, count_from, Subqueue, unfinished, oldest, next_message, after_accepting, after_taking, after_finishing, GateTurn, new_gate, holds, look, enter, back, end_seeds, close, State, start, Turn, turn, Kept, KeptQueue, empty_queue, outstanding, has_text, has_seen, number_at, Shows, ShowsQueue, Makes}
 use Rattle.std.proofs.Math.ListN.{drop_of_length-le}
-use Rattle.crawl_core.specs.declared.reply.Reply.TheVariants as told
+use Rattle.crawl_core.specs.declared.reply.Reply.TheVariants as says
 use Rattle.crawl_core.specs.declared.reply.Refusal.TheVariants as why
 use Rattle.crawl_core.specs.Step as step
 use Rattle.crawl_core.specs.Moves.{Moves, Move, move, by_gate, admit_to, take_from, take_oldest, done_with, accepting}
@@ -111,13 +111,13 @@ gate_agrees : (queues : List KeptQueue) (state : State) → AllZip ShowsQueue qu
 gate_agrees queues state shown done = record { queues = queues; shown = shown; is_move = rw (sums queues state.subqueues shown) refl }
 
 admit_agrees : (queues : List KeptQueue) (state : State) → AllZip ShowsQueue queues state.subqueues → (sender : ℕ) (url : List ℕ) (place : ℕ) (kept : Option KeptQueue) (queue : Option Subqueue) → Both ShowsQueue kept queue → Agrees (admit_to (keeping queues state) sender url place kept) (step.admit_to state sender url place queue)
-admit_agrees queues state shown sender url place None None both = unchanged queues state shown (told.Refused why.NoSuch)
+admit_agrees queues state shown sender url place None None both = unchanged queues state shown (says.Refused why.NoSuch)
 admit_agrees queues state shown sender url place None (Some queue) both = absurd both
 admit_agrees queues state shown sender url place (Some kept) None both = absurd both
 admit_agrees queues state shown sender url place (Some kept) (Some queue) both =
     rw (seen_shows kept queue url both)
-    (agrees_if (not (holds state.gate sender)) _ _ _ _ (unchanged queues state shown (told.Refused why.Nothing))
-    (agrees_if (has_url queue.accepted url) _ _ _ _ (unchanged queues state shown told.Seen)
+    (agrees_if (not (holds state.gate sender)) _ _ _ _ (unchanged queues state shown (says.Refused why.Nothing))
+    (agrees_if (has_url queue.accepted url) _ _ _ _ (unchanged queues state shown says.Seen)
     (record {
       queues = slice_set queues place (accepting kept url sender);
       shown = AllZip-slice_set ShowsQueue queues state.subqueues place _ _ shown (accepted_shows kept queue url sender both);
@@ -127,7 +127,7 @@ admit_agrees queues state shown sender url place (Some kept) (Some queue) both =
 oldest_agrees : (queues : List KeptQueue) (state : State) → AllZip ShowsQueue queues state.subqueues → (place : ℕ) (kept : KeptQueue) (queue : Subqueue) → ShowsQueue kept queue → (message : Option Message) → oldest queue ≡ message → Agrees (take_oldest (keeping queues state) place kept kept.waiting) (step.take_oldest state place queue message)
 oldest_agrees queues state shown place kept queue both None at =
     let rest = rw at at (drop-slice_get queue.accepted queue.taken) in
-    rw (both.waits, rest) (unchanged queues state shown told.Empty)
+    rw (both.waits, rest) (unchanged queues state shown says.Empty)
 oldest_agrees queues state shown place kept queue both (Some message) at =
     let rest = rw at at (drop-slice_get queue.accepted queue.taken) in
     rw (both.waits, rest) (record {
@@ -140,7 +140,7 @@ take_agrees : (queues : List KeptQueue) (state : State) → AllZip ShowsQueue qu
 take_agrees queues state shown place kept queue both = grind (arith, unchanged, agrees_if, oldest_agrees)
 
 done_agrees : (queues : List KeptQueue) (state : State) → AllZip ShowsQueue queues state.subqueues → (place : ℕ) (kept : Option KeptQueue) (queue : Option Subqueue) → Both ShowsQueue kept queue → Agrees (done_with (keeping queues state) place kept) (step.done_with state place queue)
-done_agrees queues state shown place None None both = unchanged queues state shown (told.Refused why.NoSuch)
+done_agrees queues state shown place None None both = unchanged queues state shown (says.Refused why.NoSuch)
 done_agrees queues state shown place None (Some queue) both = absurd both
 done_agrees queues state shown place (Some kept) None both = absurd both
 done_agrees queues state shown place (Some kept) (Some queue) both = grind (arith, AllZip-slice_set, agrees_if, unchanged, sums)

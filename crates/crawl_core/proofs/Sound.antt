@@ -1,7 +1,7 @@
 -- The invariants, and that each step keeps them.
-use Rattle.crawl_core.proofs.Prelude.{unwrap_or, ◌≡◌, ℕ, zero, suc, ◌+◌, ◌≤◌, Bool, true, false, cond, not, ◌||◌, List, [], ◌∷◌, length, nat_eq, slice_get, Option, Some, None, refl, sym, ap, subst, ◌∙◌, arith, true≢false, Ordering, nat_tests, list_any, list_all, nat_cmp, is_at, insert_entry, insert_key, lookup, remove_entry, nat_list_eq_equiv, take-append-le, length_push, eqb-false, length-remove_key, slice_get_within, Word, Event, Look, Enter, Admit, Back, EndSeeds, Take, Done, Close, Reply, one_if, Message, has_url, Subqueue, empty_subqueue, unfinished, oldest, next_message, after_accepting, after_taking, after_finishing, GateSide, GateTurn, units_out, holds, let_go, same_word, enter_with, close, State, unfinished_in, count_of, word_of, Turn, turn, by_gate, with_subqueue, put, admit_to, take_oldest, take_from, done_with, is_quiet, says_closed, comes_out, comes_back, told_count, SubqueueInvariant, EachSubqueue}
+use Rattle.crawl_core.proofs.Prelude.{unwrap_or, ◌≡◌, ℕ, zero, suc, ◌+◌, ◌≤◌, Bool, true, false, cond, not, ◌||◌, List, [], ◌∷◌, length, nat_eq, slice_get, Option, Some, None, refl, sym, ap, subst, ◌∙◌, arith, true≢false, Ordering, nat_tests, list_any, list_all, nat_cmp, is_at, insert_entry, insert_key, lookup, remove_entry, nat_list_eq_equiv, take-append-le, length_push, eqb-false, length-remove_key, slice_get_within, Word, Event, Look, Enter, Admit, Back, EndSeeds, Take, Done, Close, Reply, one_if, Message, has_url, Subqueue, empty_subqueue, unfinished, oldest, next_message, after_accepting, after_taking, after_finishing, GateSide, GateTurn, units_out, holds, let_go, same_word, enter_with, close, State, unfinished_in, count_of, word_of, Turn, turn, by_gate, with_subqueue, put, admit_to, take_oldest, take_from, done_with, is_quiet, says_closed, comes_out, comes_back, stated_count, SubqueueInvariant, EachSubqueue}
 use Rattle.std.proofs.Math.Seq.{take-length}
-use Rattle.crawl_core.specs.declared.reply.Reply.TheVariants as told
+use Rattle.crawl_core.specs.declared.reply.Reply.TheVariants as says
 use Rattle.crawl_core.specs.declared.reply.Refusal.TheVariants as why
 use Rattle.crawl_core.proofs.Places.{sum_at, set_cases, push_cases, length-slice_set}
 use Rattle.crawl_core.proofs.Holders.{Rising, Rising-insert_key, Rising-remove_key, RisingKeys, RisingKeys-insert_entry, RisingKeys-remove_entry}
@@ -20,23 +20,23 @@ pub record Sound (state : State) : Type 0 where
 pub record GateEffect (old : State) (done : Turn) : Type 0 where
   pub sound : Sound done.state
   pub within : count_of old ≤ old.gate.max → count_of done.state ≤ done.state.gate.max
-  pub closes : done.reply ≡ told.Closed → done.state.gate.closed ≡ true
+  pub closes : done.reply ≡ says.Closed → done.state.gate.closed ≡ true
   pub closing : done.state.gate.closed ≡ (old.gate.closed || says_closed done.reply)
   pub stays : old.gate.closed ≡ true → (done.state.gate.closed ≡ true) × (is_quiet done.reply ≡ true)
   pub max : done.state.gate.max ≡ old.gate.max
-  pub as_many : length done.state.subqueues ≡ length old.subqueues
+  pub right_length : length done.state.subqueues ≡ length old.subqueues
   pub units : count_of done.state + cond (comes_back done.reply) 1 0 ≡ count_of old + cond (comes_out done.reply) 1 0
-  pub tells : (count : ℕ) → told_count done.reply ≡ Some count → count_of done.state ≡ count
+  pub tells : (count : ℕ) → stated_count done.reply ≡ Some count → count_of done.state ≡ count
 
 pub or_nothing : (b : Bool) → b ≡ (b || false)
 or_nothing b = grind arith
 
 -- a reply that changes nothing and reports no unit
 abbrev is_silent : Reply → Bool
-is_silent told.Lost = true
-is_silent told.Seen = true
-is_silent told.Empty = true
-is_silent (told.Refused reason) = true
+is_silent says.Lost = true
+is_silent says.Seen = true
+is_silent says.Empty = true
+is_silent (says.Refused reason) = true
 is_silent _ = false
 
 silent : (state : State) → Sound state → (reply : Reply) → is_silent reply ≡ true → GateEffect state (record { reply = reply; state = state })
@@ -80,14 +80,14 @@ abbrev GateKeeps : State → GateTurn → Type 0
 GateKeeps state done = GateEffect state (by_gate state done)
 
 enter_sound : (state : State) → Sound state → (sender : ℕ) → holds state.gate sender ≡ false → (word : Option Word) → GateKeeps state (enter_with state.gate (unfinished_in state) sender word)
-enter_sound state sound sender free None = silent state sound (told.Refused why.Nothing) refl
+enter_sound state sound sender free None = silent state sound (says.Refused why.Nothing) refl
 enter_sound state sound sender free (Some word) =
     cond_both (GateKeeps state) (not (same_word word (word_of state))) _ _
-    (λ _. silent state sound told.Lost refl)
+    (λ _. silent state sound says.Lost refl)
     (λ _. cond_both (GateKeeps state) state.gate.closed _ _
-    (λ _. silent state sound (told.Refused why.Closed) refl)
+    (λ _. silent state sound (says.Refused why.Closed) refl)
     (λ opened. cond_both (GateKeeps state) (nat_eq (count_of state) state.gate.max) _ _
-    (λ _. silent state sound (told.Refused why.Full) refl)
+    (λ _. silent state sound (says.Refused why.Full) refl)
     (λ below.
     let one_more = length-insert_key state.gate.holders sender free in
     let apart = eqb-false (count_of state) state.gate.max below in
@@ -104,14 +104,14 @@ enter_sound state sound sender free (Some word) =
       closing = or_nothing state.gate.closed;
       stays = λ closed. absurd (true≢false (sym closed ∙ opened));
       max = refl;
-      as_many = refl;
+      right_length = refl;
       units = omega (arith, one_more);
-      tells = λ count is. let told_is : suc (count_of state) ≡ count = some_is is in omega (arith, one_more, told_is);
+      tells = λ count is. let answered_is : suc (count_of state) ≡ count = some_is is in omega (arith, one_more, answered_is);
     })))
 
 -- a turn that gives a unit back: the same state with a smaller count
-fewer_sound : (state after : State) → Sound state → count_of after + 1 ≡ count_of state → after.gate.closed ≡ state.gate.closed → after.gate.max ≡ state.gate.max → after.gate.remembered ≡ state.gate.remembered → Rising 0 after.gate.holders → length after.subqueues ≡ length state.subqueues → EachSubqueue SubqueueInvariant after → GateEffect state (record { reply = told.Count (count_of after); state = after })
-fewer_sound state after sound fewer closed_is max_is remembered_is holders as_many queues = grind arith
+fewer_sound : (state after : State) → Sound state → count_of after + 1 ≡ count_of state → after.gate.closed ≡ state.gate.closed → after.gate.max ≡ state.gate.max → after.gate.remembered ≡ state.gate.remembered → Rising 0 after.gate.holders → length after.subqueues ≡ length state.subqueues → EachSubqueue SubqueueInvariant after → GateEffect state (record { reply = says.Count (count_of after); state = after })
+fewer_sound state after sound fewer closed_is max_is remembered_is holders right_length queues = grind arith
 
 close_sound : (state : State) → Sound state → GateKeeps state (close state.gate (unfinished_in state))
 close_sound state sound = grind arith
@@ -130,7 +130,7 @@ look_sound state sound sender = record {
   closing = or_nothing state.gate.closed;
   stays = λ closed. (closed, refl);
   max = refl;
-  as_many = refl;
+  right_length = refl;
   units = refl;
   tells = λ count is. some_is is;
 }
@@ -174,26 +174,26 @@ put_sound state sound sender url place queue at held unseen =
       closing = or_nothing state.gate.closed;
       stays = λ closed. let none = sound.empty closed in absurd (omega (arith, fewer, none));
       max = refl;
-      as_many = length-slice_set state.subqueues place next;
+      right_length = length-slice_set state.subqueues place next;
       units = omega (arith, same);
       tells = λ count is. absurd (cc);
     }
 
 admit_sound : (state : State) → Sound state → (sender : ℕ) (url : List ℕ) (place : ℕ) (queue : Option Subqueue) → slice_get state.subqueues place ≡ queue → GateEffect state (admit_to state sender url place queue)
-admit_sound state sound sender url place None at = silent state sound (told.Refused why.NoSuch) refl
+admit_sound state sound sender url place None at = silent state sound (says.Refused why.NoSuch) refl
 admit_sound state sound sender url place (Some queue) at =
     by_holder (holds state.gate sender) refl
   where
     by_holder : (b : Bool) → holds state.gate sender ≡ b → GateEffect state (admit_to state sender url place (Some queue))
-    by_holder false free = rw free (silent state sound (told.Refused why.Nothing) refl)
+    by_holder false free = rw free (silent state sound (says.Refused why.Nothing) refl)
     by_holder true held =
         rw held
         (cond_both (GateEffect state) (has_url queue.accepted url) _ _
-        (λ _. silent state sound told.Seen refl)
+        (λ _. silent state sound says.Seen refl)
         (λ unseen. put_sound state sound sender url place queue at held unseen))
 
 oldest_sound : (state : State) → Sound state → (place : ℕ) (queue : Subqueue) → slice_get state.subqueues place ≡ Some queue → queue.busy ≡ false → (message : Option Message) → oldest queue ≡ message → GateEffect state (take_oldest state place queue message)
-oldest_sound state sound place queue at idle None none = silent state sound told.Empty refl
+oldest_sound state sound place queue at idle None none = silent state sound says.Empty refl
 oldest_sound state sound place queue at idle (Some message) first =
     let inv = sound.queues place queue at in
     let next : Subqueue = after_taking queue in
@@ -214,7 +214,7 @@ oldest_sound state sound place queue at idle (Some message) first =
       closing = or_nothing state.gate.closed;
       stays = λ closed. let none = none_unfinished state place queue at (sound.empty closed) in absurd (omega (arith, none, was_idle, below));
       max = refl;
-      as_many = length-slice_set state.subqueues place next;
+      right_length = length-slice_set state.subqueues place next;
       units = omega (arith, same);
       tells = λ count is. absurd (cc);
     }
@@ -223,7 +223,7 @@ take_sound : (state : State) → Sound state → (place : ℕ) (queue : Option S
 take_sound state sound place queue at = grind (arith, silent, cond_both, oldest_sound)
 
 done_sound : (state : State) → Sound state → (place : ℕ) (queue : Option Subqueue) → slice_get state.subqueues place ≡ queue → GateEffect state (done_with state place queue)
-done_sound state sound place None at = silent state sound (told.Refused why.NoSuch) refl
+done_sound state sound place None at = silent state sound (says.Refused why.NoSuch) refl
 done_sound state sound place (Some queue) at =
     cond_both (GateEffect state) queue.busy _ _
     (λ busy.
@@ -235,7 +235,7 @@ done_sound state sound place (Some queue) at =
     let fewer : count_of (with_subqueue state place next) + 1 ≡ count_of state = omega (arith, sum, was_busy, begun, inv.within) in
     fewer_sound state (with_subqueue state place next) sound fewer refl refl refl sound.holders (length-slice_set state.subqueues place next)
     (each_after state place queue next at sound.queues (record { within = inv.within; distinct = inv.distinct; numbered = inv.numbered; begun = omega arith })))
-    (λ _. silent state sound (told.Refused why.Nothing) refl)
+    (λ _. silent state sound (says.Refused why.Nothing) refl)
 
 -- ## Each event
 
@@ -243,17 +243,17 @@ pub gate_effect : (state : State) → Sound state → (event : Event) → GateEf
 gate_effect state sound (Look sender) = look_sound state sound sender
 gate_effect state sound (Enter sender) =
     cond_both (GateKeeps state) (holds state.gate sender) _ _
-    (λ _. silent state sound (told.Refused why.Busy) refl)
+    (λ _. silent state sound (says.Refused why.Busy) refl)
     (λ free. enter_sound state sound sender free (lookup (is_at (nat_cmp sender)) state.gate.remembered))
 gate_effect state sound (Admit sender url place) = admit_sound state sound sender url place (slice_get state.subqueues place) refl
 gate_effect state sound (Back sender) =
     cond_both (GateKeeps state) (holds state.gate sender) _ _
     (λ held. fewer_sound state (record state { gate = let_go state.gate sender }) sound (holder_counts state.gate (unfinished_in state) sender held) refl refl refl (Rising-remove_key 0 (is_at (nat_cmp sender)) state.gate.holders sound.holders) refl sound.queues)
-    (λ _. silent state sound (told.Refused why.Nothing) refl)
+    (λ _. silent state sound (says.Refused why.Nothing) refl)
 gate_effect state sound EndSeeds =
     cond_both (GateKeeps state) state.gate.opening _ _
     (λ out. let opened : one_if state.gate.opening ≡ 1 = ap one_if out in fewer_sound state (record state { gate = record state.gate { opening = false } }) sound (omega (arith, opened)) refl refl refl sound.holders refl sound.queues)
-    (λ _. silent state sound (told.Refused why.Nothing) refl)
+    (λ _. silent state sound (says.Refused why.Nothing) refl)
 gate_effect state sound (Take place) = take_sound state sound place (slice_get state.subqueues place) refl
 gate_effect state sound (Done place) = done_sound state sound place (slice_get state.subqueues place) refl
 gate_effect state sound Close = close_sound state sound

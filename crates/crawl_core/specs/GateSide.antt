@@ -9,7 +9,7 @@ use Rattle.std.specs.Map.{lookup, remove_entry}
 use Rattle.std.specs.Set.{remove_key}
 use Rattle.crawl_core.specs.declared.word.Word.{Word}
 use Rattle.crawl_core.specs.declared.reply.Reply.{Reply}
-use Rattle.crawl_core.specs.declared.reply.Reply.TheVariants as told
+use Rattle.crawl_core.specs.declared.reply.Reply.TheVariants as says
 use Rattle.crawl_core.specs.declared.reply.Refusal.{Refusal}
 use Rattle.crawl_core.specs.declared.reply.Refusal.TheVariants as why
 use Rattle.crawl_core.specs.Flags.{one_if, same_flag}
@@ -56,23 +56,23 @@ pub record GateTurn : Type 0 where
 
 -- a refused event changes nothing
 abbrev pub turned_away : GateSide → Refusal → GateTurn
-turned_away gate reason = record { reply = told.Refused reason; gate = gate }
+turned_away gate reason = record { reply = says.Refused reason; gate = gate }
 
 -- a unit was given back: the reply is the number that is left
 abbrev pub gave_back : GateSide → ℕ → GateTurn
-gave_back gate messages = record { reply = told.Count (units_out gate messages); gate = gate }
+gave_back gate messages = record { reply = says.Count (units_out gate messages); gate = gate }
 
 -- `Look`: the word, which the sender remembers from now on
 abbrev pub look : GateSide → ℕ → ℕ → GateTurn
 look gate messages sender = record {
-  reply = told.Word (units_out gate messages) gate.closed;
+  reply = says.Word (units_out gate messages) gate.closed;
   gate = record gate { remembered = insert_entry nat_cmp gate.remembered sender (shown_word gate messages) };
 }
 
 -- `Enter` is granted: the sender holds a unit, and forgets its word
 abbrev pub grant : GateSide → ℕ → ℕ → GateTurn
 grant gate messages sender = record {
-  reply = told.Entered (suc (units_out gate messages));
+  reply = says.Entered (suc (units_out gate messages));
   gate = record gate {
     holders = insert_key nat_cmp gate.holders sender;
     remembered = remove_entry (is_at (nat_cmp sender)) gate.remembered;
@@ -83,7 +83,7 @@ grant gate messages sender = record {
 abbrev pub enter_with : GateSide → ℕ → ℕ → Option Word → GateTurn
 enter_with gate messages sender None = turned_away gate why.Nothing
 enter_with gate messages sender (Some word) =
-    if not (same_word word (shown_word gate messages)) then record { reply = told.Lost; gate = gate }
+    if not (same_word word (shown_word gate messages)) then record { reply = says.Lost; gate = gate }
     else if gate.closed then turned_away gate why.Closed
     else if nat_eq (units_out gate messages) gate.max then turned_away gate why.Full
     else grant gate messages sender
@@ -104,5 +104,5 @@ end_seeds gate messages = if gate.opening then gave_back (record gate { opening 
 -- `Close`: the gate is closed if it was closed already, or if no unit is held
 abbrev pub close : GateSide → ℕ → GateTurn
 close gate messages =
-    if gate.closed || nat_eq (units_out gate messages) 0 then record { reply = told.Closed; gate = record gate { closed = true } }
-    else record { reply = told.Pending (units_out gate messages); gate = gate }
+    if gate.closed || nat_eq (units_out gate messages) 0 then record { reply = says.Closed; gate = record gate { closed = true } }
+    else record { reply = says.Pending (units_out gate messages); gate = gate }

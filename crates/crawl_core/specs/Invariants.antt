@@ -48,7 +48,7 @@ pub record IsAfter (history : List (Event × Reply)) (place : ℕ) (queue : Subq
 -- a state is one of a frontier with these numbers, as the history states
 pub record IsState (workers max : ℕ) (history : List (Event × Reply)) (state : State) : Type 0 where
   pub maximum : state.gate.max ≡ max
-  pub as_many : length state.subqueues ≡ workers
+  pub right_length : length state.subqueues ≡ workers
   pub queues : (place : ℕ) (queue : Subqueue) → slice_get state.subqueues place ≡ Some queue → IsAfter history place queue
   pub no_others : (place : ℕ) → workers ≤ place → (accepted_in place history ≡ []) × (taken_urls place history ≡ [])
   pub units : AreOut (count_of state) history

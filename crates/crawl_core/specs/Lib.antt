@@ -2,7 +2,7 @@ pub mod ErrorText
 pub mod Fetching
 pub mod Flags
 pub mod GateSide
-pub mod Growth
+pub mod MemoryNeeds
 pub mod Handing
 pub mod History
 pub mod Invariants

@@ -6,7 +6,7 @@ use Rattle.std.specs.BTreeMap.{insert_entry}
 use Rattle.crawl_core.specs.declared.event.Event.{Event}
 use Rattle.crawl_core.specs.declared.event.Event.TheVariants.{Look, Enter, Admit, Back, EndSeeds, Take, Done, Close}
 use Rattle.crawl_core.specs.declared.reply.Reply.{Reply}
-use Rattle.crawl_core.specs.declared.reply.Reply.TheVariants as told
+use Rattle.crawl_core.specs.declared.reply.Reply.TheVariants as says
 use Rattle.crawl_core.specs.declared.reply.Refusal.{Refusal}
 use Rattle.crawl_core.specs.declared.reply.Refusal.TheVariants as why
 use Rattle.crawl_core.specs.GateSide.{GateTurn, holds, let_go, look, enter, back, end_seeds, close}
@@ -18,10 +18,10 @@ pub record Move : Type 0 where
   pub kept : Kept
 
 abbrev pub refused : Kept → Refusal → Move
-refused kept reason = record { reply = told.Refused reason; kept = kept }
+refused kept reason = record { reply = says.Refused reason; kept = kept }
 
 abbrev pub counted : Kept → Move
-counted kept = record { reply = told.Count (kept_count kept); kept = kept }
+counted kept = record { reply = says.Count (kept_count kept); kept = kept }
 
 abbrev pub by_gate : Kept → GateTurn → Move
 by_gate kept done = record { reply = done.reply; kept = record kept { gate = done.gate } }
@@ -39,7 +39,7 @@ accepting queue url sender = record queue {
 
 abbrev pub put : Kept → ℕ → List ℕ → ℕ → KeptQueue → Move
 put kept sender url place queue = record {
-  reply = told.Accepted place (number_at queue.numbers sender);
+  reply = says.Accepted place (number_at queue.numbers sender);
   kept = record {
     gate = let_go kept.gate sender;
     queues = slice_set kept.queues place (accepting queue url sender);
@@ -50,13 +50,13 @@ abbrev pub admit_to : Kept → ℕ → List ℕ → ℕ → Option KeptQueue →
 admit_to kept sender url place None = refused kept why.NoSuch
 admit_to kept sender url place (Some queue) =
     if not (holds kept.gate sender) then refused kept why.Nothing
-    else if has_seen queue url then record { reply = told.Seen; kept = kept }
+    else if has_seen queue url then record { reply = says.Seen; kept = kept }
     else put kept sender url place queue
 
 abbrev pub take_oldest : Kept → ℕ → KeptQueue → List (List ℕ) → Move
-take_oldest kept place queue [] = record { reply = told.Empty; kept = kept }
+take_oldest kept place queue [] = record { reply = says.Empty; kept = kept }
 take_oldest kept place queue (url ∷ rest) = record {
-  reply = told.Taken url;
+  reply = says.Taken url;
   kept = with_queue kept place (record queue { waiting = rest; busy = true });
 }
 

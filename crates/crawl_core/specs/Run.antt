@@ -12,6 +12,6 @@ Run old (x ∷ xs) new = (next : State) × Step old x.0 x.1 next × Run next xs 
 
 -- a new frontier has these replies to these events, one for each
 pub record IsRun (workers max : ℕ) (events : List Event) (replies : List Reply) : Type 0 where
-  pub as_many : length replies ≡ length events
+  pub right_length : length replies ≡ length events
   pub end : State
   pub run : Run (start workers max) (zip events replies) end

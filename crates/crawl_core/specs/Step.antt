@@ -4,7 +4,7 @@ use Rattle.std.specs.Prelude.{◌≡◌, ℕ, List, not, slice_get, slice_set, i
 use Rattle.crawl_core.specs.declared.event.Event.{Event}
 use Rattle.crawl_core.specs.declared.event.Event.TheVariants.{Look, Enter, Admit, Back, EndSeeds, Take, Done, Close}
 use Rattle.crawl_core.specs.declared.reply.Reply.{Reply}
-use Rattle.crawl_core.specs.declared.reply.Reply.TheVariants as told
+use Rattle.crawl_core.specs.declared.reply.Reply.TheVariants as says
 use Rattle.crawl_core.specs.declared.reply.Refusal.{Refusal}
 use Rattle.crawl_core.specs.declared.reply.Refusal.TheVariants as why
 use Rattle.crawl_core.specs.Messages.{Message, has_url}
@@ -19,11 +19,11 @@ pub record Turn : Type 0 where
 
 -- a refused event changes nothing
 abbrev pub refused : State → Refusal → Turn
-refused state reason = record { reply = told.Refused reason; state = state }
+refused state reason = record { reply = says.Refused reason; state = state }
 
 -- a unit was given back: the reply is the number that is left
 abbrev pub counted : State → Turn
-counted state = record { reply = told.Count (count_of state); state = state }
+counted state = record { reply = says.Count (count_of state); state = state }
 
 -- a step that changes only the gate
 abbrev pub by_gate : State → GateTurn → Turn
@@ -35,7 +35,7 @@ with_subqueue state place queue = record state { subqueues = slice_set state.sub
 -- `Admit`: if the subqueue accepted the URL before, the reply is `Seen`; otherwise it is added at the end, with the sender's unit
 abbrev pub put : State → ℕ → List ℕ → ℕ → Subqueue → Turn
 put state sender url place queue = let message = next_message queue sender url in record {
-  reply = told.Accepted place message.number;
+  reply = says.Accepted place message.number;
   state = record {
     gate = let_go state.gate sender;
     subqueues = slice_set state.subqueues place (after_accepting queue message);
@@ -46,14 +46,14 @@ abbrev pub admit_to : State → ℕ → List ℕ → ℕ → Option Subqueue →
 admit_to state sender url place None = refused state why.NoSuch
 admit_to state sender url place (Some queue) =
     if not (holds state.gate sender) then refused state why.Nothing
-    else if has_url queue.accepted url then record { reply = told.Seen; state = state }
+    else if has_url queue.accepted url then record { reply = says.Seen; state = state }
     else put state sender url place queue
 
 -- `Take`: the oldest message that waits, if there is one; its subqueue is then busy
 abbrev pub take_oldest : State → ℕ → Subqueue → Option Message → Turn
-take_oldest state place queue None = record { reply = told.Empty; state = state }
+take_oldest state place queue None = record { reply = says.Empty; state = state }
 take_oldest state place queue (Some message) = record {
-  reply = told.Taken message.url;
+  reply = says.Taken message.url;
   state = with_subqueue state place (after_taking queue);
 }
 

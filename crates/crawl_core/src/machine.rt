@@ -1,6 +1,6 @@
 //! The machine: its state, how it begins, and one step.
 ghost use Rattle.std.specs.Prelude.{◌≡◌, ◌<◌, ◌≤◌, ◌⊎◌, ◌↔◌, false, Err, IfOk, OnOk, OnErr, IsOk};
-ghost use Rattle.crawl_core.specs.Growth.{needs_memory};
+ghost use Rattle.crawl_core.specs.MemoryNeeds.{needs_memory};
 ghost use Rattle.crawl_core.specs.Limits.{queue_limit};
 ghost use Rattle.crawl_limits.specs.Limits.{AreLimits, worker_limit, pending_limit};
 ghost use Rattle.crawl_core.specs.State.{start};

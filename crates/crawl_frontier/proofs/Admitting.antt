@@ -16,8 +16,8 @@ IsTrueOf es url id hops (NoMemory u) = Unit {0}
 
 -- more is known of queue q's list, and the index is right for it
 abbrev pub Raises : List KnownList → List KnownList → ℕ → List ℕ → ℕ → ℕ → Admit → Type 0
-Raises before after q url id hops answer =
-    (t u : KnownList) × (slice_get before q ≡ Some t) × (u.list ≡ t.list) × Stays t.items u.items × (after ≡ slice_set before q u) × IsTrueOf u.items url id hops answer
+Raises before after q url id hops outcome =
+    (t u : KnownList) × (slice_get before q ≡ Some t) × (u.list ≡ t.list) × Stays t.items u.items × (after ≡ slice_set before q u) × IsTrueOf u.items url id hops outcome
 
 -- the result, if the entry at an index has the URL
 pub answered : (s t : ShardId) (url : List ℕ) (id own hops : ℕ) (unit : SeatId) (there : Entry) (k : ℕ) (a : Admit)
@@ -51,10 +51,10 @@ module _ (s t : ShardId) (url : List ℕ) (id own hops : ℕ) (unit : SeatId) wh
   true_of (NoMemory u) is = tt
 
   -- what is known of the queue's list becomes the list that the shard has afterwards
-  pub raises : (queues : List QueueId) (told : List KnownList) (q : ℕ) (queue : QueueId) (k u : KnownList) (a : Admit)
-      → ListsAre queues told → slice_get queues q ≡ Some queue → slice_get told q ≡ Some k → u ≡ begins_with queue.list t.sent → Stays k.items u.items → Admits s t url id own hops unit a
-      → Raises told (slice_set told q u) q url id hops a
-  raises queues told q queue k u a are there at is stays admits = (
+  pub raises : (queues : List QueueId) (learned : List KnownList) (q : ℕ) (queue : QueueId) (k u : KnownList) (a : Admit)
+      → ListsAre queues learned → slice_get queues q ≡ Some queue → slice_get learned q ≡ Some k → u ≡ begins_with queue.list t.sent → Stays k.items u.items → Admits s t url id own hops unit a
+      → Raises learned (slice_set learned q u) q url id hops a
+  raises queues learned q queue k u a are there at is stays admits = (
     k,
     u,
     at,

@@ -1,5 +1,5 @@
 -- The lines of a log stay true while more becomes known of the lists, and at the end.
-use Rattle.crawl_frontier.proofs.Prelude.{◌≡◌, ℕ, zero, suc, Bool, true, List, [], ◌∷◌, map, set, Some, refl, sym, ap, ◌∙◌, subst, arith, if◌then◌else◌, Entry, LogLine, Accepted, Seen, QueueId, has_url, Stays, KnownList, items_of, lists_of, says, line_of, log_of, AreThere, AllStay, ListsAre, AreKnown, queue_of, ShardId, At, Stands, AreRaised, IsHome, AreToldOf, LogIsOf, entry_there, log_stays, there_stays}
+use Rattle.crawl_frontier.proofs.Prelude.{◌≡◌, ℕ, zero, suc, Bool, true, List, [], ◌∷◌, map, set, Some, refl, sym, ap, ◌∙◌, subst, arith, if◌then◌else◌, Entry, LogLine, Accepted, Seen, QueueId, has_url, Stays, KnownList, items_of, lists_of, says, line_of, log_of, AreThere, AllStay, ListsAre, AreKnown, queue_of, ShardId, At, HoldsIn, AreRaised, IsHome, AreTrueOf, LogIsOf, entry_there, log_stays, there_stays}
 use Rattle.std.proofs.lemmas.Slice.Eq.{bytes_eq-Decides}
 use mathlib.Core.Logic.{dite}
 use native.Mathlib.Decide.{ℕ_discrete}
@@ -21,19 +21,19 @@ pub raised_on : (start before after : List KnownList) → AreRaised start before
 raised_on start before after r s = grind arith
 
 -- for one queue
-pub raised_at : (told : List KnownList) (q : ℕ) (t u : KnownList) → At told q t → u.list ≡ t.list → Stays t.items u.items → AreRaised told (set told q u)
-raised_at told q t u at list stay = (
-  get_len_set told q u,
+pub raised_at : (learned : List KnownList) (q : ℕ) (t u : KnownList) → At learned q t → u.list ≡ t.list → Stays t.items u.items → AreRaised learned (set learned q u)
+raised_at learned q t u at list stay = (
+  get_len_set learned q u,
   λ p v here.
       dite (ℕ_discrete p q)
       (λ same.
-      let is : v ≡ t = same_at told q v t (subst (λ (k : ℕ). At told k v) same here) at in (
+      let is : v ≡ t = same_at learned q v t (subst (λ (k : ℕ). At learned k v) same here) at in (
         u,
-        subst (λ (k : ℕ). At (set told q u) k u) (sym same) (get_set_same told q u t at),
+        subst (λ (k : ℕ). At (set learned q u) k u) (sym same) (get_set_same learned q u t at),
         list ∙ ap (λ (x : KnownList). x.list) (sym is),
         subst (λ (x : KnownList). Stays x.items u.items) (sym is) stay,
       ))
-      (λ other. (v, get_set_other told q p u other ∙ here, refl, λ k x e. e)),
+      (λ other. (v, get_set_other learned q p u other ∙ here, refl, λ k x e. e)),
 )
 
 all_stay : (before after : List KnownList) → AreRaised before after → AllStay (lists_of before) (lists_of after)
@@ -65,23 +65,23 @@ has_url_at [] k e at = absurd (cc (at))
 has_url_at (x ∷ xs) zero e at = grind (arith, bytes_eq-Decides)
 has_url_at (x ∷ xs) (suc k) e at = grind (arith, has_url_at xs k e at)
 
-stands_says : (b : Bool) (es : List Entry) (i : ℕ) (e : Entry) (q : ℕ) → At es i e → Stands es (if b then Accepted e q else Seen e.url q)
-stands_says b es i e q at = grind (arith, has_url_at)
+holds_says : (b : Bool) (es : List Entry) (i : ℕ) (e : Entry) (q : ℕ) → At es i e → HoldsIn es (if b then Accepted e q else Seen e.url q)
+holds_says b es i e q at = grind (arith, has_url_at)
 
 queue_says : (b : Bool) (e : Entry) (q : ℕ) → queue_of (if b then Accepted e q else Seen e.url q) ≡ q
 queue_says b e q = grind arith
 
-pub lines_are_of : (shards : List ShardId) (told : List KnownList) (ls : List LogLine) → AreToldOf shards told → AreThere (lists_of told) ls → LogIsOf shards (log_of (lists_of told) ls)
-lines_are_of shards told [] of there k l s at home = absurd (cc (at))
-lines_are_of shards told (x ∷ xs) of there zero l s at home =
-    let is : line_of (lists_of told) x ≡ l = cc in
+pub lines_are_of : (shards : List ShardId) (learned : List KnownList) (ls : List LogLine) → AreTrueOf shards learned → AreThere (lists_of learned) ls → LogIsOf shards (log_of (lists_of learned) ls)
+lines_are_of shards learned [] of there k l s at home = absurd (cc (at))
+lines_are_of shards learned (x ∷ xs) of there zero l s at home =
+    let is : line_of (lists_of learned) x ≡ l = cc in
     let e = there.0.0 in
     let has = there.0.1 in
-    let said : says x e ≡ l = sym (ap (says x) (entry_there (lists_of told) x.queue x.index e has)) ∙ is in
+    let said : says x e ≡ l = sym (ap (says x) (entry_there (lists_of learned) x.queue x.index e has)) ∙ is in
     let queue : queue_of l ≡ x.queue = sym (ap queue_of said) ∙ queue_says x.accepted e x.queue in
-    let t = of_map items_of told x.queue has.0 has.1 in
+    let t = of_map items_of learned x.queue has.0 has.1 in
     let here : IsHome shards x.queue s = subst (λ (q : ℕ). IsHome shards q s) queue home in
     let stays : Stays t.0.items s.sent = of x.queue s t.0 here t.1 in
     let there_still : At s.sent x.index e = stays x.index e (subst (λ (es : List Entry). At es x.index e) (sym t.2) has.2) in
-    subst (Stands s.sent) said (stands_says x.accepted s.sent x.index e x.queue there_still)
-lines_are_of shards told (x ∷ xs) of there (suc k) l s at home = lines_are_of shards told xs of there.1 k l s at home
+    subst (HoldsIn s.sent) said (holds_says x.accepted s.sent x.index e x.queue there_still)
+lines_are_of shards learned (x ∷ xs) of there (suc k) l s at home = lines_are_of shards learned xs of there.1 k l s at home

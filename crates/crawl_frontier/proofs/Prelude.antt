@@ -1,8 +1,8 @@
 -- The names that most proofs cite, passed on from one place. Declares nothing.
-pub use Rattle.crawl_frontier.specs.Accounts.{AccountId, Accounts, Agrees, AllKeepRule, AreFound, At, FinishFails, Found, HasSenders, HasStranger, HasWorkers, IsFirstUnsettled, IsFound, IsPart, IsSettled}
-pub use Rattle.crawl_frontier.specs.Finishing.{AgreeTo, AgreesBelow, AllAre, AllSettle, AreRaised, AreToldOf, Begins, CanCompare, CountFails, CountsStand, DisagreesAt, Gathered, HasBook, IdsOf, IsHome, IsShared, KeepRuleBelow, LogIsOf, LogStands, LogsAreOf, LogsStand, OneDisagrees, OwnRight, Placed, SendersIn, SettlesAt, Slots, Stands, Stranger}
+pub use Rattle.crawl_frontier.specs.Accounts.{AccountId, Accounts, Agrees, AllKeepRule, AreFound, At, FinishFails, Found, HasSenders, HasUnknownSender, HasWorkers, IsFirstUnsettled, IsFound, IsPart, IsSettled}
+pub use Rattle.crawl_frontier.specs.Finishing.{AgreeTo, AgreesBelow, AllAre, AllSettle, AreRaised, AreTrueOf, Begins, CanCompare, CountFails, CountsHold, DisagreesAt, Gathered, HasBook, IdsOf, IsHome, IsShared, KeepRuleBelow, LogIsOf, LogHolds, LogsAreOf, LogsHold, OneDisagrees, OwnRight, Placed, SendersIn, SettlesAt, Slots, HoldsIn, HasOtherSender}
 pub use Rattle.crawl_frontier.specs.FreshParts.{AllFresh, AllPop, AllPush, Line}
-pub use Rattle.crawl_frontier.specs.Offers.{IsKnown, OfferWordsBeside, Replies}
+pub use Rattle.crawl_frontier.specs.Offers.{IsKnown, OfferWordsHolding, Replies}
 pub use Rattle.crawl_frontier.specs.Parts.{SeederId, SenderId, ShardId, WorkerId, shard}
 pub use Rattle.crawl_frontier.specs.declared.finish.settle.Doubt.{Doubt}
 pub use Rattle.crawl_gate.specs.Seat.{GateId, SeatId}

@@ -25,17 +25,17 @@ some_not_none : (o : Option PassId) (p : PassId) → o ≡ Some p → o ≡ None
 some_not_none o p a b = let both : Some p ≡ None = sym a ∙ b in absurd (cc (both))
 
 -- no worker was taken apart
-pub placed-none : (gate : GateId) (workers : ℕ) (closed : List WorkerId) (rights : BTreeMap ℕ PassId) (alone : ℕ)
-    → ((q : ℕ) → get nat_cmp rights q ≡ None) → Placed gate workers closed (length closed) rights alone
-placed-none gate workers closed rights alone none = grind (arith, get_within)
+pub placed-none : (gate : GateId) (workers : ℕ) (closed : List WorkerId) (rights : BTreeMap ℕ PassId) (unshared : ℕ)
+    → ((q : ℕ) → get nat_cmp rights q ≡ None) → Placed gate workers closed (length closed) rights unshared
+placed-none gate workers closed rights unshared none = grind (arith, get_within)
 
 -- one more closed worker, the n-th, was taken apart
-pub placed_more : (gate : GateId) (workers : ℕ) (closed : List WorkerId) (m m' : BTreeMap ℕ PassId) (n : ℕ) (w : WorkerId) (r : PassId) (alone alone' : ℕ)
-    → Placed gate workers closed (n + 1) m alone → At closed n w → w.queue < workers
+pub placed_more : (gate : GateId) (workers : ℕ) (closed : List WorkerId) (m m' : BTreeMap ℕ PassId) (n : ℕ) (w : WorkerId) (r : PassId) (unshared unshared' : ℕ)
+    → Placed gate workers closed (n + 1) m unshared → At closed n w → w.queue < workers
     → ((q : ℕ) → get nat_cmp m' q ≡ cond (is_at (nat_cmp w.queue) q) (Some r) (get nat_cmp m q))
     → r.view ≡ popping (home gate workers w.queue) w.taken w.empty_pops
-    → alone' ≤ alone → (w.queue < alone' → get nat_cmp m w.queue ≡ None) → Placed gate workers closed n m' alone'
-placed_more gate workers closed m m' n w r alone alone' old at below h view le none = record {
+    → unshared' ≤ unshared → (w.queue < unshared' → get nat_cmp m w.queue ≡ None) → Placed gate workers closed n m' unshared'
+placed_more gate workers closed m m' n w r unshared unshared' old at below h view le none = record {
   within = λ k v here from. ⊎_elim (λ e. subst (λ (z : WorkerId). z.queue < workers) (is_w k v here e) below) (λ later. old.within k v here later) (first k from);
   there = λ k v here from. ⊎_elim (λ e. subst (λ (z : WorkerId). is_some (get nat_cmp m' z.queue) ≡ true) (is_w k v here e) (ap is_some mine)) (λ later. kept v.queue (old.there k v here later)) (first k from);
   own = λ k v here from small. ⊎_elim (λ e. subst (OwnRight gate workers m') (is_w k v here e) (r, mine, view)) (λ later. own k v here later small) (first k from);
@@ -68,12 +68,12 @@ placed_more gate workers closed m m' n w r alone alone' old at below h view le n
         by_case true = refl
         by_case false = had
 
-    clash : (k : ℕ) (v : WorkerId) → At closed k v → n + 1 ≤ k → v.queue ≡ w.queue → v.queue < alone' → ⊥
+    clash : (k : ℕ) (v : WorkerId) → At closed k v → n + 1 ≤ k → v.queue ≡ w.queue → v.queue < unshared' → ⊥
     clash k v here later same small =
         let p = old.own k v here later (omega (arith, small, le)) in
         some_not_none (get nat_cmp m v.queue) p.0 p.1 (ap (get nat_cmp m) same ∙ none (omega (arith, same, small)))
 
-    own : (k : ℕ) (v : WorkerId) → At closed k v → n + 1 ≤ k → v.queue < alone' → OwnRight gate workers m' v
+    own : (k : ℕ) (v : WorkerId) → At closed k v → n + 1 ≤ k → v.queue < unshared' → OwnRight gate workers m' v
     own k v here later small = by_case (is_at (nat_cmp w.queue) v.queue) refl
       where
         by_case : (t : Bool) → is_at (nat_cmp w.queue) v.queue ≡ t → OwnRight gate workers m' v
@@ -83,14 +83,14 @@ placed_more gate workers closed m m' n w r alone alone' old at below h view le n
             (p.0, h v.queue ∙ ((λ i. cond (is i) (Some r) (get nat_cmp m v.queue)) ∙ p.1), p.2)
 
 -- if the bound falls to a queue, two workers have it
-pub shared_more : (gate : GateId) (workers : ℕ) (closed : List WorkerId) (m : BTreeMap ℕ PassId) (n : ℕ) (w : WorkerId) (limit alone alone' : ℕ)
-    → Placed gate workers closed (n + 1) m alone → At closed n w → alone' ≤ alone → (alone' < alone → (alone' ≡ w.queue) × (is_some (get nat_cmp m w.queue) ≡ true))
-    → (alone < limit → IsShared closed alone) → alone' < limit → IsShared closed alone'
-shared_more gate workers closed m n w limit alone alone' old at le named before lt = ⊎_elim meets
-    (λ not. let same : alone ≡ alone' = omega (arith, le, not) in subst (IsShared closed) same (before (omega (arith, lt, same))))
-    (cases_lt alone' alone)
+pub shared_more : (gate : GateId) (workers : ℕ) (closed : List WorkerId) (m : BTreeMap ℕ PassId) (n : ℕ) (w : WorkerId) (limit unshared unshared' : ℕ)
+    → Placed gate workers closed (n + 1) m unshared → At closed n w → unshared' ≤ unshared → (unshared' < unshared → (unshared' ≡ w.queue) × (is_some (get nat_cmp m w.queue) ≡ true))
+    → (unshared < limit → IsShared closed unshared) → unshared' < limit → IsShared closed unshared'
+shared_more gate workers closed m n w limit unshared unshared' old at le named before lt = ⊎_elim meets
+    (λ not. let same : unshared ≡ unshared' = omega (arith, le, not) in subst (IsShared closed) same (before (omega (arith, lt, same))))
+    (cases_lt unshared' unshared)
   where
-    meets : alone' < alone → IsShared closed alone'
+    meets : unshared' < unshared → IsShared closed unshared'
     meets less =
         let here = named less in
         let t = old.whose w.queue here.1 in
@@ -141,18 +141,18 @@ all_work gate workers queues closed rights slots there q lt =
     let t = slots q s.0 s.1 in
     (t.0, t.1, t.2, t.3)
 
-pub one_is_missing : (gate : GateId) (workers : ℕ) (closed : List WorkerId) (rights : BTreeMap ℕ PassId) (alone q : ℕ)
-    → Placed gate workers closed 0 rights alone → q < workers → is_some (get nat_cmp rights q) ≡ false → ¬ HasWorkers workers closed
-one_is_missing gate workers closed rights alone q placed lt none has =
+pub one_is_missing : (gate : GateId) (workers : ℕ) (closed : List WorkerId) (rights : BTreeMap ℕ PassId) (unshared q : ℕ)
+    → Placed gate workers closed 0 rights unshared → q < workers → is_some (get nat_cmp rights q) ≡ false → ¬ HasWorkers workers closed
+one_is_missing gate workers closed rights unshared q placed lt none has =
     let t = has q lt in
     true≢false (sym (placed.there t.0 t.1 t.2 (omega arith)) ∙ (ap (λ k. is_some (get nat_cmp rights k)) t.3 ∙ none))
 
 -- if nothing is left to take apart and all queues were compared, the lists are an account
-pub accounts : (gate : GateId) (workers : ℕ) (queues : List QueueId) (closed : List WorkerId) (senders : List SenderId) (rights : BTreeMap ℕ PassId) (books : List BookId) (lists : List (List Entry)) (alone least now : ℕ) (ids : BTreeSet ℕ)
-    → length lists ≡ workers → Slots gate workers queues closed rights → Placed gate workers closed 0 rights alone → Gathered workers closed senders [] [] books
+pub accounts : (gate : GateId) (workers : ℕ) (queues : List QueueId) (closed : List WorkerId) (senders : List SenderId) (rights : BTreeMap ℕ PassId) (books : List BookId) (lists : List (List Entry)) (unshared least now : ℕ) (ids : BTreeSet ℕ)
+    → length lists ≡ workers → Slots gate workers queues closed rights → Placed gate workers closed 0 rights unshared → Gathered workers closed senders [] [] books
     → ((q : ℕ) → q < workers → is_some (get nat_cmp rights q) ≡ true) → Settled workers rights least lists
-    → IdsOf books ids → AllAre (SendersIn ids) lists → AllAre (AgreesBelow now lists) books → workers ≤ now → now ≤ least → least ≤ alone → Accounts workers closed senders lists
-accounts gate workers queues closed senders rights books lists alone least now ids len slots placed g there settled of_ids in_ids agree all le le' = record {
+    → IdsOf books ids → AllAre (SendersIn ids) lists → AllAre (AgreesBelow now lists) books → workers ≤ now → now ≤ least → least ≤ unshared → Accounts workers closed senders lists
+accounts gate workers queues closed senders rights books lists unshared least now ids len slots placed g there settled of_ids in_ids agree all le le' = record {
   len = len;
   worked = all_work gate workers queues closed rights slots there;
   once = λ j k v w at_j at_k same. placed.once j k v w at_j at_k (omega arith) (omega arith) same (let lt = queue k w at_k in omega (arith, lt));

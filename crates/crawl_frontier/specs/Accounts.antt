@@ -30,8 +30,8 @@ pub record Agrees (q : ℕ) (es : List Entry) (b : BookId) : Type 0 where
 abbrev pub HasSenders : List WorkerId → List SenderId → List Entry → Type 0
 HasSenders closed senders es = (k : ℕ) (e : Entry) → At es k e → (b : BookId) × IsPart closed senders b × (b.id ≡ e.sender)
 
-abbrev pub HasStranger : List WorkerId → List SenderId → List Entry → Type 0
-HasStranger closed senders es = (k : ℕ) × (e : Entry) × At es k e × ((b : BookId) → IsPart closed senders b → b.id ≢ e.sender)
+abbrev pub HasUnknownSender : List WorkerId → List SenderId → List Entry → Type 0
+HasUnknownSender closed senders es = (k : ℕ) × (e : Entry) × At es k e × ((b : BookId) → IsPart closed senders b → b.id ≢ e.sender)
 
 -- an account agrees with the closed workers and the senders of a run
 pub record Accounts (workers : ℕ) (closed : List WorkerId) (senders : List SenderId) (queues : List (List Entry)) : Type 0 where
@@ -86,7 +86,7 @@ pub record IsFirstUnsettled (closed : List WorkerId) (senders : List SenderId) (
 abbrev pub FinishFails : ℕ → List WorkerId → List SenderId → FinishError → Type 0
 FinishFails workers closed senders MissingPart =
     (¬ HasWorkers workers closed)
-    ⊎ (HasWorkers workers closed × ((found : List Found) × AreFound workers closed found × ((q : ℕ) × (f : Found) × At found q f × HasStranger closed senders f.sent)))
+    ⊎ (HasWorkers workers closed × ((found : List Found) × AreFound workers closed found × ((q : ℕ) × (f : Found) × At found q f × HasUnknownSender closed senders f.sent)))
 FinishFails workers closed senders (Unsettled word) = ⊥
 FinishFails workers closed senders (Disagree q) =
     HasWorkers workers closed

@@ -52,13 +52,13 @@ OwnRight gate workers rights w =
 abbrev pub IsShared : List WorkerId → ℕ → Type 0
 IsShared closed q = (j k : ℕ) × (v w : WorkerId) × At closed j v × At closed k w × (v.queue ≡ q) × (w.queue ≡ q) × (j ≢ k)
 
--- for the closed workers from index `from` on: each has a queue, and the right of that queue is here; at a queue below `alone`,
+-- for the closed workers from index `from` on: each has a queue, and the right of that queue is here; at a queue below `unshared`,
 -- that right is its own, and no other of them has the queue
-pub record Placed (gate : GateId) (workers : ℕ) (closed : List WorkerId) (from : ℕ) (rights : BTreeMap ℕ PassId) (alone : ℕ) : Type 0 where
+pub record Placed (gate : GateId) (workers : ℕ) (closed : List WorkerId) (from : ℕ) (rights : BTreeMap ℕ PassId) (unshared : ℕ) : Type 0 where
   pub within : (k : ℕ) (w : WorkerId) → At closed k w → from ≤ k → w.queue < workers
   pub there : (k : ℕ) (w : WorkerId) → At closed k w → from ≤ k → is_some (get nat_cmp rights w.queue) ≡ true
-  pub own : (k : ℕ) (w : WorkerId) → At closed k w → from ≤ k → w.queue < alone → OwnRight gate workers rights w
-  pub once : (j k : ℕ) (v w : WorkerId) → At closed j v → At closed k w → from ≤ j → from ≤ k → v.queue ≡ w.queue → w.queue < alone → j ≡ k
+  pub own : (k : ℕ) (w : WorkerId) → At closed k w → from ≤ k → w.queue < unshared → OwnRight gate workers rights w
+  pub once : (j k : ℕ) (v w : WorkerId) → At closed j v → At closed k w → from ≤ j → from ≤ k → v.queue ≡ w.queue → w.queue < unshared → j ≡ k
   -- each right that is here is one of theirs
   pub whose : (q : ℕ) → is_some (get nat_cmp rights q) ≡ true → (k : ℕ) × (w : WorkerId) × At closed k w × (from ≤ k) × (w.queue ≡ q)
 
@@ -94,12 +94,12 @@ AllSettle workers queues shards rights lists doubts =
     (q : ℕ) (es : List Entry) (doubt : Option Doubt) → At lists q es → At doubts q doubt → SettlesAt workers queues shards rights q es doubt
 
 -- the line of a log is true of these entries
-abbrev pub Stands : List Entry → Logged → Type 0
-Stands es (Accepted e q) = (k : ℕ) × At es k e
-Stands es (Seen u q) = has_url u es ≡ true
+abbrev pub HoldsIn : List Entry → Logged → Type 0
+HoldsIn es (Accepted e q) = (k : ℕ) × At es k e
+HoldsIn es (Seen u q) = has_url u es ≡ true
 
-abbrev pub StandsAt : List (List Entry) → Logged → Type 0
-StandsAt lists l = (es : List Entry) → At lists (queue_of l) es → Stands es l
+abbrev pub HoldsAt : List (List Entry) → Logged → Type 0
+HoldsAt lists l = (es : List Entry) → At lists (queue_of l) es → HoldsIn es l
 
 -- more is known of each list, and what was known is still true
 abbrev pub AreRaised : List KnownList → List KnownList → Type 0
@@ -111,12 +111,12 @@ abbrev pub IsHome : List ShardId → ℕ → ShardId → Type 0
 IsHome shards q s = (s.queue ≡ q) × ((j : ℕ) × At shards j s × (j + q + 1 ≡ length shards))
 
 -- what is known of each list is true of its shard, if that is in its place
-abbrev pub AreToldOf : List ShardId → List KnownList → Type 0
-AreToldOf shards told = (q : ℕ) (s : ShardId) (t : KnownList) → IsHome shards q s → At told q t → Stays t.items s.sent
+abbrev pub AreTrueOf : List ShardId → List KnownList → Type 0
+AreTrueOf shards learned = (q : ℕ) (s : ShardId) (t : KnownList) → IsHome shards q s → At learned q t → Stays t.items s.sent
 
 -- each line of a log is true of its queue's shard, if that is in its place
 abbrev pub LogIsOf : List ShardId → List Logged → Type 0
-LogIsOf shards log = (k : ℕ) (l : Logged) (s : ShardId) → At log k l → IsHome shards (queue_of l) s → Stands s.sent l
+LogIsOf shards log = (k : ℕ) (l : Logged) (s : ShardId) → At log k l → IsHome shards (queue_of l) s → HoldsIn s.sent l
 
 abbrev pub LogsAreOf : List ShardId → List BookId → Type 0
 LogsAreOf shards books = (j : ℕ) (b : BookId) → At books j b → LogIsOf shards b.log
@@ -133,15 +133,15 @@ abbrev pub OneDisagrees : ℕ → List (List Entry) → List BookId → Type 0
 OneDisagrees q lists books = (j : ℕ) × (b : BookId) × At books j b × DisagreesAt q lists b
 
 -- for each subqueue below `least`, each line of the log is true of its list
-abbrev pub LogStands : ℕ → List (List Entry) → List Logged → Type 0
-LogStands least lists log = (k : ℕ) (l : Logged) → At log k l → queue_of l < least → StandsAt lists l
+abbrev pub LogHolds : ℕ → List (List Entry) → List Logged → Type 0
+LogHolds least lists log = (k : ℕ) (l : Logged) → At log k l → queue_of l < least → HoldsAt lists l
 
-abbrev pub LogsStand : ℕ → List (List Entry) → List BookId → Type 0
-LogsStand least lists books = (j : ℕ) (b : BookId) → At books j b → LogStands least lists b.log
+abbrev pub LogsHold : ℕ → List (List Entry) → List BookId → Type 0
+LogsHold least lists books = (j : ℕ) (b : BookId) → At books j b → LogHolds least lists b.log
 
 -- for each subqueue below `least`, the count is that of the list
-abbrev pub CountsStand : ℕ → List (List Entry) → BookId → Type 0
-CountsStand least lists b = (q : ℕ) (es : List Entry) → q < least → At lists q es → slice_get b.counts q ≡ Some (count_of b.id es)
+abbrev pub CountsHold : ℕ → List (List Entry) → BookId → Type 0
+CountsHold least lists b = (q : ℕ) (es : List Entry) → q < least → At lists q es → slice_get b.counts q ≡ Some (count_of b.id es)
 
 -- for each subqueue below `least`, the books agree with its list
 abbrev pub AgreesBelow : ℕ → List (List Entry) → BookId → Type 0
@@ -164,10 +164,10 @@ pub record CanCompare (workers : ℕ) (closed : List WorkerId) (senders : List S
   pub len : length s.lists.items ≡ workers
   pub within : s.least ≤ length s.lists.items
   pub books : AllAre (IsBook (length s.lists.items)) (map book_of s.books.items)
-  pub logs : LogsStand s.least s.lists.items (map book_of s.books.items)
+  pub logs : LogsHold s.least s.lists.items (map book_of s.books.items)
   pub rule : KeepRuleBelow (length s.lists.items) s.least s.lists.items
   pub account : (least : ℕ) → workers ≤ least → AgreeTo least s.least s.lists.items (map book_of s.books.items) → Accounts workers closed senders s.lists.items
-  pub fault : (least : ℕ) → least < workers → AgreeTo least s.least s.lists.items (map book_of s.books.items) → FinishFails workers closed senders (Disagree least)
+  pub error : (least : ℕ) → least < workers → AgreeTo least s.least s.lists.items (map book_of s.books.items) → FinishFails workers closed senders (Disagree least)
 
 -- the set has exactly the ids of the books
 pub record IdsOf (books : List BookId) (ids : BTreeSet ℕ) : Type 0 where
@@ -179,5 +179,5 @@ abbrev pub SendersIn : BTreeSet ℕ → List Entry → Type 0
 SendersIn ids es = (k : ℕ) (e : Entry) → At es k e → contains nat_cmp ids e.sender ≡ true
 
 -- the sender of some entry is not in the set
-abbrev pub Stranger : BTreeSet ℕ → List Entry → Type 0
-Stranger ids es = (k : ℕ) × (e : Entry) × At es k e × (contains nat_cmp ids e.sender ≡ false)
+abbrev pub HasOtherSender : BTreeSet ℕ → List Entry → Type 0
+HasOtherSender ids es = (k : ℕ) × (e : Entry) × At es k e × (contains nat_cmp ids e.sender ≡ false)

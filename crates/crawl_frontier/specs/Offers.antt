@@ -3,7 +3,7 @@ use Rattle.std.specs.Prelude.{◌≡◌, ◌≢◌, ◌⊎◌, ℕ, ◌^◌, ◌
 use Rattle.crawl_keys.specs.Assignment.{subqueue_of}
 use Rattle.crawl_gate.specs.View.{knows_closed, fresh_view}
 use Rattle.crawl_gate.specs.Seat.{SeatId}
-use Rattle.crawl_gate.specs.Enter.{EntersAtLast, EntersAtLastBeside}
+use Rattle.crawl_gate.specs.Enter.{EntersAtLast, EntersAtLastHolding}
 use Rattle.crawl_gate.specs.declared.gate.enter.Enter.TheVariants as enter
 use Rattle.crawl_queues.specs.declared.entry.Entry.{Entry}
 use Rattle.crawl_frontier.specs.declared.shard.Admit.{Admit}
@@ -69,19 +69,19 @@ OfferWords pass pass' (Err NoMemory) = (pass' ≡ pass) ⊎ EntersAndLeaves pass
 OfferWords pass pass' (Err Filtered) = pass' ≡ pass
 
 -- likewise for a sender that holds a unit, with which it makes the loads
-abbrev pub EntersAndLeavesBeside : SeatId → SeatId → SeatId → SeatId → Type 0
-EntersAndLeavesBeside held held' pass pass' = (u : SeatId) × EntersAtLastBeside held held' pass (enter.Entered u) × GaveBack u pass'
+abbrev pub EntersAndLeavesHolding : SeatId → SeatId → SeatId → SeatId → Type 0
+EntersAndLeavesHolding held held' pass pass' = (u : SeatId) × EntersAtLastHolding held held' pass (enter.Entered u) × GaveBack u pass'
 
-abbrev pub OfferWordsBeside : SeatId → SeatId → SeatId → SeatId → Result Offer OfferError → Type 0
-OfferWordsBeside held held' pass pass' (Ok (Accepted q n)) =
-    ((u : SeatId) × EntersAtLastBeside held held' pass (enter.Entered u)) × (pass'.view ≡ fresh_view held.view.max_pending)
-OfferWordsBeside held held' pass pass' (Ok Seen) = EntersAndLeavesBeside held held' pass pass'
-OfferWordsBeside held held' pass pass' (Err Closed) = ⊥
-OfferWordsBeside held held' pass pass' (Err Full) = EntersAtLastBeside held held' pass (enter.Full pass')
-OfferWordsBeside held held' pass pass' (Err (Crossed own found)) = EntersAndLeavesBeside held held' pass pass'
-OfferWordsBeside held held' pass pass' (Err TooFar) = EntersAndLeavesBeside held held' pass pass'
-OfferWordsBeside held held' pass pass' (Err NoMemory) = ((held' ≡ held) × (pass' ≡ pass)) ⊎ EntersAndLeavesBeside held held' pass pass'
-OfferWordsBeside held held' pass pass' (Err Filtered) = (held' ≡ held) × (pass' ≡ pass)
+abbrev pub OfferWordsHolding : SeatId → SeatId → SeatId → SeatId → Result Offer OfferError → Type 0
+OfferWordsHolding held held' pass pass' (Ok (Accepted q n)) =
+    ((u : SeatId) × EntersAtLastHolding held held' pass (enter.Entered u)) × (pass'.view ≡ fresh_view held.view.max_pending)
+OfferWordsHolding held held' pass pass' (Ok Seen) = EntersAndLeavesHolding held held' pass pass'
+OfferWordsHolding held held' pass pass' (Err Closed) = ⊥
+OfferWordsHolding held held' pass pass' (Err Full) = EntersAtLastHolding held held' pass (enter.Full pass')
+OfferWordsHolding held held' pass pass' (Err (Crossed own found)) = EntersAndLeavesHolding held held' pass pass'
+OfferWordsHolding held held' pass pass' (Err TooFar) = EntersAndLeavesHolding held held' pass pass'
+OfferWordsHolding held held' pass pass' (Err NoMemory) = ((held' ≡ held) × (pass' ≡ pass)) ⊎ EntersAndLeavesHolding held held' pass pass'
+OfferWordsHolding held held' pass pass' (Err Filtered) = (held' ≡ held) × (pass' ≡ pass)
 
 -- the results for a sender that knows that the gate is closed
 abbrev pub IsLate : Result Offer OfferError → Type 0

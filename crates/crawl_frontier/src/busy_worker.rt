@@ -3,11 +3,11 @@ ghost use Rattle.std.specs.Prelude.{◌≡◌, ◌+◌, ◌↔◌, false, IfSome
 ghost use Rattle.crawl_keys.specs.HostFilter.{allows};
 ghost use Rattle.crawl_frontier.specs.Turns.{Done};
 ghost use Rattle.crawl_frontier.specs.Parts.{worker};
-ghost use Rattle.crawl_frontier.specs.Offers.{OfferBooks, OfferWordsBeside, IsFiltered};
+ghost use Rattle.crawl_frontier.specs.Offers.{OfferBooks, OfferWordsHolding, IsFiltered};
 
 use crate::error::OfferError;
 use crate::frontier::Frontier;
-use crate::offer::{Answer, Candidate, Offer, give_back, offer_beside};
+use crate::offer::{Candidate, Offer, OfferOutcome, give_back, offer_with_unit};
 use crate::worker::Worker;
 use crawl_gate::Pass;
 use crawl_keys::CanonUrl;
@@ -94,19 +94,24 @@ impl<K: Name> BusyWorker<K> {
         url: &CanonUrl,
     ) -> Result<Offer, OfferError>
         ensures books { OfferBooks K.workers self.old.worker.book self.new.worker.book url.now (self.old.message.entry.hops + 1) result }
-        ensures words { OfferWordsBeside self.old.message.unit self.new.message.unit self.old.worker.seat self.new.worker.seat result }
+        ensures words { OfferWordsHolding self.old.message.unit self.new.message.unit self.old.worker.seat self.new.worker.seat result }
         ensures filtered { IsFiltered result ↔ (allows K.filter url.now ≡ false) }
         ensures entry { self.new.message.entry ≡ self.old.message.entry }
         ensures same { self.new.worker ≡ worker self.old.worker.queue self.new.worker.seat self.old.worker.taken self.old.worker.empty_pops self.new.worker.book }
     {
-        let (answer, _) = self.offer_link(rt, frontier, url);
-        answer
+        let (outcome, _) = self.offer_link(rt, frontier, url);
+        outcome
     }
 
     // Offers a link of the page. If the URL was seen, the result includes a copy of it that shares the frontier's text.
-    fn offer_link<R: Wait>(&mut self, rt: &R, frontier: &Frontier<K>, url: &CanonUrl) -> Answer
+    fn offer_link<R: Wait>(
+        &mut self,
+        rt: &R,
+        frontier: &Frontier<K>,
+        url: &CanonUrl,
+    ) -> OfferOutcome
         ensures books { OfferBooks K.workers self.old.worker.book self.new.worker.book url.now (self.old.message.entry.hops + 1) result.0 }
-        ensures words { OfferWordsBeside self.old.message.unit self.new.message.unit self.old.worker.seat self.new.worker.seat result.0 }
+        ensures words { OfferWordsHolding self.old.message.unit self.new.message.unit self.old.worker.seat self.new.worker.seat result.0 }
         ensures filtered { IsFiltered result.0 ↔ (allows K.filter url.now ≡ false) }
         ensures entry { self.new.message.entry ≡ self.old.message.entry }
         ensures same { self.new.worker ≡ worker self.old.worker.queue self.new.worker.seat self.old.worker.taken self.old.worker.empty_pops self.new.worker.book }
@@ -115,7 +120,7 @@ impl<K: Name> BusyWorker<K> {
         let hops = u64::from(self.message.entry.hops) + 1;
         let candidate = Candidate { url, hops };
         let (held, book, pass) = (&mut self.message.unit, &mut self.book, &mut self.pass);
-        offer_beside(rt, frontier, held, book, pass, &candidate)
+        offer_with_unit(rt, frontier, held, book, pass, &candidate)
     }
 
     /// Like [`BusyWorker::offer`], but a `url` that was seen shares the frontier's text from then on.
@@ -129,14 +134,14 @@ impl<K: Name> BusyWorker<K> {
     ) -> Result<Offer, OfferError>
         ensures url { url.new ≡ url.old }
         ensures books { OfferBooks K.workers self.old.worker.book self.new.worker.book url.old (self.old.message.entry.hops + 1) result }
-        ensures words { OfferWordsBeside self.old.message.unit self.new.message.unit self.old.worker.seat self.new.worker.seat result }
+        ensures words { OfferWordsHolding self.old.message.unit self.new.message.unit self.old.worker.seat self.new.worker.seat result }
         ensures filtered { IsFiltered result ↔ (allows K.filter url.old ≡ false) }
         ensures entry { self.new.message.entry ≡ self.old.message.entry }
         ensures same { self.new.worker ≡ worker self.old.worker.queue self.new.worker.seat self.old.worker.taken self.old.worker.empty_pops self.new.worker.book }
     {
-        let (answer, copy) = self.offer_link(rt, frontier, url);
+        let (outcome, copy) = self.offer_link(rt, frontier, url);
         share(url, copy);
-        answer
+        outcome
     }
 
     /// Says that the URL is done, and gives its unit back. It takes no lock and allocates nothing.

@@ -4,9 +4,9 @@ ghost use Rattle.crawl_frontier.specs.Accounts.{Accounts, FinishFails};
 
 mod compare;
 mod gather;
+mod known_lists;
 mod settle;
 mod settled;
-mod tell;
 
 use crate::account::Account;
 use crate::closed_worker::ClosedWorker;

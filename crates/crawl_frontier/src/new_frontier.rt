@@ -45,10 +45,10 @@ impl<K: Name> Frontier<K> {
             queues,
             push_rights,
             pop_rights,
-            told,
+            learned,
         } = setup;
         let shards = shards::<K>(alloc, push_rights)?;
-        let mut book = Book::new::<K>(alloc, u64::from(count), told)?;
+        let mut book = Book::new::<K>(alloc, u64::from(count), learned)?;
         let made = workers::<K>(alloc, &gate, &queues, &mut book, &mut opening, pop_rights)?;
         let pass = gate.split_unit(&mut opening);
         let seeder = Seeder::new(opening, pass, book);

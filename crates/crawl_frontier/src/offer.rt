@@ -5,7 +5,7 @@ ghost use Rattle.crawl_keys.specs.HostFilter.{allows};
 ghost use Rattle.crawl_gate.specs.Seat.{IsSeatOf};
 ghost use Rattle.crawl_queues.specs.Logs.{lists_of};
 ghost use Rattle.crawl_queues.specs.Books.{IsBook, HasRoom, Knows, book_of};
-ghost use Rattle.crawl_frontier.specs.Offers.{Replies, IsKnown, OfferBooks, OfferWordsBeside, Delivers, IsFiltered};
+ghost use Rattle.crawl_frontier.specs.Offers.{Replies, IsKnown, OfferBooks, OfferWordsHolding, Delivers, IsFiltered};
 ghost use Rattle.crawl_frontier.specs.Units.{GaveBack};
 
 use crate::error::OfferError;
@@ -34,7 +34,7 @@ pub(crate) struct Candidate<'a> {
 }
 
 /// The result of an offer and, if the URL was seen, a copy of it that shares the frontier's text.
-pub(crate) type Answer = (Result<Offer, OfferError>, Option<CanonUrl>);
+pub(crate) type OfferOutcome = (Result<Offer, OfferError>, Option<CanonUrl>);
 
 /// Gives a unit back, and returns the pass that it becomes. If it was the last unit, the gate may close, so all resting
 /// workers are woken: one of them closes it, and the others find it closed.
@@ -69,14 +69,14 @@ fn admit<K: Name, R: Wait>(
     ensures rest { (book.new.id ≡ book.old.id) × (book.new.counts ≡ book.old.counts) × (book.new.lines ≡ book.old.lines) }
     ensures same { book_of book.new ≡ book_of book.old }
     ensures known { Knows K.queues K.workers book.new }
-    ensures index { IsKnown (lists_of book.new.told.items) queue offered.now.url.now offered.now.id offered.now.hops result }
+    ensures index { IsKnown (lists_of book.new.learned.items) queue offered.now.url.now offered.now.id offered.now.hops result }
 {
     let subqueue = frontier.subqueue(queue);
     for _ in rt.forever() {
         let mut shard = frontier.lock(rt, queue);
         if shard.queue() == queue {
             let admit = shard.admit(rt, subqueue, offered, unit);
-            shard.tell(subqueue, &mut book.told[queue as usize]);
+            shard.extend_known(subqueue, &mut book.learned[queue as usize]);
             return admit;
         }
     }
@@ -92,7 +92,7 @@ pub(crate) fn deliver<K: Name, R: Wait>(
     pass: &mut Pass,
     candidate: &Candidate<'_>,
     unit: Unit,
-) -> Answer
+) -> OfferOutcome
     requires book { IsBook K.workers (book_of book.old) }
     requires known { Knows K.queues K.workers book.old }
     requires room { HasRoom book.old }
@@ -141,14 +141,14 @@ pub(crate) fn deliver<K: Name, R: Wait>(
 }
 
 /// Offers a URL for a sender that holds a unit, so the gate is open: for the seeder, and for a busy worker.
-pub(crate) fn offer_beside<K: Name, R: Wait>(
+pub(crate) fn offer_with_unit<K: Name, R: Wait>(
     rt: &R,
     frontier: &Frontier<K>,
     held: &mut Unit,
     book: &mut Book,
     pass: &mut Pass,
     candidate: &Candidate<'_>,
-) -> Answer
+) -> OfferOutcome
     requires held { IsSeatOf K.gate held.old }
     requires book { IsBook K.workers (book_of book.old) }
     requires known { Knows K.queues K.workers book.old }
@@ -158,7 +158,7 @@ pub(crate) fn offer_beside<K: Name, R: Wait>(
     ensures known { Knows K.queues K.workers book.new }
     ensures pass { IsSeatOf K.gate pass.new }
     ensures books { OfferBooks K.workers (book_of book.old) (book_of book.new) candidate.now.url.now candidate.now.hops result.0 }
-    ensures words { OfferWordsBeside held.old held.new pass.old pass.new result.0 }
+    ensures words { OfferWordsHolding held.old held.new pass.old pass.new result.0 }
     ensures filtered { IsFiltered result.0 ↔ (allows K.filter candidate.now.url.now ≡ false) }
     ensures shared { IfSome result.1 (λ there. there ≡ candidate.now.url.now) }
 {

@@ -5,11 +5,11 @@ ghost use Rattle.crawl_gate.specs.View.{fresh_view};
 ghost use Rattle.crawl_queues.specs.Books.{IsBook, Knows, book_of, fresh_book};
 ghost use Rattle.crawl_keys.specs.HostFilter.{allows};
 ghost use Rattle.crawl_frontier.specs.Units.{GaveBack};
-ghost use Rattle.crawl_frontier.specs.Offers.{OfferBooks, OfferWordsBeside, IsFiltered};
+ghost use Rattle.crawl_frontier.specs.Offers.{OfferBooks, OfferWordsHolding, IsFiltered};
 
 use crate::error::{FrontierError, OfferError};
 use crate::frontier::Frontier;
-use crate::offer::{Candidate, Offer, give_back, offer_beside};
+use crate::offer::{Candidate, Offer, give_back, offer_with_unit};
 use crate::sender::Sender;
 use crawl_gate::{Pass, Unit};
 use crawl_keys::CanonUrl;
@@ -80,13 +80,13 @@ impl<K: Name> Seeder<K> {
         url: &CanonUrl,
     ) -> Result<Offer, OfferError>
         ensures books { OfferBooks K.workers self.old.book self.new.book url.now 0 result }
-        ensures words { OfferWordsBeside self.old.opening self.new.opening self.old.seat self.new.seat result }
+        ensures words { OfferWordsHolding self.old.opening self.new.opening self.old.seat self.new.seat result }
         ensures filtered { IsFiltered result ↔ (allows K.filter url.now ≡ false) }
     {
         let (held, book, pass) = (&mut self.opening, &mut self.book, &mut self.pass);
         let candidate = Candidate { url, hops: 0 };
-        let (answer, _) = offer_beside(rt, frontier, held, book, pass, &candidate);
-        answer
+        let (outcome, _) = offer_with_unit(rt, frontier, held, book, pass, &candidate);
+        outcome
     }
 
     /// A new sender with this id. The only error is `NoMemory`.

@@ -131,7 +131,7 @@ impl<K: Name> Sender<K> {
         };
         let candidate = Candidate { url, hops: 0 };
         let (book, pass) = (&mut self.book, &mut self.pass);
-        let (answer, _) = deliver(rt, frontier, book, pass, &candidate, unit);
-        answer
+        let (outcome, _) = deliver(rt, frontier, book, pass, &candidate, unit);
+        outcome
     }
 }

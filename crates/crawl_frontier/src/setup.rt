@@ -34,7 +34,7 @@ pub struct Setup {
     pub(crate) queues: Vec<Subqueue>,
     pub(crate) push_rights: VecDeque<PushRight>,
     pub(crate) pop_rights: VecDeque<PopRight>,
-    pub(crate) told: Vec<Beginning>,
+    pub(crate) learned: Vec<Beginning>,
 }
 
 impl Model for Setup {
@@ -53,7 +53,7 @@ impl Model for Setup {
     ghost invariant = { λ s.
         IsSeatOf s.gate s.opening × (s.opening.view ≡ opening_view s.gate.max_pending) × IsWorkers s.workers
         × Line s.gate s.workers s.queues.items s.push_rights.items s.pop_rights.items s.workers
-        × (vec_len s.told ≡ s.workers) × ListsAre s.queues.items s.told.items };
+        × (vec_len s.learned ≡ s.workers) × ListsAre s.queues.items s.learned.items };
 }
 
 type Made = (
@@ -72,15 +72,15 @@ fn subqueues(alloc: Global, gate: &Gate, workers: u32) -> Result<Made, AllocErro
     let mut queues = Vec::with_capacity(alloc, count)?;
     let mut push_rights = VecDeque::with_capacity(alloc, count)?;
     let mut pop_rights = VecDeque::with_capacity(alloc, count)?;
-    let mut told = Vec::with_capacity(alloc, count)?;
+    let mut learned = Vec::with_capacity(alloc, count)?;
     for queue in 0..workers {
         let (subqueue, push, pop, begins) = Subqueue::new(alloc, gate, workers, queue)?;
         queues.push_reserved(subqueue);
         push_rights.push_back_reserved(push);
         pop_rights.push_back_reserved(pop);
-        told.push_reserved(begins);
+        learned.push_reserved(begins);
     }
-    Ok((queues, push_rights, pop_rights, told))
+    Ok((queues, push_rights, pop_rights, learned))
 }
 
 impl Setup {
@@ -102,7 +102,7 @@ impl Setup {
             Err(GateError::BadLimit) => return Err(FrontierError::BadLimit),
             Err(GateError::NoMemory) => return Err(FrontierError::NoMemory),
         };
-        let Ok((queues, push_rights, pop_rights, told)) = subqueues(alloc, &gate, workers) else {
+        let Ok((queues, push_rights, pop_rights, learned)) = subqueues(alloc, &gate, workers) else {
             return Err(FrontierError::NoMemory);
         };
         Ok(Setup {
@@ -112,7 +112,7 @@ impl Setup {
             queues,
             push_rights,
             pop_rights,
-            told,
+            learned,
         })
     }
 }

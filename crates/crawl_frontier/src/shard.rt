@@ -238,14 +238,14 @@ impl<K: Name> Shard<K> {
     }
 
     /// Extends the beginning to the list as it is now, which still has all its entries.
-    pub(crate) fn tell(&mut self, subqueue: &Subqueue, told: &mut Beginning)
+    pub(crate) fn extend_known(&mut self, subqueue: &Subqueue, learned: &mut Beginning)
         requires subqueue { slice_get K.queues self.old.queue ≡ Some subqueue.now }
-        requires told { told.old.list ≡ subqueue.now.list }
+        requires learned { learned.old.list ≡ subqueue.now.list }
         ensures same { self.new ≡ self.old }
-        ensures told { told.new ≡ begins_with subqueue.now.list self.old.sent }
-        ensures stays { Stays told.old.items told.new.items }
+        ensures learned { learned.new ≡ begins_with subqueue.now.list self.old.sent }
+        ensures stays { Stays learned.old.items learned.new.items }
     {
-        subqueue.tell(&mut self.right, told);
+        subqueue.extend_known(&mut self.right, learned);
     }
 
     // Adds the URL, unless it is there: one search finds it, or gives it the list's next index. All allocations come before the

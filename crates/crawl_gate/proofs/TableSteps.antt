@@ -13,9 +13,9 @@ use Rattle.crawl_gate.proofs.Histories.{word_found, keeps_invariant}
 abbrev Wrote : Moment → Moment → ℕ → View → Type 0
 Wrote gate gate' seat w = (written : ℕ) × (gate' ≡ record { words = set gate.words 0 written; homes = gate.homes; views = set gate.views seat w })
 
-wrote : (told : Sitting → ℕ → Sitting → Type 0) (gate gate' : Moment) (p : PlayMade told gate gate') → carried_after [] p.act ≡ [] → (w : View) → p.after ≡ w
+wrote : (reported : Sitting → ℕ → Sitting → Type 0) (gate gate' : Moment) (p : PlayMade reported gate gate') → carried_after [] p.act ≡ [] → (w : View) → p.after ≡ w
     → Wrote gate gate' p.seat w
-wrote told gate gate' p none_left w is = grind (arith, homes_stay)
+wrote reported gate gate' p none_left w is = grind (arith, homes_stay)
 
 -- a seat that has closed the gate after a step that closes nothing had closed it before
 closer_before : (views : List View) (seat : ℕ) (v w : View) → get_elem? views seat ≡ some v → w.closed_gate ≡ v.closed_gate
@@ -88,13 +88,13 @@ open_word x n e small = grind arith
 
 look_is : (max : ℕ) (gate gate' : Moment) → GateInvariant max gate → GateInvariant max gate' → (s : Step (Unit {0})) → PlayMade (Looks s) gate gate' → GateStep gate gate'
 look_is max gate gate' k k' s p =
-    let t = p.telling in
+    let t = p.allowed in
     let w = view_looking p.before t.0 in
     looks p.before t.0 (meeting max gate gate' k k' p.seat p.before w t.0 p.view t.2 t.1.small (wrote (Looks s) gate gate' p t.4 w t.3) refl refl)
 
 take_unit_is : (max : ℕ) (gate gate' : Moment) → GateInvariant max gate → GateInvariant max gate' → (s : Step (Unit {0})) → PlayMade (Enters s) gate gate' → GateStep gate gate'
 take_unit_is max gate gate' k k' s p =
-    let t = p.telling in
+    let t = p.allowed in
     let v = p.before in
     let x = t.2 in
     let n = s.first in
@@ -113,7 +113,7 @@ take_unit_is max gate gate' k k' s p =
 
 give_back_is : (max : ℕ) (gate gate' : Moment) → GateInvariant max gate → GateInvariant max gate' → (s : Step (Unit {0})) → PlayMade (Leaves s) gate gate' → GateStep gate gate'
 give_back_is max gate gate' k k' s p =
-    let t = p.telling in
+    let t = p.allowed in
     let v = p.before in
     let x = t.1 in
     let held = t.2.holder t.0 in
@@ -128,7 +128,7 @@ give_back_is max gate gate' k k' s p =
 
 shut_is : (max : ℕ) (gate gate' : Moment) → GateInvariant max gate → GateInvariant max gate' → (s : Step (Unit {0})) → PlayMade (Closes s) gate gate' → GateStep gate gate'
 shut_is max gate gate' k k' s p =
-    let t = p.telling in
+    let t = p.allowed in
     let v = p.before in
     let x = t.1 in
     dite (ℕ_discrete (slice_index gate.words 0) 0)
@@ -157,8 +157,8 @@ play_is_step max gate gate' k k' (by_split v seat at next) = splits v seat at
 -- ## Every step is a play
 
 -- the play of a step that changes a seat's view from v to w
-play_of : (told : Sitting → ℕ → Sitting → Type 0) (gate gate' : Moment) (v w : View) (x y : Word) (s : SeatSteps gate gate' v w x y) → told (v, []) (bits x) (w, []) → PlayMade told gate gate'
-play_of told gate gate' v w x y s telling = record {
+play_of : (reported : Sitting → ℕ → Sitting → Type 0) (gate gate' : Moment) (v w : View) (x y : Word) (s : SeatSteps gate gate' v w x y) → reported (v, []) (bits x) (w, []) → PlayMade reported gate gate'
+play_of reported gate gate' v w x y s allowed = record {
   seat = s.seat;
   before = v;
   view = s.view;
@@ -166,7 +166,7 @@ play_of told gate gate' v w x y s telling = record {
   after = w;
   act = keeps;
   valid = tt;
-  telling = subst (λ n. told (v, []) n (w, [])) (sym (ap (λ ws. slice_index ws 0) s.word)) telling;
+  allowed = subst (λ n. reported (v, []) n (w, [])) (sym (ap (λ ws. slice_index ws 0) s.word)) allowed;
   next = s.next ∙ ap (λ ws. (let m : Moment = record { words = set ws 0 (bits y); homes = gate.homes; views = set gate.views s.seat w } in m)) (sym s.word);
 }
 

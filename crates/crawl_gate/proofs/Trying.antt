@@ -3,11 +3,11 @@ use Rattle.crawl_gate.proofs.Prelude.{◌≡◌, ◌≢◌, ℕ, ◌<◌, true, 
 use Rattle.crawl_gate.specs.declared.gate.enter.Enter.{Enter}
 use Rattle.crawl_gate.specs.declared.gate.enter.Enter.TheVariants.{Lost}
 use Rattle.crawl_gate.specs.Seat.{GateId, SeatId, IsSeatOf, with_view}
-use Rattle.crawl_gate.specs.Enter.{LostTry, AllLost, TriesToEnter, TriesToEnterBeside, view_trying, view_loading, view_exchanging, after_trying, after_loading, after_exchanging, IsLost, EntersAtLast}
+use Rattle.crawl_gate.specs.Enter.{LostTry, AllLost, TriesToEnter, TriesToEnterHolding, view_trying, view_loading, view_exchanging, after_trying, after_loading, after_exchanging, IsLost, EntersAtLast}
 use Rattle.crawl_gate.proofs.Knowing.{knows_closed-still}
 
-pub not_lost : (answer : Enter) → ((back : SeatId) → answer ≡ Lost back → ⊥) → ¬ IsLost answer
-not_lost answer other = grind arith
+pub not_lost : (outcome : Enter) → ((back : SeatId) → outcome ≡ Lost back → ⊥) → ¬ IsLost outcome
+not_lost outcome other = grind arith
 
 AllLost-append : (max : ℕ) (ts : List LostTry) (t : LostTry) → AllLost max ts → t.0 < max → t.1 ≢ open_at t.0 → AllLost max (ts ++ t ∷ [])
 AllLost-append max [] t all room other = (room, other, tt)
@@ -62,22 +62,22 @@ one_more_lost pass now next so_far tries =
       try.5 ∙ ap (with_view pass) (sym (view_trying-append pass.view so_far.0 t)),
     )
 
-pub at_last : (pass now : SeatId) (answer : Enter) → LostSoFar pass now → TriesToEnter now answer → ¬ IsLost answer → EntersAtLast pass answer
-at_last pass now answer so_far tries not = (so_far.0, so_far.1, subst (λ (s : SeatId). TriesToEnter s answer) so_far.2 tries, not)
+pub at_last : (pass now : SeatId) (outcome : Enter) → LostSoFar pass now → TriesToEnter now outcome → ¬ IsLost outcome → EntersAtLast pass outcome
+at_last pass now outcome so_far tries not = (so_far.0, so_far.1, subst (λ (s : SeatId). TriesToEnter s outcome) so_far.2 tries, not)
 
 -- the same for a pass that is used next to a unit, with both as they are now
-abbrev pub LostSoFarBeside : SeatId → SeatId → SeatId → SeatId → Type 0
-LostSoFarBeside held held' pass now =
+abbrev pub LostSoFarHolding : SeatId → SeatId → SeatId → SeatId → Type 0
+LostSoFarHolding held held' pass now =
     (ts : List LostTry) × AllLost pass.view.max_pending ts × (held' ≡ after_loading held ts) × (now ≡ after_exchanging pass ts)
 
-pub lost_of_beside : (gate : GateId) (held held' pass now : SeatId) → LostSoFarBeside held held' pass now
+pub lost_of_holding : (gate : GateId) (held held' pass now : SeatId) → LostSoFarHolding held held' pass now
     → IsSeatOf gate held → IsSeatOf gate pass → IsSeatOf gate held' × IsSeatOf gate now
-lost_of_beside gate held held' pass now so_far held_of pass_of = grind (arith, view_loading-max, view_exchanging-max)
+lost_of_holding gate held held' pass now so_far held_of pass_of = grind (arith, view_loading-max, view_exchanging-max)
 
-pub one_more_lost_beside : (held held' held'' pass now next : SeatId) → LostSoFarBeside held held' pass now
-    → TriesToEnterBeside held' held'' now (Lost next) → LostSoFarBeside held held'' pass next
-one_more_lost_beside held held' held'' pass now next so_far tries =
-    let try = subst (λ (s : SeatId × SeatId). TriesToEnterBeside s.0 held'' s.1 (Lost next)) (λ i. (so_far.2 i, so_far.3 i)) tries in
+pub one_more_lost_holding : (held held' held'' pass now next : SeatId) → LostSoFarHolding held held' pass now
+    → TriesToEnterHolding held' held'' now (Lost next) → LostSoFarHolding held held'' pass next
+one_more_lost_holding held held' held'' pass now next so_far tries =
+    let try = subst (λ (s : SeatId × SeatId). TriesToEnterHolding s.0 held'' s.1 (Lost next)) (λ i. (so_far.2 i, so_far.3 i)) tries in
     let t : LostTry = (try.0, try.1) in (
       so_far.0 ++ t ∷ [],
       AllLost-append pass.view.max_pending so_far.0 t so_far.1 (subst (λ n. try.0 < n) (view_exchanging-max pass.view so_far.0) try.2) try.3,

@@ -13,9 +13,9 @@ TriesToClose pass (Pending back n) =
     (0 < n) × (n ≤ pass.view.max_pending) × (knows_closed pass.view ≡ false) × (back ≡ after_not_closing pass (open_at n))
 
 -- the seat of the result Closed has met the gate closed, and so meets it closed from then on
-abbrev pub TellsClosed : Close → Type 0
-TellsClosed (Closed closed) = knows_closed closed.view ≡ true
-TellsClosed (Pending back n) = Unit {0}
+abbrev pub ReportsClosed : Close → Type 0
+ReportsClosed (Closed closed) = knows_closed closed.view ≡ true
+ReportsClosed (Pending back n) = Unit {0}
 
 abbrev pub IsClosed : Close → Type 0
 IsClosed (Closed closed) = Unit {0}

@@ -20,12 +20,12 @@ TriesToEnter pass (Lost back) =
     × (back ≡ after_losing (after_looking pass (open_at n)) x)
 
 -- One try while another seat holds a unit: that seat makes the load, so the gate is open, and the pass makes only the exchange, if any.
-abbrev pub TriesToEnterBeside : SeatId → SeatId → SeatId → Enter → Type 0
-TriesToEnterBeside held held' pass (Entered unit) =
+abbrev pub TriesToEnterHolding : SeatId → SeatId → SeatId → Enter → Type 0
+TriesToEnterHolding held held' pass (Entered unit) =
     (n : ℕ) × (n < pass.view.max_pending) × (held' ≡ after_looking held (open_at n)) × (unit ≡ after_entering pass (open_at n))
-TriesToEnterBeside held held' pass (Closed back) = ⊥
-TriesToEnterBeside held held' pass (Full back) = (held' ≡ after_looking held (open_at pass.view.max_pending)) × (back ≡ pass)
-TriesToEnterBeside held held' pass (Lost back) =
+TriesToEnterHolding held held' pass (Closed back) = ⊥
+TriesToEnterHolding held held' pass (Full back) = (held' ≡ after_looking held (open_at pass.view.max_pending)) × (back ≡ pass)
+TriesToEnterHolding held held' pass (Lost back) =
     (n : ℕ) × (x : Word) × (n < pass.view.max_pending) × (x ≢ open_at n)
     × (held' ≡ after_looking held (open_at n)) × (back ≡ after_losing pass x)
 
@@ -76,14 +76,14 @@ IsClosed (Lost back) = ⊥
 
 -- any number of lost tries, and then one that is not lost
 abbrev pub EntersAtLast : SeatId → Enter → Type 0
-EntersAtLast pass answer =
-    (ts : List LostTry) × AllLost pass.view.max_pending ts × TriesToEnter (after_trying pass ts) answer × ¬ IsLost answer
+EntersAtLast pass outcome =
+    (ts : List LostTry) × AllLost pass.view.max_pending ts × TriesToEnter (after_trying pass ts) outcome × ¬ IsLost outcome
 
 -- likewise while another seat holds a unit
-abbrev pub EntersAtLastBeside : SeatId → SeatId → SeatId → Enter → Type 0
-EntersAtLastBeside held held' pass answer =
+abbrev pub EntersAtLastHolding : SeatId → SeatId → SeatId → Enter → Type 0
+EntersAtLastHolding held held' pass outcome =
     (ts : List LostTry) × AllLost pass.view.max_pending ts
-    × TriesToEnterBeside (after_loading held ts) held' (after_exchanging pass ts) answer × ¬ IsLost answer
+    × TriesToEnterHolding (after_loading held ts) held' (after_exchanging pass ts) outcome × ¬ IsLost outcome
 
 -- the seat that is returned is one of this gate
 abbrev pub GivesSeatOf : GateId → Enter → Type 0

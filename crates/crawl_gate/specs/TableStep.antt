@@ -7,9 +7,9 @@ use Rattle.crawl_gate.specs.declared.rule.View.{View}
 use Rattle.crawl_gate.specs.GateInvariant.{Moment}
 use Rattle.crawl_gate.specs.Steps.{Sitting, Looks, Enters, Leaves, Closes, view_split, view_split_off}
 
--- What the table allows in a play with the fact `told` (`Allows` of `atomic_table`): a seat without slots finds a number and writes
--- any number, and its new view and an act fulfil `told`.
-pub record PlayMade (told : Sitting → ℕ → Sitting → Type 0) (gate gate' : Moment) : Type 0 where
+-- What the table allows in a play with the fact `fact` (`Allows` of `atomic_table`): a seat without slots finds a number and writes
+-- any number, and its new view and an act fulfil `fact`.
+pub record PlayMade (fact : Sitting → ℕ → Sitting → Type 0) (gate gate' : Moment) : Type 0 where
   pub seat : ℕ
   pub before : View
   pub view : get_elem? gate.views seat ≡ some before
@@ -17,7 +17,7 @@ pub record PlayMade (told : Sitting → ℕ → Sitting → Type 0) (gate gate' 
   pub after : View
   pub act : Act (Unit {0})
   pub valid : Valid gate.homes [] act
-  pub telling : told (before, []) (slice_index gate.words 0) (after, carried_after [] act)
+  pub allowed : fact (before, []) (slice_index gate.words 0) (after, carried_after [] act)
   pub next : gate' ≡ stepped gate 0 written seat [] after act
 
 -- one of the four plays, with any operands, or a split

@@ -1,5 +1,5 @@
 //! What no clause says: that the calls succeed, and what many threads do to one gate.
-mod answers;
+mod endings;
 mod own_steps;
 mod pool;
 mod rows;

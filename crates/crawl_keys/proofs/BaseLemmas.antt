@@ -4,7 +4,7 @@ use Rattle.url.specs.Input.{rsplit_once, when}
 use Rattle.url.specs.Parser.{parse_url}
 use Rattle.url.proofs.TextLemmas.{All-concat, All_one, body_bytes, is_body_byte, is_host_byte, port_bytes}
 use Rattle.crawl_keys.specs.Folders.{folder_text, is_of_folder, root_text}
-use Rattle.crawl_keys.proofs.FolderLemmas.{IsWeb, cut_path, folder_text-root, front_of_last, path_text, resolve-beside, web_url}
+use Rattle.crawl_keys.proofs.FolderLemmas.{IsWeb, cut_path, folder_text-root, front_of_last, path_text, resolve-of_folder, web_url}
 use Rattle.crawl_keys.proofs.PlainLemmas.{query_text}
 use Rattle.crawl_keys.proofs.PlainLinks.{in_folder, resolve-in_folder, resolve-query, resolve-rooted, resolve-same, spelled_query, spelled_in_folder, spelled_rooted}
 use Rattle.crawl_keys.proofs.SpelledLemmas.{parse_spelled, resolve-spelled}
@@ -65,9 +65,9 @@ root_place url web bare =
     let before = text_before url AfterHost in
     let rest = url.path ++ query_text url.query in
     let all : serialize url ≡ before ++ (port_text url ++ rest) = page_text url web.authority bare ∙ ap (λ r. r ++ rest) (host_text url) ∙ append_assoc before (port_text url) rest in
-    let behind = ap (drop (length before)) all ∙ drop_at before (port_text url ++ rest) (length before) refl in
+    let following = ap (drop (length before)) all ∙ drop_at before (port_text url ++ rest) (length before) refl in
     let stops = stops_at_root url.path (query_text url.query) web.some (rooted (kind_of url) url.path web.list) in
-    let len = ap (prefix_len (is_other 47)) behind ∙ prefix_len_at (is_other 47) (port_text url) rest (port_other url web.valid) stops in
+    let len = ap (prefix_len (is_other 47)) following ∙ prefix_len_at (is_other 47) (port_text url) rest (port_other url web.valid) stops in
     omega (arith, len, ap length (host_text url), length-append before (port_text url))
 
 -- ---- the end of the folder
@@ -197,7 +197,7 @@ is_base text root folder start end k s root_is folder_is =
     let last = without_last_segment url.path in
     record {
       before_path = λ other parses. ap (λ u. length (root_text u)) (one_url text other url parses k.parses) ∙ its_root;
-      behind_folder = λ other parses. ap (λ u. length (folder_text u) + 1) (one_url text other url parses k.parses) ∙ its_folder;
+      after_folder = λ other parses. ap (λ u. length (folder_text u) + 1) (one_url text other url parses k.parses) ∙ its_folder;
       ordered = omega (arith, its_root, front.len);
       folder_within = omega (arith, front.len, ap length whole, length-append (root_text url) (last ++ 47 ∷ front.rest), length-append last (47 ∷ front.rest));
     }
@@ -210,7 +210,7 @@ own_above : (text : List ℕ) (root folder n : ℕ) (k : IsCanonical text) → I
 own_above text root folder n k b =
     let url = k.url in
     let web = web_url url k.valid k.web in
-    let front = front_start url folder web k.bare (sym (b.behind_folder url k.parses)) in
+    let front = front_start url folder web k.bare (sym (b.after_folder url k.parses)) in
     let above = front_above (serialize url) (root_text url) folder (without_last_segment url.path) n front in
     (λ i. take (folder_above (sym k.spelled i) (sym (b.before_path url k.parses) i) folder n) (sym k.spelled i))
     ∙ front_text (serialize url) (root_text url) _ _ above
@@ -270,11 +270,11 @@ pub leads_absolute : (text link : List ℕ) (start end : ℕ) → IsCanonical te
 leads_absolute text link start end k s = resolve-spelled k.url text link start end k.parses s
 
 -- two pages with the same folder resolve a link to the same URL if the link passes the test `is_of_folder`
-pub leads_beside : (text other : List ℕ) (root folder its_root its_folder : ℕ) → IsCanonical text → IsCanonical other → IsBase text root folder → IsBase other its_root its_folder
+pub leads_within : (text other : List ℕ) (root folder its_root its_folder : ℕ) → IsCanonical text → IsCanonical other → IsBase text root folder → IsBase other its_root its_folder
     → take folder text ≡ take its_folder other → (link : List ℕ) → is_of_folder link ≡ true → resolve text link ≡ resolve other link
-leads_beside text other root folder its_root its_folder k o b d same link plain =
+leads_within text other root folder its_root its_folder k o b d same link plain =
     let fronts = sym (front_folder text root folder k b) ∙ same ∙ front_folder other its_root its_folder o d in
     let folders = sym (front_of_last (folder_text k.url)) ∙ ap without_last_segment fronts ∙ front_of_last (folder_text o.url) in
     ap (λ t. resolve t link) (sym k.spelled)
-    ∙ resolve-beside k.url o.url k.valid o.valid (page_of text k) (page_of other o) folders link plain
+    ∙ resolve-of_folder k.url o.url k.valid o.valid (page_of text k) (page_of other o) folders link plain
     ∙ ap (λ t. resolve t link) o.spelled

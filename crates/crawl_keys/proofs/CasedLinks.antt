@@ -10,7 +10,7 @@ use Rattle.url.specs.Scheme.{is_scheme_byte, is_slash, is_special, scheme_len, s
 use Rattle.url.proofs.HostRoundTrip.{host_len-host_text}
 use Rattle.url.proofs.OnLiterals.{url_on_literals}
 use Rattle.crawl_keys.specs.Cased.{IsCut, IsFront, IsFrontOf, IsLowered, IsWithPort, LeadsAnywhere}
-use Rattle.crawl_keys.proofs.HostLinks.{split_behind}
+use Rattle.crawl_keys.proofs.HostLinks.{split_after}
 use Rattle.crawl_keys.proofs.PlainLemmas.{all_kept}
 use Rattle.crawl_keys.proofs.PlainLinks.{uncut}
 use Rattle.crawl_keys.proofs.SpelledLemmas.{IsWebScheme, canonical-spelled, http, https, named_some, parse_spelled, spelled_at, spelled_host}
@@ -196,8 +196,8 @@ bare_authority scheme host kind some names =
 ported_authority : (scheme host digits : List ℕ) → scheme_type scheme ≡ SpecialNotFile → 0 < length host → All (Passes is_name) host → list_all is_ascii_digit digits ≡ true → parse_port scheme digits ≡ Ok None
     → IsAuthority scheme (host ++ 58 ∷ digits) (lowercase host)
 ported_authority scheme host digits kind some names whole own =
-    let behind = All-weaker (Passes is_ascii_digit) (Passes is_end) digit_end digits (All_from_list_all is_ascii_digit digits whole) in
-    let all = All-append (Passes is_end) host (58 ∷ digits) (All-weaker (Passes is_name) (Passes is_end) name_end host names) (All-cons (Passes is_end) 58 digits refl behind) in
+    let following = All-weaker (Passes is_ascii_digit) (Passes is_end) digit_end digits (All_from_list_all is_ascii_digit digits whole) in
+    let all = All-append (Passes is_end) host (58 ∷ digits) (All-weaker (Passes is_name) (Passes is_end) name_end host names) (All-cons (Passes is_end) 58 digits refl following) in
     record {
       some = omega (arith, length-append host (58 ∷ digits));
       all = all;
@@ -297,9 +297,9 @@ parse_cased base own scheme authority name tail path o a t =
     let front = All-weaker (Passes is_ascii_alphabetic) P letter_kept own o.letters in
     let kept = All-append P own (58 ∷ 47 ∷ 47 ∷ (authority ++ tail)) front
     (All-cons P 58 (47 ∷ 47 ∷ (authority ++ tail)) refl (All-cons P 47 (47 ∷ (authority ++ tail)) refl (All-cons P 47 (authority ++ tail) refl (All-append P authority tail ends t.kept)))) in
-    let behind = split_behind authority tail (All-weaker (Passes is_end) (IsNot 63) end_query authority a.all) in
-    let split = split_behind own (58 ∷ 47 ∷ 47 ∷ (authority ++ tail)) (All-weaker (Passes is_ascii_alphabetic) (IsNot 63) letter_query own o.letters)
-    ∙ ap (λ (r : Split). (own ++ 58 ∷ 47 ∷ 47 ∷ r.0, r.1)) behind in
+    let following = split_after authority tail (All-weaker (Passes is_end) (IsNot 63) end_query authority a.all) in
+    let split = split_after own (58 ∷ 47 ∷ 47 ∷ (authority ++ tail)) (All-weaker (Passes is_ascii_alphabetic) (IsNot 63) letter_query own o.letters)
+    ∙ ap (λ (r : Split). (own ++ 58 ∷ 47 ∷ 47 ∷ r.0, r.1)) following in
     let start = ap (λ k. parse_path_start k [] rest.0) o.kind ∙ t.start in
     parse_url-cased base own scheme (47 ∷ 47 ∷ (authority ++ tail)) body rest.1 o kept split
     ∙ parts_at scheme fitting (47 ∷ 47 ∷ (authority ++ rest.0)) rest.1 (omega arith)

@@ -12,21 +12,21 @@ pub bytes_eq-comm : (xs ys : List ℕ) → bytes_eq xs ys ≡ bytes_eq ys xs
 bytes_eq-comm xs ys = grind (arith, bytes_eq-Decides, false_from_ne_true, cases_Bool)
 
 -- the suffix is the text after one of the text's dots
-abbrev pub is_behind_dot : List ℕ → List ℕ → Bool
-is_behind_dot [] suffix = false
-is_behind_dot (b ∷ more) suffix = is_dot b && bytes_eq more suffix || is_behind_dot more suffix
+abbrev pub is_after_dot : List ℕ → List ℕ → Bool
+is_after_dot [] suffix = false
+is_after_dot (b ∷ more) suffix = is_dot b && bytes_eq more suffix || is_after_dot more suffix
 
 -- a text has no suffix after a dot if the text is not longer than the suffix
-pub is_behind_dot-short : (text suffix : List ℕ) → length text ≤ length suffix → is_behind_dot text suffix ≡ false
-is_behind_dot-short [] suffix short = refl
-is_behind_dot-short (b ∷ more) suffix short = grind (arith, bytes_eq-lengths, and_right, is_behind_dot-short more suffix)
+pub is_after_dot-short : (text suffix : List ℕ) → length text ≤ length suffix → is_after_dot text suffix ≡ false
+is_after_dot-short [] suffix short = refl
+is_after_dot-short (b ∷ more) suffix short = grind (arith, bytes_eq-lengths, and_right, is_after_dot-short more suffix)
 
 -- the last bytes of a text are those of its rest, if the rest is long enough
 pub drop-longer : (b : ℕ) (more : List ℕ) (n : ℕ) → n < length more → drop (length (b ∷ more) - suc n) (b ∷ more) ≡ drop (length more - suc n) more
 drop-longer b more n longer = grind arith
 
 -- a text that ends with a dot and a suffix has the suffix after one of its dots
-pub ends_with-dot : (text suffix : List ℕ) → ends_with nat_eq text (codes "." ++ suffix) ≡ is_behind_dot text suffix
+pub ends_with-dot : (text suffix : List ℕ) → ends_with nat_eq text (codes "." ++ suffix) ≡ is_after_dot text suffix
 ends_with-dot [] suffix =
     let none : 0 - suc (length suffix) ≡ 0 = omega arith in
     rw none refl
@@ -40,17 +40,17 @@ ends_with-dot (b ∷ more) suffix =
         let none : length (b ∷ more) - length (46 ∷ suffix) ≡ 0 = omega arith in
         rw none (bytes_eq-comm (46 ∷ suffix) (b ∷ more))
 
-    whole : (b : ℕ) (more suffix : List ℕ) → length more ≡ length suffix → ends_with nat_eq (b ∷ more) (46 ∷ suffix) ≡ is_behind_dot (b ∷ more) suffix
+    whole : (b : ℕ) (more suffix : List ℕ) → length more ≡ length suffix → ends_with nat_eq (b ∷ more) (46 ∷ suffix) ≡ is_after_dot (b ∷ more) suffix
     whole b more suffix same =
         at_start b more suffix (omega arith)
-        ∙ rw (is_behind_dot-short more suffix (omega arith)) (sym (or-false (is_dot b && bytes_eq more suffix)))
+        ∙ rw (is_after_dot-short more suffix (omega arith)) (sym (or-false (is_dot b && bytes_eq more suffix)))
 
-    short : (b : ℕ) (more suffix : List ℕ) → length more < length suffix → ends_with nat_eq (b ∷ more) (46 ∷ suffix) ≡ is_behind_dot (b ∷ more) suffix
+    short : (b : ℕ) (more suffix : List ℕ) → length more < length suffix → ends_with nat_eq (b ∷ more) (46 ∷ suffix) ≡ is_after_dot (b ∷ more) suffix
     short b more suffix shorter =
         at_start b more suffix (omega arith) ∙ bytes_eq-lengths (b ∷ more) (46 ∷ suffix) (λ same. absurd (omega arith))
-        ∙ sym (is_behind_dot-short (b ∷ more) suffix (omega arith))
+        ∙ sym (is_after_dot-short (b ∷ more) suffix (omega arith))
 
-    long : (b : ℕ) (more suffix : List ℕ) → length suffix < length more → ends_with nat_eq more (46 ∷ suffix) ≡ is_behind_dot more suffix → ends_with nat_eq (b ∷ more) (46 ∷ suffix) ≡ is_behind_dot (b ∷ more) suffix
+    long : (b : ℕ) (more suffix : List ℕ) → length suffix < length more → ends_with nat_eq more (46 ∷ suffix) ≡ is_after_dot more suffix → ends_with nat_eq (b ∷ more) (46 ∷ suffix) ≡ is_after_dot (b ∷ more) suffix
     long b more suffix longer rest =
         ap (λ s. bytes_eq (46 ∷ suffix) s) (drop-longer b more (length suffix) longer)
         ∙ rest ∙ rw (bytes_eq-lengths more suffix (λ same. absurd (omega arith)), and_right (is_dot b) false refl) refl
@@ -76,32 +76,32 @@ map-insert_key string [] = refl
 map-insert_key string (s ∷ more) = grind (arith, map-insert_key string more)
 
 -- a suffix is after the first dot, or after a later one
-pub is_behind_dot-first : (text suffix : List ℕ) → position_or_len is_dot text < length text → is_behind_dot text suffix ≡ (bytes_eq (after_first is_dot text) suffix || is_behind_dot (after_first is_dot text) suffix)
-is_behind_dot-first [] suffix within = absurd (omega arith)
-is_behind_dot-first (b ∷ more) suffix within = grind (arith, cases_Bool, is_behind_dot-first more)
+pub is_after_dot-first : (text suffix : List ℕ) → position_or_len is_dot text < length text → is_after_dot text suffix ≡ (bytes_eq (after_first is_dot text) suffix || is_after_dot (after_first is_dot text) suffix)
+is_after_dot-first [] suffix within = absurd (omega arith)
+is_after_dot-first (b ∷ more) suffix within = grind (arith, cases_Bool, is_after_dot-first more)
 
 -- a text with no dot has no suffix after a dot
-pub is_behind_dot-none : (text suffix : List ℕ) → position_or_len is_dot text ≡ length text → is_behind_dot text suffix ≡ false
-is_behind_dot-none [] suffix all = refl
-is_behind_dot-none (b ∷ more) suffix all = grind (arith, cases_Bool, is_behind_dot-none more)
+pub is_after_dot-none : (text suffix : List ℕ) → position_or_len is_dot text ≡ length text → is_after_dot text suffix ≡ false
+is_after_dot-none [] suffix all = refl
+is_after_dot-none (b ∷ more) suffix all = grind (arith, cases_Bool, is_after_dot-none more)
 
 -- a host is within some suffix if and only if it is a suffix or has one after a dot
-pub list_any-within : (host : List ℕ) (suffixes : List (List ℕ)) → list_any (is_within host) suffixes ≡ (list_any (bytes_eq host) suffixes || list_any (is_behind_dot host) suffixes)
+pub list_any-within : (host : List ℕ) (suffixes : List (List ℕ)) → list_any (is_within host) suffixes ≡ (list_any (bytes_eq host) suffixes || list_any (is_after_dot host) suffixes)
 list_any-within host suffixes =
     list_any-or (bytes_eq host) (λ suffix. ends_with nat_eq host (codes "." ++ suffix)) suffixes
     ∙ ap (λ b. list_any (bytes_eq host) suffixes || b) (list_any-same _ _ (ends_with-dot host) suffixes)
 
 -- some suffix is after a dot of the text if and only if the text after the first dot is a suffix or has one after a dot
-pub behind-first : (text behind : List ℕ) (suffixes : List (List ℕ)) → position_or_len is_dot text < length text → behind ≡ after_first is_dot text → list_any (is_behind_dot text) suffixes ≡ (list_any (bytes_eq behind) suffixes || list_any (is_behind_dot behind) suffixes)
-behind-first text behind suffixes within cut =
-    list_any-same _ _ (λ suffix. is_behind_dot-first text suffix within) suffixes
-    ∙ list_any-or (bytes_eq (after_first is_dot text)) (is_behind_dot (after_first is_dot text)) suffixes
-    ∙ (λ i. list_any (bytes_eq (sym cut i)) suffixes || list_any (is_behind_dot (sym cut i)) suffixes)
+pub following-first : (text following : List ℕ) (suffixes : List (List ℕ)) → position_or_len is_dot text < length text → following ≡ after_first is_dot text → list_any (is_after_dot text) suffixes ≡ (list_any (bytes_eq following) suffixes || list_any (is_after_dot following) suffixes)
+following-first text following suffixes within cut =
+    list_any-same _ _ (λ suffix. is_after_dot-first text suffix within) suffixes
+    ∙ list_any-or (bytes_eq (after_first is_dot text)) (is_after_dot (after_first is_dot text)) suffixes
+    ∙ (λ i. list_any (bytes_eq (sym cut i)) suffixes || list_any (is_after_dot (sym cut i)) suffixes)
 
 -- a text with no dot has no suffix after one
-pub behind-none : (text : List ℕ) (suffixes : List (List ℕ)) → position_or_len is_dot text ≡ length text → list_any (is_behind_dot text) suffixes ≡ false
-behind-none text [] all = refl
-behind-none text (suffix ∷ more) all = rw (is_behind_dot-none text suffix all) (behind-none text more all)
+pub following-none : (text : List ℕ) (suffixes : List (List ℕ)) → position_or_len is_dot text ≡ length text → list_any (is_after_dot text) suffixes ≡ false
+following-none text [] all = refl
+following-none text (suffix ∷ more) all = rw (is_after_dot-none text suffix all) (following-none text more all)
 
 -- an index among the values of a list is the index in the list
 pub position-map : {A B : Type 0} (p : B → Bool) (f : A → B) (xs : List A) → position p (map f xs) ≡ position (λ x. p (f x)) xs

@@ -218,8 +218,8 @@ no_colon (x ∷ l) none = grind (arith, or_parts, eq-eqb, no_colon l)
 differs : (b s : ℕ) → not (b == s) ≡ true → b ≢ s
 differs b s other same = true≢false (sym (eq-eqb b s same) ∙ not-true _ other)
 
-pub plain_text : (text : List ℕ) → is_of_folder text ≡ true → IsPlain text
-plain_text text plain = grind (arith, common_steps, true≢false, and_parts, ltb-true, differs, eqb-true, no_colon, not-true, or_cases)
+pub plain_link_text : (text : List ℕ) → is_of_folder text ≡ true → IsPlain text
+plain_link_text text plain = grind (arith, common_steps, true≢false, and_parts, ltb-true, differs, eqb-true, no_colon, not-true, or_cases)
 
 pub begins-text : (text : List ℕ) (k : IsPlain text) → Begins k.first (NoScheme k.first) (strip_tabs_and_new_lines (trim_c0_control_and_space text))
 begins-text text k =
@@ -240,5 +240,5 @@ parse_url-folder url text web k =
     ∙ parse_without_scheme-folder url question.0 question.1 hash.1 web.kind web.authority (omega (arith, len))
     ∙ sym (ap (λ s. parse_by_scheme s (Some (folder url)) question.0 question.1 hash.1) none)
 
-pub resolve-beside : (one other : Parts) → IsValid one → IsValid other → IsPage one → IsPage other → folder_text one ≡ folder_text other → (text : List ℕ) → is_of_folder text ≡ true → resolve (serialize one) text ≡ resolve (serialize other) text
-resolve-beside one other valid its_valid page its_page same text plain = grind (arith, plain_text, web_url, same_folder, parse_url-folder)
+pub resolve-of_folder : (one other : Parts) → IsValid one → IsValid other → IsPage one → IsPage other → folder_text one ≡ folder_text other → (text : List ℕ) → is_of_folder text ≡ true → resolve (serialize one) text ≡ resolve (serialize other) text
+resolve-of_folder one other valid its_valid page its_page same text plain = grind (arith, plain_link_text, web_url, same_folder, parse_url-folder)

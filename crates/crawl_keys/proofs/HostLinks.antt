@@ -11,10 +11,10 @@ use Rattle.crawl_keys.proofs.SpelledLemmas.{resolve-spelled, spelled_at, spelled
 -- ---- the scheme of a page
 
 -- a text before its query keeps the byte unchanged
-abbrev stands : ℕ → Bool
-stands b = is_kept b && not (b == 63)
+abbrev holds : ℕ → Bool
+holds b = is_kept b && not (b == 63)
 
-scheme_bytes : (base : Parts) → is_web base ≡ true → All (Passes stands) base.scheme
+scheme_bytes : (base : Parts) → is_web base ≡ true → All (Passes holds) base.scheme
 scheme_bytes base web = grind (arith, bytes_eq-Decides, or_cases)
 
 -- ---- the parser reads the link after the page's scheme as it reads the link itself
@@ -22,11 +22,11 @@ scheme_bytes base web = grind (arith, bytes_eq-Decides, or_cases)
 abbrev Split : Type 0
 Split = List ℕ × Option (List ℕ)
 
-pub split_behind : (front rest : List ℕ) → All (IsNot 63) front → split_once 63 (front ++ rest) ≡ (front ++ (split_once 63 rest).0, (split_once 63 rest).1)
+pub split_after : (front rest : List ℕ) → All (IsNot 63) front → split_once 63 (front ++ rest) ≡ (front ++ (split_once 63 rest).0, (split_once 63 rest).1)
 unfolding split_once
-split_behind [] rest none = refl
-split_behind (b ∷ front) rest none =
-    cond-false _ _ _ (ne_eqb b 63 (All-head (IsNot 63) b front none)) ∙ ap (λ (r : Split). (b ∷ r.0, r.1)) (split_behind front rest (All-tail (IsNot 63) b front none))
+split_after [] rest none = refl
+split_after (b ∷ front) rest none =
+    cond-false _ _ _ (ne_eqb b 63 (All-head (IsNot 63) b front none)) ∙ ap (λ (r : Split). (b ∷ r.0, r.1)) (split_after front rest (All-tail (IsNot 63) b front none))
 
 -- how the parser reads a kept text with a scheme
 pub parse_url-scheme : (base : Option Parts) (scheme rest body : List ℕ) (query : Option (List ℕ)) → IsScheme scheme → All (Passes is_kept) (scheme ++ 58 ∷ rest)
@@ -43,35 +43,35 @@ parse_url-by_scheme base more page web kept =
     let body = 47 ∷ (split_once 63 more).0 in
     let query = (split_once 63 more).1 in
     let bytes = scheme_bytes base web in
-    let front = All-weaker (Passes stands) (Passes is_kept) (λ b test. (and_parts _ _ test).0) base.scheme bytes in
-    let none = All-weaker (Passes stands) (IsNot 63) (λ b test same. grind (arith, nat_tests)) base.scheme bytes in
+    let front = All-weaker (Passes holds) (Passes is_kept) (λ b test. (and_parts _ _ test).0) base.scheme bytes in
+    let none = All-weaker (Passes holds) (IsNot 63) (λ b test same. grind (arith, nat_tests)) base.scheme bytes in
     let all = All-append (Passes is_kept) base.scheme (58 ∷ 47 ∷ more) front (All-cons (Passes is_kept) 58 (47 ∷ more) refl kept) in
     parse_url-kept base (47 ∷ more) body query kept refl (rooted_scheme (split_once 63 more).0)
     ∙ cond-false _ _ _ (and_left _ _ (base_from_authority base page.authority))
     ∙ ap (λ b. parse_parts base.scheme b body query None) (sym (own_base base page))
-    ∙ sym (parse_url-scheme (Some base) base.scheme (47 ∷ more) body query page.valid.head.scheme all (split_behind base.scheme (58 ∷ 47 ∷ more) none))
+    ∙ sym (parse_url-scheme (Some base) base.scheme (47 ∷ more) body query page.valid.head.scheme all (split_after base.scheme (58 ∷ 47 ∷ more) none))
 
 -- ---- its target
 
-spelled_behind : (base : Parts) (rest : List ℕ) → IsValid base → is_web base ≡ true → is_plain_host rest ≡ true → IsSpelled (base.scheme ++ 58 ∷ 47 ∷ 47 ∷ rest) (length base.scheme + 3) (length base.scheme + 3 + host_len rest)
-spelled_behind base rest valid web plain = grind (arith, spelled_host)
+spelled_after : (base : Parts) (rest : List ℕ) → IsValid base → is_web base ≡ true → is_plain_host rest ≡ true → IsSpelled (base.scheme ++ 58 ∷ 47 ∷ 47 ∷ rest) (length base.scheme + 3) (length base.scheme + 3 + host_len rest)
+spelled_after base rest valid web plain = grind (arith, spelled_host)
 
 host_byte_kept : (b : ℕ) → Passes is_host_byte b → Passes is_kept b
 host_byte_kept b host = grind (arith, nat_tests)
 
-kept_behind : (rest : List ℕ) → is_plain_host rest ≡ true → All (Passes is_kept) rest
-kept_behind rest plain =
+kept_after : (rest : List ℕ) → is_plain_host rest ≡ true → All (Passes is_kept) rest
+kept_after rest plain =
     let n = host_len rest in
     let host = All-weaker (Passes is_host_byte) (Passes is_kept) host_byte_kept (take n rest) (All-take-prefix_len is_host_byte rest) in
     let tail = all_kept 0 (drop n rest) (and_parts _ _ plain).1 in
     subst (All (Passes is_kept)) (take-append-drop n rest) (All-append (Passes is_kept) (take n rest) (drop n rest) host tail)
 
-resolve-behind : (base : Parts) (rest : List ℕ) → IsValid base → IsPage base → is_plain_host rest ≡ true → resolve (serialize base) (47 ∷ 47 ∷ rest) ≡ Ok (base.scheme ++ 58 ∷ 47 ∷ 47 ∷ rest)
-resolve-behind base rest valid page plain =
+resolve-following : (base : Parts) (rest : List ℕ) → IsValid base → IsPage base → is_plain_host rest ≡ true → resolve (serialize base) (47 ∷ 47 ∷ rest) ≡ Ok (base.scheme ++ 58 ∷ 47 ∷ 47 ∷ rest)
+resolve-following base rest valid page plain =
     let P = Passes is_kept in
-    let k = spelled_behind base rest valid page.web plain in
+    let k = spelled_after base rest valid page.web plain in
     let text = base.scheme ++ 58 ∷ 47 ∷ 47 ∷ rest in
-    let kept = All-cons P 47 (47 ∷ rest) refl (All-cons P 47 rest refl (kept_behind rest plain)) in
+    let kept = All-cons P 47 (47 ∷ rest) refl (All-cons P 47 rest refl (kept_after rest plain)) in
     ap (λ p. resolve_from p (47 ∷ 47 ∷ rest)) page.parses
     ∙ ap text_of_parse (parse_url-by_scheme base (47 ∷ rest) (web_url base valid page.web) page.web kept)
     ∙ ap (λ p. resolve_from p text) (sym page.parses)
@@ -83,12 +83,12 @@ front_scheme text scheme k own rest = ap (λ s. s ++ rest) (own k.url k.parses) 
 
 pub leads_by_host : (text link scheme : List ℕ) (len : ℕ) (k : IsCanonical text) → IsSchemeOf text scheme → IsByHost link len → resolve text link ≡ Ok (scheme ++ link)
 leads_by_host text link scheme len k own by =
-    (λ i. resolve (sym k.spelled i) (by.is i)) ∙ resolve-behind k.url by.rest k.valid (page_of text k) by.plain
+    (λ i. resolve (sym k.spelled i) (by.is i)) ∙ resolve-following k.url by.rest k.valid (page_of text k) by.plain
     ∙ ap (λ t. Ok t) (sym (front_scheme text scheme k own (47 ∷ 47 ∷ by.rest)) ∙ ap (λ l. scheme ++ l) (sym by.is))
 
 pub spelled_by_host : (text link scheme : List ℕ) (len : ℕ) (k : IsCanonical text) → IsSchemeOf text scheme → IsByHost link len → IsSpelled (scheme ++ link) (length scheme + 2) (length scheme + 2 + len)
 spelled_by_host text link scheme len k own by =
-    let s = spelled_behind k.url by.rest k.valid k.web by.plain in
+    let s = spelled_after k.url by.rest k.valid k.web by.plain in
     let size : length scheme ≡ length k.url.scheme + 1 = ap length (own k.url k.parses) ∙ length-append k.url.scheme (58 ∷ []) in
     let whole = sym (front_scheme text scheme k own (47 ∷ 47 ∷ by.rest)) ∙ ap (λ l. scheme ++ l) (sym by.is) in
     spelled_at (scheme ++ link) _ _ _ _ (subst (λ t. IsSpelled t (length k.url.scheme + 3) (length k.url.scheme + 3 + host_len by.rest)) whole s) (omega (arith, size)) (omega (arith, size, by.host))

@@ -21,18 +21,18 @@ none_set z few none k inside =
 module _ (own slashes begins : ℕ → ℕ) (other : (a : ℕ) → a ≢ 47 → slashes a ≡ 0)
     (first : agree_below (λ b. top 7 (bit_or (own b) (bit_and (slashes 47) (begins b))) || may_begin b) (λ _. true) 256 ≡ true)
     (later : agree_below (λ b. top 7 (bit_or (own b) (bit_and 0 (begins b))) || is_kept b) (λ _. true) 256 ≡ true) where
-  told : (test : ℕ → Bool) (shows : ℕ → ℕ) (b : ℕ) → agree_below (λ x. top 7 (shows x) || test x) (λ _. true) 256 ≡ true → b < 256 → top 7 (shows b) ≡ false → test b ≡ true
-  told test shows b all below none = sym (ap (λ v. v || test b) none) ∙ agree_below_at (λ x. top 7 (shows x) || test x) (λ _. true) 256 b all below
+  known : (test : ℕ → Bool) (shows : ℕ → ℕ) (b : ℕ) → agree_below (λ x. top 7 (shows x) || test x) (λ _. true) 256 ≡ true → b < 256 → top 7 (shows b) ≡ false → test b ≡ true
+  known test shows b all below none = sym (ap (λ v. v || test b) none) ∙ agree_below_at (λ x. top 7 (shows x) || test x) (λ _. true) 256 b all below
 
   follows : (a b : ℕ) → b < 256 → top 7 (bit_or (own b) (bit_and (slashes a) (begins b))) ≡ false → may_follow a b ≡ true
   follows a b below none =
       elim (cases_eq a 47) [
         | inl slash ↦
             cond-true _ _ _ (eq-eqb a 47 slash)
-            ∙ told may_begin (λ x. bit_or (own x) (bit_and (slashes 47) (begins x))) b first below (subst (λ x. top 7 (bit_or (own b) (bit_and (slashes x) (begins b))) ≡ false) slash none)
+            ∙ known may_begin (λ x. bit_or (own x) (bit_and (slashes 47) (begins x))) b first below (subst (λ x. top 7 (bit_or (own b) (bit_and (slashes x) (begins b))) ≡ false) slash none)
         | inr no_slash ↦
             cond-false _ _ _ (ne_eqb a 47 no_slash)
-            ∙ told is_kept (λ x. bit_or (own x) (bit_and 0 (begins x))) b later below (subst (λ x. top 7 (bit_or (own b) (bit_and x (begins b))) ≡ false) (other a no_slash) none)
+            ∙ known is_kept (λ x. bit_or (own x) (bit_and 0 (begins x))) b later below (subst (λ x. top 7 (bit_or (own b) (bit_and x (begins b))) ≡ false) (other a no_slash) none)
       ]
 
 -- the lanes of 16 bytes and of those before them
@@ -62,9 +62,9 @@ lanes text at own slashes begins room =
           let before : get_or (map slashes p) i 0 ≡ slashes (get_or text (at + i) 0) = get_or-map slashes p i 0 0 (omega (arith, p_long)) ∙ ap slashes (get_or-chunk at 16 text i 0 inside) in
           let byte = get_or-chunk (at + 1) 16 text i 0 inside in
           let alone : get_or (map own v) i 0 ≡ own (get_or text (at + 1 + i) 0) = get_or-map own v i 0 0 (omega (arith, v_long)) ∙ ap own byte in
-          let behind : get_or (map begins v) i 0 ≡ begins (get_or text (at + 1 + i) 0) = get_or-map begins v i 0 0 (omega (arith, v_long)) ∙ ap begins byte in
+          let following : get_or (map begins v) i 0 ≡ begins (get_or text (at + 1 + i) 0) = get_or-map begins v i 0 0 (omega (arith, v_long)) ∙ ap begins byte in
           get_or-zip2 bit_or (map own v) both i 0 0 0 (omega (arith, own_long)) (omega (arith, both_long))
-          ∙ (λ j. bit_or (alone j) ((get_or-zip2 bit_and (map slashes p) (map begins v) i 0 0 0 (omega (arith, slashes_long)) (omega (arith, begins_long)) ∙ (λ m. bit_and (before m) (behind m))) j));
+          ∙ (λ j. bit_or (alone j) ((get_or-zip2 bit_and (map slashes p) (map begins v) i 0 0 0 (omega (arith, slashes_long)) (omega (arith, begins_long)) ∙ (λ m. bit_and (before m) (following m))) j));
     }
 
 -- if no lane has its top bit set, each byte may follow the one before it
@@ -89,13 +89,13 @@ all_follow text at z own slashes begins room fits is other first later none k fr
 run_of : (test : ℕ → Bool) (text : List ℕ) (at r : ℕ) (z : List ℕ) (f : ℕ → ℕ) → at + 16 ≤ length text → ((k : ℕ) → Fits w8 (get_or text k 0))
     → r ≡ first_set (mask_l (map (top 7) z) % 2 ^ 64) → z ≡ map f (chunk at 16 text)
     → ((x : ℕ) → x < 256 → top 7 (f x) ≡ not (test x)) → IsRun test text at r
-run_of test text at r z f room fits found lanes told =
+run_of test text at r z f room fits found lanes known =
     let v = chunk at 16 text in
     let long = length-chunk at 16 text room in
     let stops = λ (x : ℕ). top 7 (f x) in
     let mask = ap (λ l. mask_l l % 2 ^ 64) (ap (map (top 7)) lanes ∙ map-map (top 7) f v) ∙ mask_l-mod (map stops v) 64 (omega (arith, length-map v stops, long)) in
     let counted : r ≡ prefix_len (λ x. not (stops x)) v = found ∙ ap first_set mask ∙ first_set_mask_l stops v 16 long (omega arith) in
-    let at_byte = λ (k : ℕ). told (get_or text k 0) (fits k).fits in
+    let at_byte = λ (k : ℕ). known (get_or text k 0) (fits k).fits in
     record {
       few = run_in_chunk_le stops text at 16 r 0 room counted;
       pass = λ k from to. not-false _ (sym (at_byte k) ∙ run_in_chunk_fails stops text at 16 r 0 room counted k from to);

@@ -5,7 +5,7 @@ use Rattle.url.specs.Parser.{base_for_scheme, before_tail, parse_body, parse_non
 use Rattle.url.specs.Scheme.{IsScheme, default_port, is_scheme_byte, is_slash, is_special, scheme_len, scheme_type}
 use Rattle.crawl_keys.specs.Opaque.{IsOpaque, IsWord}
 use Rattle.crawl_keys.proofs.CanonicalLemmas.{text_of-other, web_kind}
-use Rattle.crawl_keys.proofs.HostLinks.{parse_url-scheme, split_behind}
+use Rattle.crawl_keys.proofs.HostLinks.{parse_url-scheme, split_after}
 use Rattle.crawl_keys.proofs.PlainLemmas.{all_kept}
 use Rattle.crawl_keys.proofs.PlainLinks.{no_slashes}
 
@@ -78,7 +78,7 @@ refuses-opaque page text k o =
     let kept = subst (All (Passes is_kept)) o.is (all_kept 0 text o.plain) in
     ap (λ p. resolve_from p text) k.parses
     ∙ ap (λ t. text_of_parse (parse_url (Some base) t)) o.is
-    ∙ ap text_of_parse (parse_url-scheme (Some base) o.scheme o.path body query (word_scheme o.scheme o.word) kept (split_behind o.scheme (58 ∷ o.path) none))
+    ∙ ap text_of_parse (parse_url-scheme (Some base) o.scheme o.path body query (word_scheme o.scheme o.word) kept (split_after o.scheme (58 ∷ o.path) none))
     ∙ ap (λ b. text_of_parse (parse_parts o.scheme b body query None)) (other_base base o.scheme o.other)
     ∙ opaque_refused o.scheme body query o.other (before_query o.path o.rootless)
 

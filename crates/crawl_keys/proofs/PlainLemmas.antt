@@ -24,8 +24,8 @@ visible_byte b kept = grind (arith, nat_tests)
 pub no_sign_byte : (b : ℕ) → Passes is_kept b → IsNot 35 b
 no_sign_byte b kept same = grind (arith, nat_tests)
 
-behind_slash : (last b : ℕ) → may_follow last b ≡ true → last ≡ 47 → may_begin b ≡ true
-behind_slash last b test slash = sym (cond-true _ _ _ (eq-eqb last 47 slash)) ∙ test
+following_slash : (last b : ℕ) → may_follow last b ≡ true → last ≡ 47 → may_begin b ≡ true
+following_slash last b test slash = sym (cond-true _ _ _ (eq-eqb last 47 slash)) ∙ test
 
 follows_kept : (last b : ℕ) → may_follow last b ≡ true → is_kept b ≡ true
 follows_kept last b test = grind (arith, cond_both, and_parts)
@@ -48,10 +48,10 @@ plain_after last b text plain other = grind arith
 
 -- ---- bytes after bytes
 
-plain_behind : (last b : ℕ) (text : List ℕ) → may_follow last b ≡ true → Follow (b ∷ text) 0 (length text) → is_plain last (b ∷ text) ≡ true
-plain_behind last b [] first each = plain_then last b [] first refl
-plain_behind last b (c ∷ text) first each =
-    plain_then last b (c ∷ text) first (plain_behind b c text (each 0 (omega arith) (omega arith)) (λ k from to. later b c text k (each (suc k) (omega arith) (omega arith))))
+plain_following : (last b : ℕ) (text : List ℕ) → may_follow last b ≡ true → Follow (b ∷ text) 0 (length text) → is_plain last (b ∷ text) ≡ true
+plain_following last b [] first each = plain_then last b [] first refl
+plain_following last b (c ∷ text) first each =
+    plain_then last b (c ∷ text) first (plain_following b c text (each 0 (omega arith) (omega arith)) (λ k from to. later b c text k (each (suc k) (omega arith) (omega arith))))
   where
     later : (b c : ℕ) (text : List ℕ) (k : ℕ) → may_follow (get_or (b ∷ c ∷ text) (suc k) 0) (get_or (b ∷ c ∷ text) (suc k + 1) 0) ≡ true → may_follow (get_or (c ∷ text) k 0) (get_or (c ∷ text) (k + 1) 0) ≡ true
     later b c text k each =
@@ -61,7 +61,7 @@ plain_behind last b (c ∷ text) first each =
 -- a text is plain if each byte may follow the one before it
 pub plain_from : (last : ℕ) (text : List ℕ) → 0 < length text → may_follow last (get_or text 0 0) ≡ true → Follow text 0 (length text - 1) → is_plain last text ≡ true
 plain_from last [] some first each = absurd (omega arith)
-plain_from last (b ∷ text) some first each = plain_behind last b text first (λ k from to. each k from (omega arith))
+plain_from last (b ∷ text) some first each = plain_following last b text first (λ k from to. each k from (omega arith))
 
 -- ---- segments
 
@@ -74,7 +74,7 @@ begins_segment b segment begins = grind (arith, dots_none)
 
 dots_none_of : (segment : List ℕ) → is_plain 47 segment ≡ true → dot_count segment ≡ 0
 dots_none_of [] plain = dots_none [] refl
-dots_none_of (b ∷ segment) plain = begins_segment b segment (behind_slash 47 b (and_parts _ _ plain).0 refl)
+dots_none_of (b ∷ segment) plain = begins_segment b segment (following_slash 47 b (and_parts _ _ plain).0 refl)
 
 whole_bytes : (segment : List ℕ) → All (Passes is_kept) segment → All (IsNot 47) segment → All (IsNoSlash SpecialNotFile) segment
 whole_bytes [] kept none = All-nil (IsNoSlash SpecialNotFile)
@@ -116,7 +116,7 @@ runs last (b ∷ text) plain none =
     let parts = and_parts _ _ plain in
     let later = runs b text (plain_after last b text plain (All-head (IsNot 63) b text none)) (All-tail (IsNot 63) b text none) in
     ⊎_elim (λ slash. after_slash last b text slash later)
-    (λ other. in_segment last b text (follows_kept last b parts.0) (All-head (IsNot 63) b text none) other (behind_slash last b parts.0) later)
+    (λ other. in_segment last b text (follows_kept last b parts.0) (All-head (IsNot 63) b text none) other (following_slash last b parts.0) later)
     (cases_eq b 47)
   where
     after_slash : (last b : ℕ) (text : List ℕ) → b ≡ 47 → IsRun b text → IsRun last (b ∷ text)

@@ -1,12 +1,12 @@
 -- The targets of links in common forms: the parser's relative state on texts that it leaves unchanged.
-use Rattle.crawl_keys.proofs.Prelude.{common_steps, ◌≡◌, ℕ, zero, suc, ◌+◌, ◌<◌, ◌==◌, true, false, List, [], ◌∷◌, ◌++◌, length, get_or, drop, reverse, refl, ap, sym, subst, ◌∙◌, ⊎_elim, inl, All, Some, None, Ok, IfSome, arith, append_assoc, append-nil, length-append, take_all, add-one, Option, if◌then◌else◌, prefix_len, and_left, and_parts, cond-false, cond_both, eqb-true, lt-leb, or_cases, true≢false, nat_tests, flat_map-append, get_or-reverse, length-reverse, All-nil, All-cons, All-append, All-from_get_or, All-head, All-weaker, IsKept, SchemeType, SpecialNotFile, SPECIAL_QUERY, BeforeHost, AfterHost, head_only, Parts, IsValid, kind_of, offset, query_set, serialize, All_from_list_all, IsNot, Passes, StopsAt, filter_all, list_all_from_All, split_once_none, IsNoSlash, parse_path_more, without_last_valid, parse_after_slash, parse_own_segments, stays_unless_file, base_from_authority, option_unchanged, IsPage, resolve, text_of_parse, is_of_folder, root_text, IsInFolder, above, behind_ups, has_no_scheme, is_query, is_rooted, is_same, first_is_slash, is_kept, is_plain, may_follow, IsSpelled}
+use Rattle.crawl_keys.proofs.Prelude.{common_steps, ◌≡◌, ℕ, zero, suc, ◌+◌, ◌<◌, ◌==◌, true, false, List, [], ◌∷◌, ◌++◌, length, get_or, drop, reverse, refl, ap, sym, subst, ◌∙◌, ⊎_elim, inl, All, Some, None, Ok, IfSome, arith, append_assoc, append-nil, length-append, take_all, add-one, Option, if◌then◌else◌, prefix_len, and_left, and_parts, cond-false, cond_both, eqb-true, lt-leb, or_cases, true≢false, nat_tests, flat_map-append, get_or-reverse, length-reverse, All-nil, All-cons, All-append, All-from_get_or, All-head, All-weaker, IsKept, SchemeType, SpecialNotFile, SPECIAL_QUERY, BeforeHost, AfterHost, head_only, Parts, IsValid, kind_of, offset, query_set, serialize, All_from_list_all, IsNot, Passes, StopsAt, filter_all, list_all_from_All, split_once_none, IsNoSlash, parse_path_more, without_last_valid, parse_after_slash, parse_own_segments, stays_unless_file, base_from_authority, option_unchanged, IsPage, resolve, text_of_parse, is_of_folder, root_text, IsInFolder, above, after_ups, has_no_scheme, is_query, is_rooted, is_same, first_is_slash, is_kept, is_plain, may_follow, IsSpelled}
 use Rattle.url.specs.Input.{is_c0_control_or_space, split_once, strip_tabs_and_new_lines, trim_c0_control_and_space}
 use Rattle.url.specs.Parser.{Parsed, after_double_slash, after_slashes, and_then, before_tail, inherit, leading_slashes, parse_by_scheme, parse_parts, parse_relative, parse_url, parse_without_scheme, split_scheme, with_path, with_tail}
 use Rattle.url.specs.Path.{IsSegment, IsSegmentList, dot_count, join_segments, parse_path, push_segment, shorten_path, without_last_segment}
 use Rattle.url.specs.Scheme.{is_file, is_slash, scheme_len}
 use Rattle.url.proofs.ParsedCanonical.{before_special}
 use Rattle.crawl_keys.proofs.CanonicalLemmas.{text_of-web}
-use Rattle.crawl_keys.proofs.FolderLemmas.{IsWeb, NoScheme, begins-split, begins-strip, begins-trim, no_scheme, parse_body-web, parse_without_scheme-web, plain_text, shorten_web, web_url}
+use Rattle.crawl_keys.proofs.FolderLemmas.{IsWeb, NoScheme, begins-split, begins-strip, begins-trim, no_scheme, parse_body-web, parse_without_scheme-web, plain_link_text, shorten_web, web_url}
 use Rattle.crawl_keys.proofs.PlainLemmas.{all_kept, no_sign_byte, query_byte, query_text, run_segment, runs, splits, visible_byte}
 use Rattle.crawl_keys.proofs.SpelledLemmas.{IsRest, plain_rest, rest_text, spelled_at, spelled_rest, with_rest}
 
@@ -126,7 +126,7 @@ pub no_slashes : (kind : SchemeType) (body : List ℕ) → StopsAt (is_slash kin
 unfolding leading_slashes
 no_slashes kind body stops = grind arith
 
-pub split_ups : (n : ℕ) (text : List ℕ) → split_once 63 (behind_ups n text) ≡ (behind_ups n (split_once 63 text).0, (split_once 63 text).1)
+pub split_ups : (n : ℕ) (text : List ℕ) → split_once 63 (after_ups n text) ≡ (after_ups n (split_once 63 text).0, (split_once 63 text).1)
 unfolding split_once
 split_ups zero text = refl
 split_ups (suc n) text = ap (λ (r : Split). (46 ∷ 46 ∷ 47 ∷ r.0, r.1)) (split_ups n text)
@@ -139,12 +139,12 @@ push_up : (path : List ℕ) → push_segment SpecialNotFile path (46 ∷ 46 ∷ 
 unfolding push_segment dot_count shorten_path
 push_up path = append-nil (without_last_segment path)
 
-pub parse_ups : (path : List ℕ) (n : ℕ) (body : List ℕ) → parse_path SpecialNotFile path (behind_ups n body) ≡ parse_path SpecialNotFile (above n path) body
+pub parse_ups : (path : List ℕ) (n : ℕ) (body : List ℕ) → parse_path SpecialNotFile path (after_ups n body) ≡ parse_path SpecialNotFile (above n path) body
 parse_ups path zero body = refl
 parse_ups path (suc n) body =
     let P = IsNoSlash SpecialNotFile in
-    parse_path_more SpecialNotFile path (46 ∷ 46 ∷ []) 47 (behind_ups n body) (All-cons P 46 (46 ∷ []) refl (All-cons P 46 [] refl (All-nil P))) refl
-    ∙ ap (λ p. parse_path SpecialNotFile p (behind_ups n body)) (push_up path)
+    parse_path_more SpecialNotFile path (46 ∷ 46 ∷ []) 47 (after_ups n body) (All-cons P 46 (46 ∷ []) refl (All-cons P 46 [] refl (All-nil P))) refl
+    ∙ ap (λ p. parse_path SpecialNotFile p (after_ups n body)) (push_up path)
     ∙ parse_ups (without_last_segment path) n body
     ∙ ap (λ p. parse_path SpecialNotFile p body) (up_last n path)
 
@@ -205,7 +205,7 @@ record HasPath (text : List ℕ) : Type 0 where
 
 has_path : (text : List ℕ) → is_of_folder text ≡ true → HasPath text
 has_path text folder =
-    let k = plain_text text folder in
+    let k = plain_link_text text folder in
     let body = begins-split k.first 63 (NoScheme k.first) text k.no_query k.begins in
     let len = ap length body.is in
     record { none = no_scheme k.first (split_once 63 text).0 body; some = omega (arith, len) }
@@ -248,9 +248,9 @@ parse_url-folder base text n rest web k =
     let own = (split_once 63 rest).0 in
     let split = splits 47 rest k.plain in
     let path = path_of text k.no_scheme in
-    let reads = k.behind.reads in
-    let kept = All_from_list_all is_kept text (k.behind.kept (list_all_from_All is_kept rest (all_kept 47 rest k.plain))) in
-    let stops = stops_kept text kept (k.behind.rootless (rootless_plain rest k.plain)) in
+    let reads = k.following.reads in
+    let kept = All_from_list_all is_kept text (k.following.kept (list_all_from_All is_kept rest (all_kept 47 rest k.plain))) in
+    let stops = stops_kept text kept (k.following.rootless (rootless_plain rest k.plain)) in
     parse_url-path base text body (in_folder base n own) query web kept refl path.none path.some (subst (λ q. IfSome q (All (IsKept SPECIAL_QUERY))) (sym reads.query) split.kept)
     (folder_relative base n body own web stops reads.path split.plain split.none)
     ∙ ap (λ q. Ok (with_rest base (in_folder base n own) q)) reads.query
@@ -301,15 +301,15 @@ resolve_query base query valid page plain =
 pub resolve-query : (base : Parts) (text : List ℕ) → IsValid base → IsPage base → is_query text ≡ true → resolve (serialize base) text ≡ Ok (root_text base ++ (base.path ++ text))
 resolve-query base text valid page query = grind (arith, common_steps, true≢false, and_parts, eqb-true, resolve_query)
 
-spelled_alone : (base : Parts) (query : List ℕ) → IsValid base → IsPage base → is_plain 0 (63 ∷ query) ≡ true → IsSpelled (root_text base ++ (base.path ++ 63 ∷ query)) (offset base BeforeHost) (offset base AfterHost)
-spelled_alone base query valid page plain =
+spelled_only : (base : Parts) (query : List ℕ) → IsValid base → IsPage base → is_plain 0 (63 ∷ query) ≡ true → IsSpelled (root_text base ++ (base.path ++ 63 ∷ query)) (offset base BeforeHost) (offset base AfterHost)
+spelled_only base query valid page plain =
     spelled_rest base (base.path ++ 63 ∷ query) base.path (Some query) valid.head page.web (query_rest base query (web_url base valid page.web) (query_kept query plain))
 
 spelled_any : (base : Parts) (text : List ℕ) → IsValid base → IsPage base → is_query text ≡ true → IsSpelled (root_text base ++ (base.path ++ text)) (offset base BeforeHost) (offset base AfterHost)
 spelled_any base [] valid page query = absurd (true≢false (sym query))
 spelled_any base (b ∷ text) valid page query =
     let parts = and_parts _ _ query in
-    subst (λ x. is_plain 0 (x ∷ text) ≡ true → IsSpelled (root_text base ++ (base.path ++ x ∷ text)) (offset base BeforeHost) (offset base AfterHost)) (sym (eqb-true b 63 parts.0)) (spelled_alone base text valid page) parts.1
+    subst (λ x. is_plain 0 (x ∷ text) ≡ true → IsSpelled (root_text base ++ (base.path ++ x ∷ text)) (offset base BeforeHost) (offset base AfterHost)) (sym (eqb-true b 63 parts.0)) (spelled_only base text valid page) parts.1
 
 pub spelled_query : (base : Parts) (own text : List ℕ) (start end : ℕ) → IsValid base → IsPage base → is_query text ≡ true → own ≡ root_text base ++ (base.path ++ text) → start ≡ offset base BeforeHost → end ≡ offset base AfterHost → IsSpelled own start end
 spelled_query base own text start end valid page query is first last = grind (arith, common_steps, spelled_at, spelled_any)
@@ -340,9 +340,9 @@ pub resolve-same : (base : Parts) (text : List ℕ) → IsValid base → IsPage 
 resolve-same base text valid page same = grind (arith, web_url, same_empty, eqb-true, same_fragment)
 
 -- one more `../`
-pub behind_more : (n : ℕ) (text : List ℕ) → behind_ups n (46 ∷ 46 ∷ 47 ∷ text) ≡ behind_ups (n + 1) text
-behind_more n text = one_more n text ∙ ap (λ k. behind_ups k text) (sym (add-one n))
+pub after_more : (n : ℕ) (text : List ℕ) → after_ups n (46 ∷ 46 ∷ 47 ∷ text) ≡ after_ups (n + 1) text
+after_more n text = one_more n text ∙ ap (λ k. after_ups k text) (sym (add-one n))
   where
-    one_more : (n : ℕ) (text : List ℕ) → behind_ups n (46 ∷ 46 ∷ 47 ∷ text) ≡ behind_ups (suc n) text
+    one_more : (n : ℕ) (text : List ℕ) → after_ups n (46 ∷ 46 ∷ 47 ∷ text) ≡ after_ups (suc n) text
     one_more zero text = refl
     one_more (suc n) text = ap (λ l. 46 ∷ 46 ∷ 47 ∷ l) (one_more n text)

@@ -7,7 +7,7 @@ pub use Rattle.crawl_keys.specs.HostFilter.{allows, in_order, is_dot, is_within}
 pub use Rattle.crawl_keys.specs.HostKey.{host_key, host_of_parse}
 pub use Rattle.crawl_keys.specs.Lanes.{Follow, IsRun, first_set}
 pub use Rattle.crawl_keys.specs.Layout.{IsLaidOut}
-pub use Rattle.crawl_keys.specs.Links.{IsAhead, IsAtRoot, IsBehind, IsByHost, IsInFolder, IsWithin, above, behind_ups, folder_above, has_no_scheme, is_query, is_rooted, is_same}
+pub use Rattle.crawl_keys.specs.Links.{IsAhead, IsAtRoot, IsAfterDots, IsByHost, IsInFolder, IsWithin, above, after_ups, folder_above, has_no_scheme, is_query, is_rooted, is_same}
 pub use Rattle.crawl_keys.specs.Outcome.{Gives}
 pub use Rattle.crawl_keys.specs.Plain.{first_is_slash, host_len, is_host_byte, is_kept, is_lower, is_named, is_other, is_plain, is_plain_host, may_begin, may_follow}
 pub use Rattle.crawl_keys.specs.Spelled.{IsSpelled}

@@ -1,5 +1,5 @@
 -- The targets of links that begin with a slash and have dot segments: there is no folder above the root.
-use Rattle.crawl_keys.proofs.Prelude.{◌≡◌, ◌⊎◌, ℕ, zero, suc, ◌+◌, ◌<◌, true, List, [], ◌∷◌, ◌++◌, length, get_or, take, drop, refl, ap, sym, subst, ◌∙◌, All, Some, Ok, IfSome, arith, append_assoc, length-append, take_at, and_from, All-cons, IsKept, SpecialNotFile, SPECIAL_QUERY, BeforeHost, AfterHost, head_only, Parts, IsValid, kind_of, offset, serialize, parse_path, without_last_segment, is_slash, All_from_list_all, IsNot, Passes, StopsAt, list_all_from_All, rooted, IsBase, IsCanonical, IsPage, resolve, root_text, IsAtRoot, IsBehind, above, is_kept, is_plain, may_follow, IsSpelled}
+use Rattle.crawl_keys.proofs.Prelude.{◌≡◌, ◌⊎◌, ℕ, zero, suc, ◌+◌, ◌<◌, true, List, [], ◌∷◌, ◌++◌, length, get_or, take, drop, refl, ap, sym, subst, ◌∙◌, All, Some, Ok, IfSome, arith, append_assoc, length-append, take_at, and_from, All-cons, IsKept, SpecialNotFile, SPECIAL_QUERY, BeforeHost, AfterHost, head_only, Parts, IsValid, kind_of, offset, serialize, parse_path, without_last_segment, is_slash, All_from_list_all, IsNot, Passes, StopsAt, list_all_from_All, rooted, IsBase, IsCanonical, IsPage, resolve, root_text, IsAtRoot, IsAfterDots, above, is_kept, is_plain, may_follow, IsSpelled}
 use Rattle.url.specs.Input.{rsplit_once, split_once}
 use Rattle.url.specs.Parser.{parse_relative, parse_url, with_path}
 use Rattle.crawl_keys.proofs.BaseLemmas.{own_end, own_start, page_of, page_text}
@@ -23,17 +23,17 @@ root_relative : (base : Parts) (n : ℕ) (text body : List ℕ) → kind_of base
 unfolding parse_relative
 root_relative base n text body kind stops reads plain none = grind (arith, none_above, parse_run, relative_by, one_slash)
 
-parse_url-root : (base : Parts) (text : List ℕ) (n : ℕ) (rest : List ℕ) → IsWeb base → IsBehind text n rest → is_plain 47 rest ≡ true
+parse_url-root : (base : Parts) (text : List ℕ) (n : ℕ) (rest : List ℕ) → IsWeb base → IsAfterDots text n rest → is_plain 47 rest ≡ true
     → parse_url (Some base) (47 ∷ text) ≡ Ok (with_rest base (47 ∷ (split_once 63 rest).0) (split_once 63 rest).1)
 unfolding split_once
-parse_url-root base text n rest web behind plain =
+parse_url-root base text n rest web following plain =
     let body = (split_once 63 text).0 in
     let query = (split_once 63 text).1 in
     let own = (split_once 63 rest).0 in
     let split = splits 47 rest plain in
-    let reads = behind.reads in
-    let kept = All_from_list_all is_kept text (behind.kept (list_all_from_All is_kept rest (all_kept 47 rest plain))) in
-    let stops = stops_kept text kept (behind.rootless (rootless_plain rest plain)) in
+    let reads = following.reads in
+    let kept = All_from_list_all is_kept text (following.kept (list_all_from_All is_kept rest (all_kept 47 rest plain))) in
+    let stops = stops_kept text kept (following.rootless (rootless_plain rest plain)) in
     parse_url-path base (47 ∷ text) (47 ∷ body) (47 ∷ own) query web (All-cons (Passes is_kept) 47 text refl kept) refl (rooted_scheme body) (omega arith)
     (subst (λ q. IfSome q (All (IsKept SPECIAL_QUERY))) (sym reads.query) split.kept)
     (root_relative base n body own web.kind stops reads.path split.plain split.none)
@@ -47,7 +47,7 @@ resolve-root : (base : Parts) (text rest : List ℕ) → IsValid base → IsPage
 resolve-root base text rest valid page link =
     ap (λ t. resolve (serialize base) t) link.is
     ∙ resolve-rest base (47 ∷ link.path) (47 ∷ rest) _ _ valid page (root_rest rest link.plain)
-    (parse_url-root base link.path link.ups rest (web_url base valid page.web) link.behind link.plain)
+    (parse_url-root base link.path link.ups rest (web_url base valid page.web) link.following link.plain)
 
 -- ---- the page's text up to the slash of its root
 

@@ -182,18 +182,18 @@ host_head scheme host k domain some = record {
 }
 
 -- the text after the host
-record Behind (rest : List ℕ) : Type 0 where
+record After (rest : List ℕ) : Type 0 where
   slash : get_or (drop (host_len rest) rest) 0 0 ≡ 47
   plain : is_plain 0 (drop (host_len rest) rest) ≡ true
   named : is_named (take (host_len rest) rest) ≡ true
 
-behind : (rest : List ℕ) → is_plain_host rest ≡ true → Behind rest
-behind rest plain = grind arith
+following : (rest : List ℕ) → is_plain_host rest ≡ true → After rest
+following rest plain = grind arith
 
 -- a scheme, a plain host and the text after it are the text of a URL
 pub spelled_host : (scheme rest : List ℕ) → IsWebScheme scheme → is_plain_host rest ≡ true → IsSpelled (scheme ++ 58 ∷ 47 ∷ 47 ∷ rest) (length scheme + 3) (length scheme + 3 + host_len rest)
 spelled_host scheme rest k plain =
-    let b = behind rest plain in
+    let b = following rest plain in
     let n = host_len rest in
     let host = take n rest in
     let tail = drop n rest in

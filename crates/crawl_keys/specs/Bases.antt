@@ -8,7 +8,7 @@ use Rattle.crawl_keys.specs.Folders.{folder_text, root_text}
 -- the position at which the path begins in the text of a URL, and the position after the path's last slash
 pub record IsBase (text : List ℕ) (root folder : ℕ) : Type 0 where
   pub before_path : (url : Parts) → parse_url None text ≡ Ok url → length (root_text url) ≡ root
-  pub behind_folder : (url : Parts) → parse_url None text ≡ Ok url → length (folder_text url) + 1 ≡ folder
+  pub after_folder : (url : Parts) → parse_url None text ≡ Ok url → length (folder_text url) + 1 ≡ folder
   pub ordered : root < folder
   pub folder_within : folder ≤ length text
 

@@ -28,9 +28,9 @@ abbrev pub is_query : List ℕ → Bool
 is_query text = slice_index text 0 == question_mark && is_plain 0 text
 
 -- `../` n times, and then a text
-abbrev pub behind_ups : ℕ → List ℕ → List ℕ
-behind_ups zero text = text
-behind_ups (suc n) text = dot ∷ dot ∷ slash ∷ behind_ups n text
+abbrev pub after_ups : ℕ → List ℕ → List ℕ
+after_ups zero text = text
+after_ups (suc n) text = dot ∷ dot ∷ slash ∷ after_ups n text
 
 -- the path of the folder that is n folders above the one with this path
 abbrev pub above : ℕ → List ℕ → List ℕ
@@ -44,7 +44,7 @@ pub record ReadsAs (text : List ℕ) (ups : ℕ) (rest : List ℕ) : Type 0 wher
   pub query : (split_once question_mark text).1 ≡ (split_once question_mark rest).1
 
 -- the text is the rest after dot segments, and after segments that dot segments remove
-pub record IsBehind (text : List ℕ) (ups : ℕ) (rest : List ℕ) : Type 0 where
+pub record IsAfterDots (text : List ℕ) (ups : ℕ) (rest : List ℕ) : Type 0 where
   pub reads : ReadsAs text ups rest
   pub kept : list_all is_kept rest ≡ true → list_all is_kept text ≡ true
   pub rootless : first_is_slash rest ≡ false → first_is_slash text ≡ false
@@ -53,19 +53,19 @@ pub record IsBehind (text : List ℕ) (ups : ℕ) (rest : List ℕ) : Type 0 whe
 pub record IsAhead (text rest : List ℕ) : Type 0 where
   pub front : List ℕ
   pub is : text ≡ front ++ rest
-  pub lifts : (more : List ℕ) → IsBehind rest 0 more → IsBehind text 0 (front ++ more)
+  pub lifts : (more : List ℕ) → IsAfterDots rest 0 more → IsAfterDots text 0 (front ++ more)
 
 -- the text ends with dot segments and more, and reads as what is before these dot segments and what is after them
-pub record IsWithin (text dots behind : List ℕ) : Type 0 where
+pub record IsWithin (text dots following : List ℕ) : Type 0 where
   pub within : length dots ≤ length text
-  pub reads : IsBehind text 0 (take (length text - length dots) text ++ behind)
+  pub reads : IsAfterDots text 0 (take (length text - length dots) text ++ following)
 
 -- a slash, and a path that reads as plain segments after the root, above which there is no folder
 pub record IsAtRoot (text rest : List ℕ) : Type 0 where
   pub path : List ℕ
   pub ups : ℕ
   pub is : text ≡ slash ∷ path
-  pub behind : IsBehind path ups rest
+  pub following : IsAfterDots path ups rest
   pub plain : is_plain slash rest ≡ true
 
 -- no scheme begins with a dot
@@ -74,7 +74,7 @@ has_no_scheme text = slice_index text 0 == dot || is_of_folder text
 
 -- the text leads to the folder n above the page's, and from there along a path that begins with a segment, and a query
 pub record IsInFolder (text : List ℕ) (ups : ℕ) (rest : List ℕ) : Type 0 where
-  pub behind : IsBehind text ups rest
+  pub following : IsAfterDots text ups rest
   pub plain : is_plain slash rest ≡ true
   pub no_scheme : has_no_scheme text ≡ true
 

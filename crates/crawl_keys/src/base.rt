@@ -5,19 +5,19 @@ ghost use Rattle.crawl_keys.specs.Bases.{IsBase, IsFolderOf, IsSchemeOf};
 ghost use Rattle.crawl_keys.specs.CanonicalText.{IsCanonical};
 ghost use Rattle.crawl_keys.specs.CanonicalText as spec;
 ghost use Rattle.crawl_keys.specs.Folders.{is_of_folder};
-ghost use Rattle.crawl_keys.specs.Links.{IsAtRoot, IsBehind, IsByHost, IsInFolder, is_query, is_rooted, is_same};
+ghost use Rattle.crawl_keys.specs.Links.{IsAtRoot, IsAfterDots, IsByHost, IsInFolder, is_query, is_rooted, is_same};
 ghost use Rattle.crawl_keys.specs.Links as links;
 ghost use Rattle.crawl_keys.specs.Outcome.{Gives};
 ghost use Rattle.crawl_keys.specs.Spelled.{IsSpelled};
 ghost use Rattle.url.specs.Parser.{parse_url};
 
 use crate::cased::respelled;
-use crate::dots::{behind_dots, without_dots};
+use crate::dots::{after_dots, without_dots};
 use crate::folder::{folder_above, folder_len, has_no_scheme};
 use crate::opaque::is_opaque;
 use crate::parsed::Parsed;
 use crate::plain::{
-    HostPlace, PlainLink, begins_path, behind_ups, is_plain, len_before, plain_link,
+    HostPlace, PlainLink, after_ups, begins_path, is_plain, len_before, plain_link,
 };
 use crate::{CanonUrl, KeyError, before_fragment};
 use std::alloc::{AllocError, Global};
@@ -115,7 +115,7 @@ impl Base {
         ensures { Gives KeyError.NoMemory (λ url. url) result (spec.resolve self.now text.now) }
     {
         match self.known(alloc, text) {
-            Some(answer) => answer,
+            Some(outcome) => outcome,
             None => self.without_fragment(alloc, text),
         }
     }
@@ -134,7 +134,7 @@ impl Base {
     /// The result for a link that need not be parsed. `None` means unknown.
     #[inline(always)]
     fn known(&self, alloc: Global, text: &str) -> Option<Result<CanonUrl, KeyError>>
-        ensures { IfSome result (λ answer. Gives KeyError.NoMemory (λ url. url) answer (spec.resolve self.now text.now)) }
+        ensures { IfSome result (λ outcome. Gives KeyError.NoMemory (λ url. url) outcome (spec.resolve self.now text.now)) }
     {
         match plain_link(text) {
             PlainLink::Absolute(host) => Some(self.absolute(alloc, text, host)),
@@ -142,7 +142,7 @@ impl Base {
             PlainLink::Rooted => Some(self.rooted(alloc, text)),
             PlainLink::Query => Some(self.query(alloc, text)),
             PlainLink::Same => Some(self.same(text)),
-            PlainLink::Relative => self.beside(alloc, text),
+            PlainLink::Relative => self.of_folder(alloc, text),
             PlainLink::Other => None,
         }
     }
@@ -156,7 +156,7 @@ impl Base {
             return self.not_plain(alloc, text);
         }
         match self.known(alloc, front) {
-            Some(answer) => answer,
+            Some(outcome) => outcome,
             None => self.not_plain(alloc, front),
         }
     }
@@ -219,10 +219,10 @@ impl Base {
     }
 
     /// The result for a link into the page's folder, or into one above it. `None` means unknown.
-    fn beside(&self, alloc: Global, text: &str) -> Option<Result<CanonUrl, KeyError>>
-        ensures { IfSome result (λ answer. Gives KeyError.NoMemory (λ url. url) answer (spec.resolve self.now text.now)) }
+    fn of_folder(&self, alloc: Global, text: &str) -> Option<Result<CanonUrl, KeyError>>
+        ensures { IfSome result (λ outcome. Gives KeyError.NoMemory (λ url. url) outcome (spec.resolve self.now text.now)) }
     {
-        let (ups, rest) = behind_ups(text);
+        let (ups, rest) = after_ups(text);
         if is_plain(b'/', rest.as_bytes()) && has_no_scheme(text) {
             return Some(self.in_folder(alloc, text, ups, rest));
         }
@@ -231,12 +231,12 @@ impl Base {
 
     /// The result for a link with dot segments. `None` means unknown.
     fn dotted(&self, alloc: Global, text: &str) -> Option<Result<CanonUrl, KeyError>>
-        ensures { IfSome result (λ answer. Gives KeyError.NoMemory (λ url. url) answer (spec.resolve self.now text.now)) }
+        ensures { IfSome result (λ outcome. Gives KeyError.NoMemory (λ url. url) outcome (spec.resolve self.now text.now)) }
     {
         if !has_no_scheme(text) {
             return None;
         }
-        let (ups, rest) = behind_dots(text);
+        let (ups, rest) = after_dots(text);
         // A text that does not begin with a dot segment was tried before.
         if rest.len() < text.len() && is_plain(b'/', rest.as_bytes()) {
             return Some(self.in_folder(alloc, text, ups, rest));
@@ -246,7 +246,7 @@ impl Base {
 
     /// The result for a link with dot segments after another segment. `rest` is the text after the leading dot segments, which lead
     /// up `ups` folders. `None` means unknown.
-    #[tactic(auto, using(crate::proofs::DotLinks::behind_both))]
+    #[tactic(auto, using(crate::proofs::DotLinks::after_both))]
     fn dotted_within(
         &self,
         alloc: Global,
@@ -254,9 +254,9 @@ impl Base {
         ups: usize,
         rest: &str,
     ) -> Option<Result<CanonUrl, KeyError>>
-        requires behind { IsBehind text.now ups rest.now }
+        requires following { IsAfterDots text.now ups rest.now }
         requires relative { links.has_no_scheme text.now ≡ true }
-        ensures { IfSome result (λ answer. Gives KeyError.NoMemory (λ url. url) answer (spec.resolve self.now text.now)) }
+        ensures { IfSome result (λ outcome. Gives KeyError.NoMemory (λ url. url) outcome (spec.resolve self.now text.now)) }
     {
         let Ok(found) = without_dots(alloc, rest) else {
             return Some(Err(KeyError::NoMemory));
@@ -278,7 +278,7 @@ impl Base {
         let Some(path) = text.strip_prefix("/") else {
             return self.parsed(alloc, text);
         };
-        let (_, rest) = behind_dots(path);
+        let (_, rest) = after_dots(path);
         if is_plain(b'/', rest.as_bytes()) {
             return self.at_root(alloc, text, rest);
         }
@@ -310,8 +310,8 @@ impl Base {
         if begins_path(text.as_bytes()) {
             return self.from_root(alloc, text);
         }
-        if let Some(answer) = self.dotted(alloc, text) {
-            return answer;
+        if let Some(outcome) = self.dotted(alloc, text) {
+            return outcome;
         }
         // For the proof: the page's URL has a text that parses.
         let _ = self.url.as_str();
@@ -371,10 +371,10 @@ impl Base {
     ///
     /// ```rust
     /// let page = Base::canonical(alloc, "http://a.test/a/b")?;
-    /// assert!(rt; page.is_beside(&Base::canonical(alloc, "http://a.test/a/c?q")?));
-    /// assert!(rt; !page.is_beside(&Base::canonical(alloc, "http://a.test/b/b")?));
+    /// assert!(rt; page.shares_folder(&Base::canonical(alloc, "http://a.test/a/c?q")?));
+    /// assert!(rt; !page.shares_folder(&Base::canonical(alloc, "http://a.test/b/b")?));
     /// ```
-    pub fn is_beside(&self, other: &Base) -> bool
+    pub fn shares_folder(&self, other: &Base) -> bool
         ensures { result ≡ true → (text : List ℕ) → is_of_folder text ≡ true → spec.resolve self.now text ≡ spec.resolve other.now text }
     {
         let own = &self.url.ascii()[..self.folder];

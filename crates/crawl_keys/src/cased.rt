@@ -14,10 +14,10 @@ pub fn respelled(alloc: Global, text: &str) -> Result<Option<CanonUrl>, KeyError
     ensures url { IfOk result (λ found. IfSome found (λ url. LeadsAnywhere text.now url)) }
     ensures refused { IfErr result (λ e. e ≡ KeyError.NoMemory) }
 {
-    let Some((scheme, behind)) = text.split_once(':') else {
+    let Some((scheme, following)) = text.split_once(':') else {
         return Ok(None);
     };
-    let Some(rest) = behind.strip_prefix("//") else {
+    let Some(rest) = following.strip_prefix("//") else {
         return Ok(None);
     };
     let Some((front, port)) = front_of(scheme) else {

@@ -2,7 +2,7 @@
 ghost use Rattle.std.specs.Prelude.{◌≡◌, ◌<◌, ◌≤◌, ◌+◌, length, true, IfOk, IfSome, string_bytes};
 ghost use Rattle.std.specs.List.{prefix_len};
 ghost use Rattle.url.specs.Ascii.{question_mark, slash};
-ghost use Rattle.crawl_keys.specs.Links.{IsAhead, IsBehind, IsWithin};
+ghost use Rattle.crawl_keys.specs.Links.{IsAhead, IsAfterDots, IsWithin};
 ghost use Rattle.crawl_keys.specs.Plain.{is_other};
 ghost use Rattle.crawl_keys.specs.Plain as plain;
 
@@ -12,12 +12,12 @@ use std::alloc::{AllocError, Global};
 
 /// The number of folders that a text leads up by its leading dot segments, and the text after them and after the segments that they
 /// remove: 1 and `b` for `../a/.././b`.
-pub fn behind_dots(text: &str) -> (usize, &str)
-    ensures { IsBehind text.now result.0 result.1.now }
+pub fn after_dots(text: &str) -> (usize, &str)
+    ensures { IsAfterDots text.now result.0 result.1.now }
 {
     let mut ups: usize = 0;
     let mut rest = text;
-    while let Some((up, more)) = behind_one(rest) {
+    while let Some((up, more)) = after_one(rest) {
         rest = more;
         ups += up;
     }
@@ -26,8 +26,8 @@ pub fn behind_dots(text: &str) -> (usize, &str)
 
 /// The number of folders that the first dot segment leads up, and the text after it. `None` if the text does not begin with a dot
 /// segment, or with a segment and the dot segment that removes it.
-fn behind_one(text: &str) -> Option<(usize, &str)>
-    ensures behind { IfSome result (λ step. IsBehind text.now step.0 step.1.now) }
+fn after_one(text: &str) -> Option<(usize, &str)>
+    ensures following { IfSome result (λ step. IsAfterDots text.now step.0 step.1.now) }
     ensures shorter { IfSome result (λ step. step.0 + length step.1.now < length text.now) }
 {
     if let Some(rest) = text.strip_prefix("../") {
@@ -36,15 +36,15 @@ fn behind_one(text: &str) -> Option<(usize, &str)>
     if let Some(rest) = text.strip_prefix("./") {
         return Some((0, rest));
     }
-    match behind_pair(text) {
+    match after_pair(text) {
         Some(rest) => Some((0, rest)),
         None => None,
     }
 }
 
 /// The text after a segment and the `..` that removes it.
-fn behind_pair(text: &str) -> Option<&str>
-    ensures behind { IfSome result (λ rest. IsBehind text.now 0 rest.now) }
+fn after_pair(text: &str) -> Option<&str>
+    ensures following { IfSome result (λ rest. IsAfterDots text.now 0 rest.now) }
     ensures shorter { IfSome result (λ rest. length rest.now < length text.now) }
 {
     let Some((segment, more)) = text.split_once('/') else {
@@ -63,15 +63,15 @@ fn behind_pair(text: &str) -> Option<&str>
 /// The text without the first dot segments that follow another segment in it, and without the segments that they remove.
 /// `None` means unknown.
 pub fn without_dots(alloc: Global, text: &str) -> Result<Option<String>, AllocError>
-    ensures { IfOk result (λ found. IfSome found (λ path. IsBehind text.now 0 (string_bytes path))) }
+    ensures { IfOk result (λ found. IfSome found (λ path. IsAfterDots text.now 0 (string_bytes path))) }
 {
-    let Some((dots, behind)) = dots_within(text) else {
+    let Some((dots, following)) = dots_within(text) else {
         return Ok(None);
     };
     let Some(front) = text.strip_suffix(dots) else {
         return Ok(None);
     };
-    let path = joined(alloc, front, behind)?;
+    let path = joined(alloc, front, following)?;
     Ok(Some(path))
 }
 
@@ -81,21 +81,21 @@ fn dots_within(text: &str) -> Option<(&str, &str)>
     ensures { IfSome result (λ found. IsWithin text.now found.0.now found.1.now) }
 {
     let mut rest = text;
-    while let Some(more) = behind_segment(rest) {
+    while let Some(more) = after_segment(rest) {
         rest = more;
-        let (ups, behind) = behind_dots(rest);
+        let (ups, following) = after_dots(rest);
         if ups > 0 {
             return None;
         }
-        if behind.len() < rest.len() {
-            return Some((rest, behind));
+        if following.len() < rest.len() {
+            return Some((rest, following));
         }
     }
     None
 }
 
 /// The text after a segment and its slash.
-fn behind_segment(text: &str) -> Option<&str>
+fn after_segment(text: &str) -> Option<&str>
     ensures ahead { IfSome result (λ rest. IsAhead text.now rest.now) }
     ensures shorter { IfSome result (λ rest. length rest.now < length text.now) }
 {

@@ -97,11 +97,11 @@ fn first_bad(suffixes: &[&str]) -> Option<usize>
 fn is_good(suffix: &str) -> bool
     ensures { result ≡ spec.is_good suffix.now }
 {
-    !suffix.is_empty() && has_suffix_bytes_alone(suffix)
+    !suffix.is_empty() && has_only_suffix_bytes(suffix)
 }
 
 /// Whether each byte of the text may be in a suffix. This is true of an empty text.
-fn has_suffix_bytes_alone(suffix: &str) -> bool
+fn has_only_suffix_bytes(suffix: &str) -> bool
     ensures { result ≡ list_all spec.is_suffix_byte suffix.now }
 {
     suffix.as_bytes().iter().all(|byte| is_suffix_byte(*byte))

@@ -12,7 +12,7 @@ use crate::plain::len_before;
 /// Whether a link with this text leads to the same URL from all pages of a folder.
 ///
 /// This is so if the text begins with a slash, or if it has no colon (and so no scheme) and does not
-/// begin with a space, a control character, `?` or `#`. [`crate::Base::is_beside`] says whether two
+/// begin with a space, a control character, `?` or `#`. [`crate::Base::shares_folder`] says whether two
 /// pages are in the same folder.
 ///
 /// ```rust

@@ -59,9 +59,9 @@ pub fn plain_link(text: &str) -> PlainLink
 }
 
 /// How many times the text begins with `../`, and the text after that.
-#[tactic(auto, using(crate::proofs::PlainLinks::behind_more))]
-pub fn behind_ups(text: &str) -> (usize, &str)
-    ensures { text.now ≡ links.behind_ups result.0 result.1.now }
+#[tactic(auto, using(crate::proofs::PlainLinks::after_more))]
+pub fn after_ups(text: &str) -> (usize, &str)
+    ensures { text.now ≡ links.after_ups result.0 result.1.now }
 {
     if !matches!(text.as_bytes(), [b'.', ..]) {
         return (0, text);

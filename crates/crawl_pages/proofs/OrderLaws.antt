@@ -48,7 +48,7 @@ results_at-results_by_url url results =
 pub results_by_url-in_order : (results : List PageResult) → IsInOrder results (results_by_url results)
 results_by_url-in_order results = grind (arith, sorted-stable_sort, before_ranks, results_at-results_by_url)
 
-pub results_by_url-alone : (results ordered : List PageResult) → IsInOrder results ordered → ordered ≡ results_by_url results
-results_by_url-alone results ordered h =
+pub results_by_url-only : (results ordered : List PageResult) → IsInOrder results ordered → ordered ≡ results_by_url results
+results_by_url-only results ordered h =
     stable_sort-from_sort is_before before_ranks results ordered h.ascends
     (λ x. results_at-ties x ordered ∙ h.keeps x.url ∙ sym (results_at-ties x results))

@@ -8,5 +8,5 @@ ghost use Rattle.crawl_pages.specs.declared.page.PageResult.{PageResult};
 pub fn one_order()
     ensures all { (results : List PageResult) → IsPermutation results (results_by_url results) }
     ensures in_order { (results : List PageResult) → IsInOrder results (results_by_url results) }
-    ensures alone { (results ordered : List PageResult) → IsInOrder results ordered → ordered ≡ results_by_url results }
+    ensures only { (results ordered : List PageResult) → IsInOrder results ordered → ordered ≡ results_by_url results }
 {}

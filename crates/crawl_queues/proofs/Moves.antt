@@ -59,8 +59,8 @@ compares slots seat m owns table h _ at _ =
       (subst (λ l. Stays m.0.begins l) (sym known.1) mine.1, refl, refl),
     )
 
-pub tells : (seat : ℕ) (v : ListView) → v ≡ owning v.all → Splits Grows seat v v (beginning v.all)
-tells seat v is table h at = grind (arith, common_steps, set_again, no, at_snoc)
+pub learns : (seat : ℕ) (v : ListView) → v ≡ owning v.all → Splits Grows seat v v (beginning v.all)
+learns seat v is table h at = grind (arith, common_steps, set_again, no, at_snoc)
 
 pub repeats : (seat : ℕ) (v : ListView) → Splits Grows seat v v (beginning v.begins)
 repeats seat v table h at = grind (arith, common_steps, set_again, no, at_snoc)

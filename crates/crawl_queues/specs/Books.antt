@@ -14,11 +14,11 @@ pub record BookId : Type 0 where
 
 -- what contracts see of the books
 abbrev pub book_of : Book → BookId
-book_of b = record { id = b.id; counts = b.counts.items; log = log_of (lists_of b.told.items) b.lines.items }
+book_of b = record { id = b.id; counts = b.counts.items; log = log_of (lists_of b.learned.items) b.lines.items }
 
 -- the lines are about entries of the lists that are known of these queues
 abbrev pub Knows : List QueueId → ℕ → Book → Type 0
-Knows queues workers b = AreKnown queues workers b.told.items b.lines.items
+Knows queues workers b = AreKnown queues workers b.learned.items b.lines.items
 
 -- there is room for one more line in the log
 abbrev pub HasRoom : Book → Type 0

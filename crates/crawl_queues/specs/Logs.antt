@@ -13,7 +13,7 @@ abbrev pub items_of : KnownList → List Entry
 items_of t = t.items
 
 abbrev pub lists_of : List KnownList → List (List Entry)
-lists_of told = map items_of told
+lists_of learned = map items_of learned
 
 -- the entry at an index of a queue's list
 abbrev pub entry_at : List (List Entry) → ℕ → ℕ → Entry
@@ -45,10 +45,10 @@ AllStay before after = (q : ℕ) (es : List Entry) → slice_get before q ≡ So
 
 -- what is known is about the lists of these queues
 abbrev pub ListsAre : List QueueId → List KnownList → Type 0
-ListsAre queues told = (q : ℕ) (s : QueueId) (t : KnownList) → slice_get queues q ≡ Some s → slice_get told q ≡ Some t → t.list ≡ s.list
+ListsAre queues learned = (q : ℕ) (s : QueueId) (t : KnownList) → slice_get queues q ≡ Some s → slice_get learned q ≡ Some t → t.list ≡ s.list
 
 -- what is known of each queue's list, and lines that are about known entries
-pub record AreKnown (queues : List QueueId) (workers : ℕ) (told : List KnownList) (ls : List LogLine) : Type 0 where
-  pub len : length told ≡ workers
-  pub lists_are : ListsAre queues told
-  pub there : AreThere (lists_of told) ls
+pub record AreKnown (queues : List QueueId) (workers : ℕ) (learned : List KnownList) (ls : List LogLine) : Type 0 where
+  pub len : length learned ≡ workers
+  pub lists_are : ListsAre queues learned
+  pub there : AreThere (lists_of learned) ls

@@ -29,23 +29,23 @@ pub struct Book {
     pub id: u64,
     pub counts: Vec<u64>,
     pub lines: Vec<LogLine>,
-    pub told: Vec<Beginning>,
+    pub learned: Vec<Beginning>,
 }
 
 // Copies the beginning of each list.
 fn all_again(
     alloc: Global,
     queues: &Vec<Subqueue>,
-    told: &mut Vec<Beginning>,
+    learned: &mut Vec<Beginning>,
 ) -> Result<Vec<Beginning>, AllocError>
-    requires len { length told.old.items ≡ vec_len queues.now }
-    requires lists { ListsAre queues.now.items told.old.items }
-    ensures same { told.new.items ≡ told.old.items }
-    ensures again { IfOk result (λ all. all.items ≡ told.old.items) }
+    requires len { length learned.old.items ≡ vec_len queues.now }
+    requires lists { ListsAre queues.now.items learned.old.items }
+    ensures same { learned.new.items ≡ learned.old.items }
+    ensures again { IfOk result (λ all. all.items ≡ learned.old.items) }
 {
     let mut all = Vec::with_capacity(alloc, queues.len())?;
     for queue in 0..queues.len() {
-        let known = queues[queue].again(&mut told[queue]);
+        let known = queues[queue].again(&mut learned[queue]);
         all.push_reserved(known);
     }
     Ok(all)
@@ -53,18 +53,18 @@ fn all_again(
 
 impl Book {
     /// Makes the books of a sender that has sent nothing, and knows these beginnings of the lists.
-    pub fn new<K: Name>(alloc: Global, id: u64, told: Vec<Beginning>) -> Result<Book, AllocError>
-        requires len { vec_len told ≡ K.workers }
-        requires lists { ListsAre K.queues told.items }
+    pub fn new<K: Name>(alloc: Global, id: u64, learned: Vec<Beginning>) -> Result<Book, AllocError>
+        requires len { vec_len learned ≡ K.workers }
+        requires lists { ListsAre K.queues learned.items }
         ensures book { IfOk result (λ b. IsBook K.workers (book_of b) × (book_of b ≡ fresh_book id K.workers)) }
         ensures known { IfOk result (λ b. Knows K.queues K.workers b) }
     {
-        let counts = Vec::from_elem(alloc, 0, told.len())?;
+        let counts = Vec::from_elem(alloc, 0, learned.len())?;
         Ok(Book {
             id,
             counts,
             lines: Vec::new(alloc),
-            told,
+            learned,
         })
     }
 
@@ -82,10 +82,10 @@ impl Book {
         ensures book { IfOk result (λ b. IsBook K.workers (book_of b) × (book_of b ≡ fresh_book id K.workers)) }
         ensures knows { IfOk result (λ b. Knows K.queues K.workers b) }
     {
-        let Ok(told) = all_again(alloc, queues, &mut self.told) else {
+        let Ok(learned) = all_again(alloc, queues, &mut self.learned) else {
             return Err(AllocError);
         };
-        Book::new::<K>(alloc, id, told)
+        Book::new::<K>(alloc, id, learned)
     }
 
     /// Makes room for one more line.
@@ -105,8 +105,8 @@ impl Book {
         requires narrow { queue < 2 ^ 16 }
         requires small { number < 2 ^ 63 }
         requires room { HasRoom self.old }
-        ensures log { (e : Entry) → Has (lists_of self.old.told.items) queue index e → book_of self.new ≡ book_accepting (book_of self.old) queue number e }
-        ensures known { (queues : List QueueId) (workers : ℕ) (e : Entry) → Has (lists_of self.old.told.items) queue index e → Knows queues workers self.old → Knows queues workers self.new }
+        ensures log { (e : Entry) → Has (lists_of self.old.learned.items) queue index e → book_of self.new ≡ book_accepting (book_of self.old) queue number e }
+        ensures known { (queues : List QueueId) (workers : ℕ) (e : Entry) → Has (lists_of self.old.learned.items) queue index e → Knows queues workers self.old → Knows queues workers self.new }
     {
         self.counts[queue as usize] = number + 1;
         self.lines.push_reserved(LogLine {
@@ -120,8 +120,8 @@ impl Book {
     pub fn see(&mut self, queue: u32, index: u32)
         requires narrow { queue < 2 ^ 16 }
         requires room { HasRoom self.old }
-        ensures log { (e : Entry) → Has (lists_of self.old.told.items) queue index e → book_of self.new ≡ book_seeing (book_of self.old) e.url queue }
-        ensures known { (queues : List QueueId) (workers : ℕ) (e : Entry) → Has (lists_of self.old.told.items) queue index e → Knows queues workers self.old → Knows queues workers self.new }
+        ensures log { (e : Entry) → Has (lists_of self.old.learned.items) queue index e → book_of self.new ≡ book_seeing (book_of self.old) e.url queue }
+        ensures known { (queues : List QueueId) (workers : ℕ) (e : Entry) → Has (lists_of self.old.learned.items) queue index e → Knows queues workers self.old → Knows queues workers self.new }
     {
         self.lines.push_reserved(LogLine {
             index,

@@ -6,7 +6,7 @@ ghost use Rattle.crawl_queues.specs.Known.{owner_of, begins_with};
 mod rule;
 
 use crate::entry::Entry;
-use crate::growing::rule::{Adds, Again, Compare, Grow, HandIn, ListView, OnlyGrows, Tell};
+use crate::growing::rule::{Adds, Again, Compare, Grow, HandIn, Learn, ListView, OnlyGrows};
 use atomic_table::{Seat, Table};
 use std::alloc::{AllocError, Global};
 use std::marker::{Brand, Model};
@@ -93,13 +93,13 @@ impl Growing {
     }
 
     /// Returns a beginning of the list: all of it, as it is now.
-    #[tactic(auto, using(crate::proofs::Moves::tells))]
-    pub fn tell(&self, owner: &mut Owner) -> Beginning
+    #[tactic(auto, using(crate::proofs::Moves::learns))]
+    pub fn new_beginning(&self, owner: &mut Owner) -> Beginning
         requires { owner.old.list ≡ self.now }
         ensures same { owner.new ≡ owner.old }
-        ensures told { result ≡ begins_with self.now owner.old.items }
+        ensures learned { result ≡ begins_with self.now owner.old.items }
     {
-        let seat = self.table.shared.split_seat::<Tell>(&mut owner.seat);
+        let seat = self.table.shared.split_seat::<Learn>(&mut owner.seat);
         Beginning { seat }
     }
 
@@ -131,10 +131,10 @@ impl Growing {
         requires owner { owner.old.list ≡ self.now }
         requires known { known.old.list ≡ self.now }
         ensures same { owner.new ≡ owner.old }
-        ensures told { known.new ≡ begins_with self.now owner.old.items }
+        ensures learned { known.new ≡ begins_with self.now owner.old.items }
         ensures stays { Stays known.old.items known.new.items }
     {
-        let now = self.tell(owner);
+        let now = self.new_beginning(owner);
         let before = mem::replace(known, now);
         self.compare(owner, before);
     }

@@ -116,8 +116,8 @@ impl Subqueue {
     {
         let (list, mut owner) = Growing::new(alloc)?;
         let (line, mut pass) = Line::with_rule(alloc)?;
-        let known = list.tell(&mut owner);
-        let told = list.tell(&mut owner);
+        let known = list.new_beginning(&mut owner);
+        let learned = list.new_beginning(&mut owner);
         settle::<Brand>(&line, &mut pass, gate, workers, queue);
         let other = line.another::<Divide>(&mut pass);
         Ok((
@@ -129,7 +129,7 @@ impl Subqueue {
             },
             PushRight { pass, owner },
             PopRight { pass: other, known },
-            told,
+            learned,
         ))
     }
 
@@ -170,14 +170,14 @@ impl Subqueue {
     }
 
     /// Extends the beginning to the list of what was sent until now, which still has all its entries.
-    pub fn tell(&self, right: &mut PushRight, told: &mut Beginning)
+    pub fn extend_known(&self, right: &mut PushRight, learned: &mut Beginning)
         requires subqueue { right.old.subqueue ≡ self.now }
-        requires told { told.old.list ≡ self.now.list }
+        requires learned { learned.old.list ≡ self.now.list }
         ensures same { right.new ≡ right.old }
-        ensures told { told.new ≡ begins_with self.now.list right.old.view.sent }
-        ensures stays { Stays told.old.items told.new.items }
+        ensures learned { learned.new ≡ begins_with self.now.list right.old.view.sent }
+        ensures stays { Stays learned.old.items learned.new.items }
     {
-        self.list.catch_up(&mut right.owner, told);
+        self.list.catch_up(&mut right.owner, learned);
     }
 
     /// Takes the message at the front. If there is none, counts a pop that found nothing.

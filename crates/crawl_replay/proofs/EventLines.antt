@@ -86,32 +86,32 @@ bad_url_said workers number line is =
 -- ---- both directions together
 
 -- the bytes of the line are those of its event
-abbrev pub Stands : ℕ → ℕ → List ℕ → Result Event ScriptError → Type 0
-Stands workers number line (Ok event) = IsEventLine workers event line
-Stands workers number line (Err fault) = (fault ≡ BadLine number) ⊎ ((fault ≡ BadUrl number) × IsBadAdmission line)
+abbrev pub Holds : ℕ → ℕ → List ℕ → Result Event ScriptError → Type 0
+Holds workers number line (Ok event) = IsEventLine workers event line
+Holds workers number line (Err error) = (error ≡ BadLine number) ⊎ ((error ≡ BadUrl number) × IsBadAdmission line)
 
-stands_plain : (workers number : ℕ) (line : List ℕ) (found : Option Event) → ((event : Event) → found ≡ Some event → IsEventLine workers event line) → Stands workers number line (ok_or found (BadLine number))
-stands_plain workers number line found sound = grind arith
+plain_holds : (workers number : ℕ) (line : List ℕ) (found : Option Event) → ((event : Event) → found ≡ Some event → IsEventLine workers event line) → Holds workers number line (ok_or found (BadLine number))
+plain_holds workers number line found sound = grind arith
 
-stands_address : (workers number sender : ℕ) (address line : List ℕ) (read : Result (List ℕ) KeyError) → IsAdmit sender address line → canonical address ≡ read → Stands workers number line (admit_at sender (address_from workers number read))
-stands_address workers number sender address line read admits h2 = grind arith
+address_holds : (workers number sender : ℕ) (address line : List ℕ) (read : Result (List ℕ) KeyError) → IsAdmit sender address line → canonical address ≡ read → Holds workers number line (admit_at sender (address_from workers number read))
+address_holds workers number sender address line read admits h2 = grind arith
 
-stands_admit : (workers number : ℕ) (rest line : List ℕ) (parts : Option (ℕ × List ℕ)) → ((q : ℕ × List ℕ) → parts ≡ Some q → IsAdmit q.0 q.1 line) → Stands workers number line (admit_with workers number parts)
-stands_admit workers number rest line None sound = inl refl
-stands_admit workers number rest line (Some q) sound = stands_address workers number q.0 q.1 line (canonical q.1) (sound q refl) refl
+admit_holds : (workers number : ℕ) (rest line : List ℕ) (parts : Option (ℕ × List ℕ)) → ((q : ℕ × List ℕ) → parts ≡ Some q → IsAdmit q.0 q.1 line) → Holds workers number line (admit_with workers number parts)
+admit_holds workers number rest line None sound = inl refl
+admit_holds workers number rest line (Some q) sound = address_holds workers number q.0 q.1 line (canonical q.1) (sound q refl) refl
 
-stands_if : (workers number : ℕ) (line : List ℕ) (b : Bool) (first second : Result Event ScriptError) → (b ≡ true → Stands workers number line first) → Stands workers number line second → Stands workers number line (if b then first else second)
-stands_if workers number line b first second here later = grind arith
+holds_if : (workers number : ℕ) (line : List ℕ) (b : Bool) (first second : Result Event ScriptError) → (b ≡ true → Holds workers number line first) → Holds workers number line second → Holds workers number line (if b then first else second)
+holds_if workers number line b first second here later = grind arith
 
-stands_from : (workers number : ℕ) (line : List ℕ) (parts : Option (List ℕ × List ℕ)) → at_space line ≡ parts → Stands workers number line (event_from workers number line parts)
-stands_from workers number line None split = stands_plain workers number line (plain_event line) (plain_sound workers line)
-stands_from workers number line (Some p) split =
+holds_from : (workers number : ℕ) (line : List ℕ) (parts : Option (List ℕ × List ℕ)) → at_space line ≡ parts → Holds workers number line (event_from workers number line parts)
+holds_from workers number line None split = plain_holds workers number line (plain_event line) (plain_sound workers line)
+holds_from workers number line (Some p) split =
     let cut : line ≡ p.0 ++ 32 ∷ p.1 = joined-at_space line p split in
-    stands_if workers number line (bytes_eq p.0 (codes "admit")) _ _
+    holds_if workers number line (bytes_eq p.0 (codes "admit")) _ _
     (λ is. let same : p.0 ≡ codes "admit" = (bytes_eq-Decides p.0 (codes "admit")).0 is in
-    let behind : line ≡ codes "admit" ++ 32 ∷ p.1 = cut ∙ ap (λ w. w ++ 32 ∷ p.1) same in
-    stands_admit workers number p.1 line (admit_parts p.1) (λ q found. parts_by_space p.1 line (at_space p.1) q refl behind found))
-    (stands_plain workers number line (numbered_event p.0 p.1) (λ event found. numbered_sound workers p.0 p.1 line event cut found))
+    let following : line ≡ codes "admit" ++ 32 ∷ p.1 = cut ∙ ap (λ w. w ++ 32 ∷ p.1) same in
+    admit_holds workers number p.1 line (admit_parts p.1) (λ q found. parts_by_space p.1 line (at_space p.1) q refl following found))
+    (plain_holds workers number line (numbered_event p.0 p.1) (λ event found. numbered_sound workers p.0 p.1 line event cut found))
 
-pub stands : (workers number : ℕ) (line : List ℕ) → Stands workers number line (event_of workers number line)
-stands workers number line = stands_from workers number line (at_space line) refl
+pub holds : (workers number : ℕ) (line : List ℕ) → Holds workers number line (event_of workers number line)
+holds workers number line = holds_from workers number line (at_space line) refl

@@ -1,8 +1,8 @@
 pub mod Prelude
 pub mod Assigned
 pub mod EventLines
-pub mod HeaderWords
+pub mod HeaderFields
 pub mod Least
-pub mod LineWords
+pub mod LineFields
 pub mod NumberText
-pub mod ScriptWords
+pub mod ScriptFields

@@ -4,7 +4,7 @@ pub use Rattle.crawl_core.specs.declared.event.Event.TheVariants.{Admit, Back, C
 pub use Rattle.crawl_limits.specs.Limits.{AreLimits, line_limit, pending_limit, worker_limit}
 pub use Rattle.crawl_replay.specs.Assignment.{AreAddressed, IsAddressed, IsAssigned, IsPlaced}
 pub use Rattle.crawl_replay.specs.Numbers.{is_number, number_of}
-pub use Rattle.crawl_replay.specs.Script.{Said, address_from, admit_at, admit_parts, admit_with, event_from, event_of, events_in, events_of, header_in, header_of, is_within, least_fault, numbered_event, plain_event, said_by, said_from, script_in, some_event, unless_fault, with_events, with_header, with_text}
+pub use Rattle.crawl_replay.specs.Script.{Said, address_from, admit_at, admit_parts, admit_with, event_from, event_of, events_in, events_of, header_in, header_of, is_within, least_error, numbered_event, plain_event, said_by, said_from, script_in, some_event, unless_error, with_events, with_header, with_text}
 pub use Rattle.crawl_replay.specs.ScriptLines.{HeaderSays, IsAdmit, IsBadAdmission, IsEventLine, IsHeaderLine, IsLineText, IsNumber, IsNumbered, IsScript, LineSays, LinesSay}
 pub use Rattle.crawl_replay.specs.declared.script.error.ScriptError.{ScriptError}
 pub use Rattle.crawl_replay.specs.declared.script.header.Header.{Header}

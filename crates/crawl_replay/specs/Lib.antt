@@ -1,10 +1,10 @@
 pub mod Assignment
-pub mod LeastFault
+pub mod LeastError
 pub mod Limits
 pub mod Numbers
 pub mod Replay
 pub mod Replies
 pub mod Script
 pub mod ScriptContent
-pub mod ScriptFaults
+pub mod ScriptErrors
 pub mod ScriptLines

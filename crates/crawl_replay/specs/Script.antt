@@ -11,7 +11,7 @@ use Rattle.text_lines.specs.Lines.{text_of}
 use Rattle.text_lines.specs.declared.lines.LineError.{LineError}
 use Rattle.crawl_replay.specs.Numbers.{number_of}
 use Rattle.text_lines.specs.Fields.{at_space}
-use Rattle.crawl_replay.specs.ScriptFaults.{fault_of}
+use Rattle.crawl_replay.specs.ScriptErrors.{error_of}
 use Rattle.crawl_replay.specs.declared.script.header.Header.{Header}
 use Rattle.crawl_replay.specs.declared.script.error.ScriptError.{ScriptError}
 use Rattle.crawl_replay.specs.declared.script.error.ScriptError.TheVariants.{BadHeader, BadLine, BadUrl}
@@ -54,7 +54,7 @@ address_of workers number text = address_from workers number (canonical text)
 
 abbrev pub admit_at : ℕ → Result (List ℕ × ℕ) ScriptError → Result Event ScriptError
 admit_at sender (Ok address) = Ok (Admit sender address.0 address.1)
-admit_at sender (Err fault) = Err fault
+admit_at sender (Err error) = Err error
 
 -- `S URL`: the URL is all of the text after the first space
 abbrev pub admit_parts : List ℕ → Option (ℕ × List ℕ)
@@ -96,7 +96,7 @@ event_of workers number text = event_from workers number text (at_space text)
 
 abbrev pub with_text : {A : Type 0} → Result (List ℕ) LineError → (List ℕ → Result A ScriptError) → Result A ScriptError
 with_text (Ok text) says = says text
-with_text (Err fault) says = Err (fault_of fault)
+with_text (Err error) says = Err (error_of error)
 
 -- the header on the first line
 abbrev pub header_in : List ℕ → Result Header ScriptError
@@ -104,7 +104,7 @@ header_in line = with_text (text_of 1 line) (λ text. ok_or (header_of text) Bad
 
 abbrev pub some_event : Result Event ScriptError → Result (Option Event) ScriptError
 some_event (Ok event) = Ok (Some event)
-some_event (Err fault) = Err fault
+some_event (Err error) = Err error
 
 -- the event on another line; none if the line is empty
 abbrev pub said_by : ℕ → ℕ → List ℕ → Result (Option Event) ScriptError
@@ -116,31 +116,31 @@ said_from workers number [] = []
 said_from workers number (line ∷ more) = said_by workers number line ∷ said_from workers (number + 1) more
 
 -- the error of the first line that has one
-abbrev pub least_fault : List (Result (Option Event) ScriptError) → Option ScriptError
-least_fault [] = None
-least_fault (Ok said ∷ more) = least_fault more
-least_fault (Err fault ∷ more) = Some fault
+abbrev pub least_error : List (Result (Option Event) ScriptError) → Option ScriptError
+least_error [] = None
+least_error (Ok said ∷ more) = least_error more
+least_error (Err error ∷ more) = Some error
 
 -- the events on the lines, in order
 abbrev pub events_in : List (Result (Option Event) ScriptError) → List Event
 events_in [] = []
 events_in (Ok (Some event) ∷ more) = event ∷ events_in more
 events_in (Ok None ∷ more) = events_in more
-events_in (Err fault ∷ more) = events_in more
+events_in (Err error ∷ more) = events_in more
 
-abbrev pub unless_fault : {A : Type 0} → Option ScriptError → A → Result A ScriptError
-unless_fault None x = Ok x
-unless_fault (Some fault) x = Err fault
+abbrev pub unless_error : {A : Type 0} → Option ScriptError → A → Result A ScriptError
+unless_error None x = Ok x
+unless_error (Some error) x = Err error
 
 abbrev pub events_of : ℕ → ℕ → List (List ℕ) → Result (List Event) ScriptError
-events_of workers number more = unless_fault (least_fault (said_from workers number more)) (events_in (said_from workers number more))
+events_of workers number more = unless_error (least_error (said_from workers number more)) (events_in (said_from workers number more))
 
 abbrev pub with_events : Header → Result (List Event) ScriptError → Result Said ScriptError
-with_events header (Err fault) = Err fault
+with_events header (Err error) = Err error
 with_events header (Ok events) = Ok (record { workers = header.workers; max = header.max; events = events })
 
 abbrev pub with_header : Result Header ScriptError → List (List ℕ) → Result Said ScriptError
-with_header (Err fault) more = Err fault
+with_header (Err error) more = Err error
 with_header (Ok header) more = with_events header (events_of header.workers 2 more)
 
 abbrev pub script_in : List (List ℕ) → Result Said ScriptError

@@ -24,7 +24,7 @@ ghost use Rattle.crawl_replay.specs.declared.script.error.ScriptError.{ScriptErr
 pub fn hosts_keep_to_their_subqueues()
     ensures states { (workers max : ℕ) (history : List (Event × Reply)) (state : State) → Run (start workers max) history state → IsAssigned workers (map (λ x. x.0) history) → (queue k : ℕ) (found : Subqueue) (m : Message) → slice_get state.subqueues queue ≡ Some found → slice_get found.accepted k ≡ Some m → queue ≡ subqueue_of m.url workers }
     ensures once { (workers max : ℕ) (events : List Event) (replies : List Reply) → IsRun workers max events replies → IsAssigned workers events → TakesOnce (zip events replies) }
-    ensures alone { (workers max : ℕ) (events : List Event) (replies : List Reply) → IsRun workers max events replies → IsAssigned workers events → (place queue : ℕ) (url : List ℕ) → slice_get (zip events replies) place ≡ Some (Take queue, Taken url) → queue ≡ subqueue_of url workers }
+    ensures own_queue { (workers max : ℕ) (events : List Event) (replies : List Reply) → IsRun workers max events replies → IsAssigned workers events → (place queue : ℕ) (url : List ℕ) → slice_get (zip events replies) place ≡ Some (Take queue, Taken url) → queue ≡ subqueue_of url workers }
 {
     crawl_core::laws::admitted_before();
     crawl_core::laws::taken_once_in_order();
@@ -35,7 +35,7 @@ pub fn hosts_keep_to_their_subqueues()
 /// each event its word, spaces and digits, and the URL of an admission. They return an error if and only if the line is wrong in
 /// the way that the format defines for that error. And bytes are a script if and only if the first line has its header, and the
 /// others have its events, in order.
-#[tactic(auto, using(crate::proofs::HeaderWords::header_means, crate::proofs::LineWords::line_means))]
+#[tactic(auto, using(crate::proofs::HeaderFields::header_means, crate::proofs::LineFields::line_means))]
 pub fn lines_mean_what_the_format_says()
     ensures header { (line : List ℕ) (said : Result Header ScriptError) → (header_in line ≡ said) ↔ HeaderSays line said }
     ensures line { (workers number : ℕ) (line : List ℕ) (said : Result (Option Event) ScriptError) → (said_by workers number line ≡ said) ↔ LineSays workers number line said }

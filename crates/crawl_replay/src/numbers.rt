@@ -35,11 +35,11 @@ pub fn number64(text: &str) -> Option<u64>
 fn is_number(text: &str) -> bool
     ensures { result ≡ is_number text.now }
 {
-    !text.is_empty() && text.len() <= DIGIT_LIMIT && has_digits_alone(text)
+    !text.is_empty() && text.len() <= DIGIT_LIMIT && has_only_digits(text)
 }
 
 /// Whether each byte is an ASCII digit. This is true of an empty text.
-fn has_digits_alone(text: &str) -> bool
+fn has_only_digits(text: &str) -> bool
     ensures { result ≡ list_all is_ascii_digit text.now }
 {
     text.bytes().all(|b| b.is_ascii_digit())

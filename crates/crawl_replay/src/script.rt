@@ -6,7 +6,7 @@ ghost use Rattle.crawl_replay.specs.Script.{header_in, events_of, script_of};
 ghost use Rattle.crawl_replay.specs.ScriptContent.{content};
 ghost use Rattle.crawl_limits.specs.Limits.{AreLimits, worker_limit};
 ghost use Rattle.crawl_replay.specs.Assignment.{IsAssigned, AreAddressed};
-ghost use Rattle.crawl_replay.specs.LeastFault.{IsScriptFault};
+ghost use Rattle.crawl_replay.specs.LeastError.{IsScriptError};
 
 mod error;
 mod event;
@@ -47,7 +47,7 @@ pub fn read_script(alloc: Global, bytes: &[u8]) -> Result<Script, ScriptError>
     ensures assigned { IfOk result (λ script. IsAssigned script.workers script.events.items) }
     ensures addressed { IfOk result (λ script. AreAddressed script.workers script.events.items) }
     // The error is that of the first line that has one.
-    ensures least { IfErr result (λ fault. IsScriptFault (lines bytes.now) fault ⊎ (fault ≡ ScriptError.NoMemory)) }
+    ensures least { IfErr result (λ error. IsScriptError (lines bytes.now) error ⊎ (error ≡ ScriptError.NoMemory)) }
 {
     script_from(alloc, bytes)
 }

@@ -33,8 +33,8 @@ pointed_line_at {X} f out mid more xs k d below p q = grind (arith, common_steps
 -- ---- a whole report
 
 -- lines more, for one result more
-pub told_more : (f : PageResult → List Line) (out mid more : Out) (xs : List (Bor PageResult)) (k : ℕ) (x : Bor PageResult) → k < length xs → x ≡ get_or xs k x → Adds out mid (flat_map f (pointed (take k xs))) → Adds mid more (f x.now) → Adds out more (flat_map f (pointed (take (k + 1) xs)))
-told_more f out mid more xs k x below at p q = grind (arith, common_steps, adds_same, append-nil, flat_map-append, pointed_more, adds_both)
+pub listed_more : (f : PageResult → List Line) (out mid more : Out) (xs : List (Bor PageResult)) (k : ℕ) (x : Bor PageResult) → k < length xs → x ≡ get_or xs k x → Adds out mid (flat_map f (pointed (take k xs))) → Adds mid more (f x.now) → Adds out more (flat_map f (pointed (take (k + 1) xs)))
+listed_more f out mid more xs k x below at p q = grind (arith, common_steps, adds_same, append-nil, flat_map-append, pointed_more, adds_both)
 
 -- what was printed first, and then more
 pub then_more : {E : Type 0} (result : Result Out E) (out mid : Out) (xs ys zs : List Line) → Adds out mid xs → xs ++ ys ≡ zs → IfOk result (λ more. Adds mid more ys) → IfOk result (λ more. Adds out more zs)

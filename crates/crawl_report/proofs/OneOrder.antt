@@ -1,5 +1,5 @@
 -- Texts have one ascending order.
-use Rattle.crawl_report.proofs.Prelude.{◌≡◌, ℕ, suc, ◌+◌, ◌<◌, Bool, List, [], ◌∷◌, length, map, get_or, refl, sym, ap, subst, ◌∙◌, arith, if◌then◌else◌, inl, inr, cases_Bool, get_or-map, length-map, sum_by-IsPermutation, bytes_eq-Decides, slice_cmp, sum_by, IsPermutation, IsSortedByKey, is_lt, nat_cmp, bytes_eq, results_by_url-alone, filter-kept, filter-dropped, results_at, results_by_url, Missing, PageResult}
+use Rattle.crawl_report.proofs.Prelude.{◌≡◌, ℕ, suc, ◌+◌, ◌<◌, Bool, List, [], ◌∷◌, length, map, get_or, refl, sym, ap, subst, ◌∙◌, arith, if◌then◌else◌, inl, inr, cases_Bool, get_or-map, length-map, sum_by-IsPermutation, bytes_eq-Decides, slice_cmp, sum_by, IsPermutation, IsSortedByKey, is_lt, nat_cmp, bytes_eq, results_by_url-only, filter-kept, filter-dropped, results_at, results_by_url, Missing, PageResult}
 use Rattle.std.proofs.Math.ListN.{replicate}
 use Rattle.std.proofs.lemmas.List.Sums.{sum_by-cons}
 
@@ -49,7 +49,7 @@ same_copies : (url : List ℕ) (urls own : List (List ℕ)) → IsPermutation ur
 same_copies url urls own same = grind (arith, copies, replicate, sum_by-IsPermutation)
 
 in_order : (urls own : List (List ℕ)) → IsPermutation urls own → IsSortedByKey (λ url. url) (slice_cmp nat_cmp) own → map at own ≡ results_by_url (map at urls)
-in_order urls own same sorted = results_by_url-alone (map at urls) (map at own) (record { ascends = sorted_results own sorted; keeps = λ url. same_copies url urls own same })
+in_order urls own same sorted = results_by_url-only (map at urls) (map at own) (record { ascends = sorted_results own sorted; keeps = λ url. same_copies url urls own same })
 
 pub one_order : (urls own other : List (List ℕ)) → IsPermutation urls own → IsPermutation urls other → IsSortedByKey (λ url. url) (slice_cmp nat_cmp) own → IsSortedByKey (λ url. url) (slice_cmp nat_cmp) other → own ≡ other
 one_order urls own other same others sorted ascends =

@@ -1,6 +1,6 @@
 -- The names that most proofs cite, passed on from one place. Declares nothing.
 pub use Rattle.crawl_keys.specs.HostFilter.{allows}
-pub use Rattle.crawl_pages.proofs.OrderLaws.{before_ranks, results_at-results_by_url, results_by_url-alone}
+pub use Rattle.crawl_pages.proofs.OrderLaws.{before_ranks, results_at-results_by_url, results_by_url-only}
 pub use Rattle.crawl_pages.proofs.StableSort.{IsPermutation-stable_sort, filter-dropped, filter-kept, sorted-stable_sort}
 pub use Rattle.crawl_pages.specs.Pages.{is_found, is_missing, is_moved}
 pub use Rattle.crawl_pages.specs.ResultOrder.{HasEachUrlOnce, is_before, results_at, results_by_url}
@@ -9,7 +9,7 @@ pub use Rattle.crawl_pages.specs.declared.page.PageResult.{PageResult}
 pub use Rattle.crawl_report.specs.Lines.{Line, text_line}
 pub use Rattle.crawl_report.specs.Printing.{Adds, bytes_of, is_json, joined}
 pub use Rattle.crawl_report.specs.ReportText.{report, result_line, total_line}
-pub use Rattle.crawl_report.specs.Rows.{from_line, is_told, lines_at, lines_of_all, moved_lines, printed, result_lines, rows_behind, tells_of, total_of}
+pub use Rattle.crawl_report.specs.Rows.{from_line, is_listed, lines_at, lines_of_all, moved_lines, printed, result_lines, rows_after, lists_sources, total_of}
 pub use Rattle.crawl_report.specs.Unreached.{has_result, is_in, is_unreached, unseen_of}
 pub use Rattle.crawl_report.specs.declared.out.Out.{Out}
 pub use Rattle.crawl_sources.proofs.Counts.{any_push, length_pointed, pointed_more, set_put, url_among}

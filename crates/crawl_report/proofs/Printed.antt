@@ -1,5 +1,5 @@
 -- Chunks of lines, and what they are together.
-use Rattle.crawl_report.proofs.Prelude.{◌≡◌, ℕ, Bool, Global, List, [], ◌∷◌, ◌++◌, Vec, append-nil, ap, ◌∙◌, arith, suc, ◌+◌, ◌^◌, ◌<◌, ◌≤◌, false, cond, ◌==◌, ◌%◌, length, drop, get_or, Some, option_and_then, decimal, refl, length-append, append_assoc, drop_all, flat_map-append, flat_map, prefix_len, Line, Adds, bytes_of, is_json, joined, result_lines, rows_behind, printed, Out, common_steps, ne_eqb, le-leb, and_from}
+use Rattle.crawl_report.proofs.Prelude.{◌≡◌, ℕ, Bool, Global, List, [], ◌∷◌, ◌++◌, Vec, append-nil, ap, ◌∙◌, arith, suc, ◌+◌, ◌^◌, ◌<◌, ◌≤◌, false, cond, ◌==◌, ◌%◌, length, drop, get_or, Some, option_and_then, decimal, refl, length-append, append_assoc, drop_all, flat_map-append, flat_map, prefix_len, Line, Adds, bytes_of, is_json, joined, result_lines, rows_after, printed, Out, common_steps, ne_eqb, le-leb, and_from}
 use Rattle.crawl_report.specs.Json.{printed_line}
 use Rattle.crawl_report.specs.declared.report.Report.{Report}
 use lib.ListN.{get_or-append}
@@ -10,11 +10,11 @@ use Rattle.json.specs.Word.{head, after_whole, after_fraction, after_exponent, a
 use Rattle.json.specs.Print.{IsNumber}
 
 -- what is printed after nothing
-pub printed_alone : (json : Bool) (lines : List Line) (empty out : Out) → bytes_of empty ≡ [] → is_json empty ≡ json → Adds empty out lines → bytes_of out ≡ flat_map (printed_line json) lines
-printed_alone json lines empty out none kind adds = adds.added ∙ (λ i. none i ++ flat_map (printed_line (kind i)) lines)
+pub printed_in_one_chunk : (json : Bool) (lines : List Line) (empty out : Out) → bytes_of empty ≡ [] → is_json empty ≡ json → Adds empty out lines → bytes_of out ≡ flat_map (printed_line json) lines
+printed_in_one_chunk json lines empty out none kind adds = adds.added ∙ (λ i. none i ++ flat_map (printed_line (kind i)) lines)
 
 -- the results, and what follows them
-pub whole_report : (json : Bool) (report : Report) (front back : List ℕ) → front ≡ flat_map (printed_line json) (result_lines report.pages.now) → back ≡ flat_map (printed_line json) (rows_behind report) → front ++ back ≡ printed json report
+pub whole_report : (json : Bool) (report : Report) (front back : List ℕ) → front ≡ flat_map (printed_line json) (result_lines report.pages.now) → back ≡ flat_map (printed_line json) (rows_after report) → front ++ back ≡ printed json report
 whole_report json report front back of_results of_rest = grind (arith, flat_map-append, append_assoc)
 
 -- ---- chunks

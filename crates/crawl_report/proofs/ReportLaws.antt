@@ -1,5 +1,5 @@
 -- Which lists of results have one report.
-use Rattle.crawl_report.proofs.Prelude.{◌≡◌, ◌≢◌, ℕ, zero, suc, ◌<◌, ◌↔◌, Bool, false, cond, List, [], ◌∷◌, ◌++◌, length, get_or, map, AllPairs, Contains, refl, sym, ap, ◌∙◌, arith, inl, inr, suc-le-suc, zero-le, cases_Bool, nat_list_eq_equiv, flat_map, IsPermutation, bytes_eq, length_permutation, sum_by-IsPermutation, Contains-permutation, IsPermutation-sym, IsPermutation-map, get_or-map, length-map, bytes_eq-Decides, is_found, is_missing, is_moved, Missing, PageResult, is_before, results_by_url, results_at, HasEachUrlOnce, before_ranks, results_at-results_by_url, results_by_url-alone, filter-kept, filter-dropped, sorted-stable_sort, IsPermutation-stable_sort, result_line, total_line, report}
+use Rattle.crawl_report.proofs.Prelude.{◌≡◌, ◌≢◌, ℕ, zero, suc, ◌<◌, ◌↔◌, Bool, false, cond, List, [], ◌∷◌, ◌++◌, length, get_or, map, AllPairs, Contains, refl, sym, ap, ◌∙◌, arith, inl, inr, suc-le-suc, zero-le, cases_Bool, nat_list_eq_equiv, flat_map, IsPermutation, bytes_eq, length_permutation, sum_by-IsPermutation, Contains-permutation, IsPermutation-sym, IsPermutation-map, get_or-map, length-map, bytes_eq-Decides, is_found, is_missing, is_moved, Missing, PageResult, is_before, results_by_url, results_at, HasEachUrlOnce, before_ranks, results_at-results_by_url, results_by_url-only, filter-kept, filter-dropped, sorted-stable_sort, IsPermutation-stable_sort, result_line, total_line, report}
 use Rattle.std.proofs.lemmas.Map.Keys.{IsDistinct-IsPermutation}
 use Rattle.std.proofs.lemmas.Map.Made.{AllPairs-from_IsDistinct, IsDistinct-from_AllPairs}
 
@@ -17,7 +17,7 @@ total_line-results_by_url results =
 pub report_across : (results others : List PageResult) → ((url : List ℕ) → results_at url results ≡ results_at url others) → report results ≡ report others
 report_across results others same =
     let order : results_by_url results ≡ results_by_url others =
-    results_by_url-alone others (results_by_url results) (record {
+    results_by_url-only others (results_by_url results) (record {
       ascends = sorted-stable_sort is_before before_ranks results;
       keeps = λ url. results_at-results_by_url url results ∙ same url;
     }) in
@@ -53,20 +53,20 @@ nowhere url (r ∷ rs) apart =
 rest_once : (r : PageResult) (rs : List PageResult) → HasEachUrlOnce (r ∷ rs) → HasEachUrlOnce rs
 rest_once r rs once i j d before below = once (suc i) (suc j) d (suc-le-suc before) (suc-le-suc below)
 
-alone_at : (results : List PageResult) (one : PageResult) (k : ℕ) → k < length results → get_or results k one ≡ one → HasEachUrlOnce results → results_at one.url results ≡ one ∷ []
-alone_at [] one k below at once = absurd (omega arith)
-alone_at (r ∷ rs) one zero below at once =
+only_at : (results : List PageResult) (one : PageResult) (k : ℕ) → k < length results → get_or results k one ≡ one → HasEachUrlOnce results → results_at one.url results ≡ one ∷ []
+only_at [] one k below at once = absurd (omega arith)
+only_at (r ∷ rs) one zero below at once =
     let p : PageResult → Bool = λ r. bytes_eq r.url one.url in
     let url : r.url ≡ one.url = ap (λ x. x.url) at in
     let others = nowhere one.url rs (λ k d h e. once zero (suc k) d (suc-le-suc zero-le) (suc-le-suc h) (url ∙ sym e)) in
     filter-kept p r rs ((bytes_eq-Decides r.url one.url).1 url) ∙ ap (λ l. r ∷ l) others ∙ ap (λ x. x ∷ []) at
-alone_at (r ∷ rs) one (suc k) below at once =
+only_at (r ∷ rs) one (suc k) below at once =
     let p : PageResult → Bool = λ r. bytes_eq r.url one.url in
     let apart : r.url ≢ one.url = λ e. once zero (suc k) one (suc-le-suc zero-le) below (e ∙ sym (ap (λ x. x.url) at)) in
-    filter-dropped p r rs (differs r.url one.url apart) ∙ alone_at rs one k (omega arith) at (rest_once r rs once)
+    filter-dropped p r rs (differs r.url one.url apart) ∙ only_at rs one k (omega arith) at (rest_once r rs once)
 
 only_one : (results : List PageResult) (one : PageResult) → HasEachUrlOnce results → Contains results one → results_at one.url results ≡ one ∷ []
-only_one results one once h = alone_at results one h.0 h.1 h.2 once
+only_one results one once h = only_at results one h.0 h.1 h.2 once
 
 -- what two lists have with a URL, if they have the same results
 agree : (url : List ℕ) (results others : List PageResult) → HasEachUrlOnce results → HasEachUrlOnce others → ((one : PageResult) → Contains results one ↔ Contains others one) → (left right : List PageResult) → results_at url results ≡ left → results_at url others ≡ right → left ≡ right
@@ -77,9 +77,9 @@ agree url results others once other_once same [] (s ∷ right) at_left at_right 
     let clash = sym at_left ∙ here in cc
 agree url results others once other_once same (r ∷ left) right at_left at_right =
     let here = found url results r left at_left in
-    let alone = ap (λ u. results_at u results) (sym here.1) ∙ only_one results r once here.0 in
+    let only = ap (λ u. results_at u results) (sym here.1) ∙ only_one results r once here.0 in
     let there = ap (λ u. results_at u others) (sym here.1) ∙ only_one others r other_once ((same r).0 here.0) in
-    sym at_left ∙ alone ∙ sym there ∙ at_right
+    sym at_left ∙ only ∙ sym there ∙ at_right
 
 pub report_same : (results others : List PageResult) → HasEachUrlOnce results → HasEachUrlOnce others → ((one : PageResult) → Contains results one ↔ Contains others one) → report results ≡ report others
 report_same results others once other_once same =

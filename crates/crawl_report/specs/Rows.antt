@@ -38,13 +38,13 @@ queue_lines counts = map (λ (x : ℕ × ℕ). line.queue x.0 x.1) (enumerate_fr
 -- ---- sources
 
 -- the sources of the URL are listed: it is missing; or it moved, and moved pages are listed
-abbrev pub tells_of : Bool → Page → Bool
-tells_of with_moved (Found links skipped) = false
-tells_of with_moved (Moved to) = with_moved
-tells_of with_moved Missing = true
+abbrev pub lists_sources : Bool → Page → Bool
+lists_sources with_moved (Found links skipped) = false
+lists_sources with_moved (Moved to) = with_moved
+lists_sources with_moved Missing = true
 
-abbrev pub is_told : Bool → PageResult → Bool
-is_told with_moved r = tells_of with_moved r.page
+abbrev pub is_listed : Bool → PageResult → Bool
+is_listed with_moved r = lists_sources with_moved r.page
 
 -- how many results link to the URL, and the least of their URLs
 abbrev pub from_line : List PageResult → List ℕ → Line
@@ -58,7 +58,7 @@ abbrev pub lines_at : Bool → List PageResult → List ℕ → List Line
 lines_at all pages url = from_line pages url ∷ (if all then link_lines pages url else [])
 
 abbrev pub lines_of_all : Bool → Bool → List PageResult → List Line
-lines_of_all all with_moved pages = flat_map (λ r. lines_at all pages r.url) (filter (is_told with_moved) pages)
+lines_of_all all with_moved pages = flat_map (λ r. lines_at all pages r.url) (filter (is_listed with_moved) pages)
 
 abbrev pub source_lines : Sources → Bool → List PageResult → List Line
 source_lines sources.None with_moved pages = []
@@ -94,8 +94,8 @@ abbrev pub rows_of : Report → List Line
 rows_of report = rows_with report.sections report.pages.now report.queues.now (pointed report.unreached.now)
 
 -- the lines after those of the results
-abbrev pub rows_behind : Report → List Line
-rows_behind report = (total_of report.pages.now ∷ queue_lines report.queues.now) ++ section_lines report.sections report.pages.now (pointed report.unreached.now)
+abbrev pub rows_after : Report → List Line
+rows_after report = (total_of report.pages.now ∷ queue_lines report.queues.now) ++ section_lines report.sections report.pages.now (pointed report.unreached.now)
 
 -- the report's bytes, as JSON or as text
 abbrev pub printed : Bool → Report → List ℕ

@@ -16,8 +16,8 @@ abbrev pub queue_lines : List ℕ → List ℕ
 queue_lines counts = flat_map (λ (x : ℕ × ℕ). queue_line x.0 x.1) (enumerate_from 0 counts)
 
 -- the report of the results, then the queues and the sources, if they are listed
-abbrev pub told_text : Bool → Bool → List PageResult → List ℕ → List ℕ
-told_text with_queues with_sources pages counts = report pages ++ (if with_queues then queue_lines counts else []) ++ (if with_sources then sources pages else [])
+abbrev pub listed_text : Bool → Bool → List PageResult → List ℕ → List ℕ
+listed_text with_queues with_sources pages counts = report pages ++ (if with_queues then queue_lines counts else []) ++ (if with_sources then sources pages else [])
 
 -- the text of a report with only these sections
 abbrev pub text_with : Bool → Bool → List PageResult → List ℕ → List ℕ

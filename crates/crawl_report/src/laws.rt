@@ -5,13 +5,13 @@ ghost use Rattle.std.specs.Ordering.{nat_cmp};
 ghost use Rattle.crawl_pages.specs.ResultOrder.{results_at, HasEachUrlOnce};
 ghost use Rattle.crawl_pages.specs.declared.page.PageResult.{PageResult};
 ghost use Rattle.crawl_report.specs.ReportText.{report};
-ghost use Rattle.crawl_report.specs.Today.{told_text, text_with};
+ghost use Rattle.crawl_report.specs.Today.{listed_text, text_with};
 
 /// If results ascend, the text of a report with results, queues and sources is the report of the results, then a line for
 /// each queue, and then the sources of what is missing.
 #[tactic(auto, using(crate::proofs::Format::text_same))]
 pub fn text_is_the_format()
-    ensures { (with_queues with_sources : Bool) (pages : List PageResult) (counts : List ℕ) → IsSortedByKey (λ r. r.url) (slice_cmp nat_cmp) pages → text_with with_queues with_sources pages counts ≡ told_text with_queues with_sources pages counts }
+    ensures { (with_queues with_sources : Bool) (pages : List PageResult) (counts : List ℕ) → IsSortedByKey (λ r. r.url) (slice_cmp nat_cmp) pages → text_with with_queues with_sources pages counts ≡ listed_text with_queues with_sources pages counts }
 {}
 
 /// Given texts have one ascending order.

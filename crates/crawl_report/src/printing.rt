@@ -4,7 +4,7 @@ ghost use Rattle.crawl_report.specs.Json.{printed_line};
 ghost use Rattle.crawl_report.specs.Lines as line;
 ghost use Rattle.crawl_report.specs.Lines.{line_of};
 ghost use Rattle.crawl_report.specs.Printing.{Adds, joined};
-ghost use Rattle.crawl_report.specs.Rows.{printed, rows_behind, total_of, queue_lines};
+ghost use Rattle.crawl_report.specs.Rows.{printed, rows_after, total_of, queue_lines};
 
 use crate::out::Out;
 use crate::report::{Report, with_sections};
@@ -40,7 +40,7 @@ pub fn print_in_chunks<R: Threads + Sync>(
 /// Returns all lines except those of the results.
 #[tactic(auto, using(crate::proofs::Adding::adds_both, crate::proofs::Adding::adds_same))]
 fn rest_of(alloc: Global, report: &Report<'_>, json: bool) -> Result<Vec<u8>, NoMemory>
-    ensures { IfOk result (λ text. text.items ≡ flat_map (printed_line json) (rows_behind report.now)) }
+    ensures { IfOk result (λ text. text.items ≡ flat_map (printed_line json) (rows_after report.now)) }
 {
     let empty = Out::new(alloc, json);
     let total = empty.with(total_of(report.pages))?;

@@ -8,7 +8,7 @@ use crawl_pages::NoMemory;
 use std::alloc::Global;
 
 /// A line `queue Q COUNT` for each count in order, Q its number from 0, each ended by LF.
-#[tactic(auto, using(crate::proofs::Printed::printed_alone, crate::proofs::Format::queues_alone))]
+#[tactic(auto, using(crate::proofs::Printed::printed_in_one_chunk, crate::proofs::Format::queues_in_one_chunk))]
 pub fn queue_text(alloc: Global, counts: &[u64]) -> Result<Vec<u8>, NoMemory>
     ensures { IfOk result (λ text. text.items ≡ queue_lines counts.now) }
 {

@@ -9,10 +9,10 @@ use crate::row::Row;
 use crawl_pages::{NoMemory, Page, PageResult};
 
 /// Room is made for the lines of this number of results at a time.
-const AT_ONCE: usize = 32;
+const LINES_AT_A_TIME: usize = 32;
 
 /// About how many bytes a result's line has in addition to its URL.
-const BESIDE: usize = 16;
+const BYTES_WITHOUT_URL: usize = 16;
 
 /// Returns what is printed, followed by a line for each result.
 #[tactic(auto, using(crate::proofs::Adding::adds_none, crate::proofs::Adding::adds_same, crate::proofs::Adding::adds_both, std::proofs::lemmas::List::map_more, crate::proofs::Adding::lines_all, crate::proofs::Prelude::result_lines))]
@@ -26,23 +26,23 @@ pub(crate) fn with_results(mut out: Out, pages: &[PageResult]) -> Result<Out, No
     Ok(out)
 }
 
-/// Returns what is printed. If the index is that of the first of [`AT_ONCE`] results, it has room for their lines.
+/// Returns what is printed. If the index is that of the first of [`LINES_AT_A_TIME`] results, it has room for their lines.
 ///
 /// The lengths of their URLs are read one after another, so that all these reads wait for memory at the same time.
 fn with_room_at(out: Out, pages: &[PageResult], index: usize) -> Result<Out, NoMemory>
     requires { index < length pages.now }
     ensures { IfOk result (λ more. Adds out more []) }
 {
-    if !index.is_multiple_of(AT_ONCE) {
+    if !index.is_multiple_of(LINES_AT_A_TIME) {
         return Ok(out);
     }
     let next = &pages[index..];
-    out.with_room(room_for(&next[..next.len().min(AT_ONCE)]))
+    out.with_room(room_for(&next[..next.len().min(LINES_AT_A_TIME)]))
 }
 
 /// About how many bytes the lines of these results have.
 fn room_for(pages: &[PageResult]) -> usize {
-    let mut room = pages.len().saturating_mul(BESIDE);
+    let mut room = pages.len().saturating_mul(BYTES_WITHOUT_URL);
     for one in pages {
         room = room.saturating_add(one.url.as_str().len());
     }

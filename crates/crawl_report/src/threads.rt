@@ -45,7 +45,7 @@ fn lines_of_chunk<R: Threads + Sync>(
     ensures { IfOk result (λ chunks. joined chunks.items ≡ flat_map (printed_line json) (result_lines pages.now)) }
 {
     if halvings == 0 {
-        return lines_alone(alloc, json, pages);
+        return lines_in_one_chunk(alloc, json, pages);
     }
     let fewer = halvings - 1;
     let (front, back) = pages.split_at(pages.len() / 2);
@@ -63,8 +63,12 @@ fn lines_of_chunk<R: Threads + Sync>(
 }
 
 /// Returns a line for each result, in one chunk.
-#[tactic(auto, using(crate::proofs::Printed::joined_push, crate::proofs::Printed::printed_alone))]
-fn lines_alone(alloc: Global, json: bool, pages: &[PageResult]) -> Result<Vec<Vec<u8>>, NoMemory>
+#[tactic(auto, using(crate::proofs::Printed::joined_push, crate::proofs::Printed::printed_in_one_chunk))]
+fn lines_in_one_chunk(
+    alloc: Global,
+    json: bool,
+    pages: &[PageResult],
+) -> Result<Vec<Vec<u8>>, NoMemory>
     ensures { IfOk result (λ chunks. joined chunks.items ≡ flat_map (printed_line json) (result_lines pages.now)) }
 {
     let empty = Out::new(alloc, json);

@@ -1,5 +1,5 @@
 -- From the ends of a run's workers to what the run left: its workers, its results and its losses.
-use Rattle.crawl_run.proofs.Prelude.{◌≡◌, ◌⊎◌, ℕ, ◌+◌, ◌-◌, ◌^◌, ◌<◌, ◌≤◌, min, Bool, true, false, List, [], ◌∷◌, ◌++◌, map, refl, sym, ap, subst, ◌∙◌, arith, Option, Some, Result, Ok, Err, IfOk, cases_lt, All-nil, All-cons, All-head, All-tail, All, flat_map, here, NothingLost, first_fault, link_missing, not_fetched, seed_missing, IsCulprit, is_at_fault, no_memory, Culprit, CertError, entries_in, entries_of, Accounts, AccountId, AllFresh, WorkerId, SenderId, Entry, GateId, Page, PageResult, AllLogged, all_losses, both_losses, AllRan, Losses, WorkerEnd, losses_at, of_cert, IsLost, losses_with, IsWithoutLoss, Share, all_closed, all_found, take_all}
+use Rattle.crawl_run.proofs.Prelude.{◌≡◌, ◌⊎◌, ℕ, ◌+◌, ◌-◌, ◌^◌, ◌<◌, ◌≤◌, min, Bool, true, false, List, [], ◌∷◌, ◌++◌, map, refl, sym, ap, subst, ◌∙◌, arith, Option, Some, Result, Ok, Err, IfOk, cases_lt, All-nil, All-cons, All-head, All-tail, All, flat_map, here, NothingLost, first_error, link_missing, not_fetched, seed_missing, IsCulprit, shows_error, no_memory, Culprit, CertError, entries_in, entries_of, Accounts, AccountId, AllFresh, WorkerId, SenderId, Entry, GateId, Page, PageResult, AllLogged, all_losses, both_losses, AllRan, Losses, WorkerEnd, losses_at, of_cert, IsLost, losses_with, IsWithoutLoss, Share, all_closed, all_found, take_all}
 use Rattle.crawl_certificate.specs.declared.error.CertError.TheVariants as cert
 use Rattle.crawl_frontier.specs.declared.error.OfferError.TheVariants as refused
 use Rattle.crawl_workers.specs.Ran.{Ran}
@@ -68,28 +68,28 @@ nothing_lost {K} gate workers allowed meaning seeds starts ends sender before lo
 
 -- ---- errors that report something missing
 
-abbrev tells_missing : Option CertError → Bool
-tells_missing (Some cert.SeedMissing) = true
-tells_missing (Some cert.NotFetched) = true
-tells_missing (Some cert.LinkMissing) = true
-tells_missing _ = false
+abbrev reports_missing : Option CertError → Bool
+reports_missing (Some cert.SeedMissing) = true
+reports_missing (Some cert.NotFetched) = true
+reports_missing (Some cert.LinkMissing) = true
+reports_missing _ = false
 
 -- if nothing was lost, nothing is missing
 abbrev pub LacksNothing : (List ℕ → Bool) → List (List ℕ) → List Entry → List PageResult → Losses → Type 0
 LacksNothing allowed seeds entries results losses =
     all_losses losses ≡ 0 → (seed_missing allowed seeds entries ≡ false) × (not_fetched entries results ≡ false) × (link_missing allowed entries results ≡ false)
 
-missing_lost : (allowed : List ℕ → Bool) (seeds : List (List ℕ)) (entries : List Entry) (results : List PageResult) (cause : CertError) (losses : Losses) → tells_missing (Some cause) ≡ true → LacksNothing allowed seeds entries results losses
-    → first_fault allowed seeds entries results ≡ Some cause → 1 ≤ all_losses losses
+missing_lost : (allowed : List ℕ → Bool) (seeds : List (List ℕ)) (entries : List Entry) (results : List PageResult) (cause : CertError) (losses : Losses) → reports_missing (Some cause) ≡ true → LacksNothing allowed seeds entries results losses
+    → first_error allowed seeds entries results ≡ Some cause → 1 ≤ all_losses losses
 missing_lost allowed seeds entries results cause losses tells lacks first = grind (arith, cases_lt)
 
-cause_lost : (allowed : List ℕ → Bool) (seeds : List (List ℕ)) (entries : List Entry) (results : List PageResult) (cause : CertError) (losses : Losses) → LacksNothing allowed seeds entries results losses → first_fault allowed seeds entries results ≡ Some cause → IsLost (of_cert cause) losses
+cause_lost : (allowed : List ℕ → Bool) (seeds : List (List ℕ)) (entries : List Entry) (results : List PageResult) (cause : CertError) (losses : Losses) → LacksNothing allowed seeds entries results losses → first_error allowed seeds entries results ≡ Some cause → IsLost (of_cert cause) losses
 cause_lost allowed seeds entries results cause losses lacks first = grind (arith, missing_lost)
 
 -- so if nothing was lost, the culprit of the run reports nothing missing
 pub culprit_lost : (allowed : List ℕ → Bool) (seeds : List (List ℕ)) (entries : List Entry) (results : List PageResult) (culprit : Culprit) (losses : Losses) → LacksNothing allowed seeds entries results losses
-    → IsCulprit (first_fault allowed seeds entries results) (is_at_fault allowed seeds entries results) culprit ⊎ (culprit ≡ no_memory) → IsLost (of_cert culprit.cause) (losses_at culprit.url losses)
-culprit_lost allowed seeds entries results culprit losses lacks told = grind (arith, cause_lost)
+    → IsCulprit (first_error allowed seeds entries results) (shows_error allowed seeds entries results) culprit ⊎ (culprit ≡ no_memory) → IsLost (of_cert culprit.cause) (losses_at culprit.url losses)
+culprit_lost allowed seeds entries results culprit losses lacks reported = grind (arith, cause_lost)
 
 -- ---- a seed whose offer failed
 

@@ -1,5 +1,5 @@
 -- The losses of the seeds and the workers of a run together, and the run in which they occurred.
-use Rattle.crawl_run.proofs.Prelude.{◌≡◌, ◌⊎◌, ℕ, ◌+◌, ◌-◌, ◌^◌, min, Bool, List, [], ◌∷◌, ◌++◌, map, append-nil, append_assoc, refl, sym, ap, subst, ◌∙◌, arith, Result, Ok, Err, IfOk, map-append, take_all, sum_by_push, sum_by, entries_in, entries_of, first_fault, IsCulprit, is_at_fault, no_memory, Culprit, Accounts, AllFresh, SeederId, SenderId, WorkerId, Entry, OfferError, Offer, GateId, Page, PageResult, both_losses, no_losses, with_refusal, AllRan, Losses, WorkerEnd, losses_at, of_cert, AllOffered, AreOffered, CountsLosses, IsRun, IsSeedOffer, losses_with, lost_seed, together, all_closed, all_found, all_lost}
+use Rattle.crawl_run.proofs.Prelude.{◌≡◌, ◌⊎◌, ℕ, ◌+◌, ◌-◌, ◌^◌, min, Bool, List, [], ◌∷◌, ◌++◌, map, append-nil, append_assoc, refl, sym, ap, subst, ◌∙◌, arith, Result, Ok, Err, IfOk, map-append, take_all, sum_by_push, sum_by, entries_in, entries_of, first_error, IsCulprit, shows_error, no_memory, Culprit, Accounts, AllFresh, SeederId, SenderId, WorkerId, Entry, OfferError, Offer, GateId, Page, PageResult, both_losses, no_losses, with_refusal, AllRan, Losses, WorkerEnd, losses_at, of_cert, AllOffered, AreOffered, CountsLosses, IsRun, IsSeedOffer, losses_with, lost_seed, together, all_closed, all_found, all_lost}
 use Rattle.crawl_certificate.specs.declared.error.CertError.TheVariants as cert
 use Rattle.crawl_queues.specs.Books.{fresh_book}
 use Rattle.crawl_frontier.specs.declared.error.OfferError.TheVariants as refused
@@ -18,11 +18,11 @@ with_ends {K} all (e ∷ es) = ap (λ (l : Losses). losses_with l es) (together_
 -- ---- one more seed
 
 -- the result of the offer of a seed
-abbrev pub Answer : Type 0
-Answer = Result Offer OfferError
+abbrev pub Outcome : Type 0
+Outcome = Result Offer OfferError
 
 -- the losses so far, together with what is lost by an offer of a seed with this result
-abbrev with_offer : Answer → Losses → Losses
+abbrev with_offer : Outcome → Losses → Losses
 with_offer (Ok offer) losses = losses
 with_offer (Err refusal) losses = with_refusal refusal losses
 
@@ -33,22 +33,22 @@ unchanged kind all = grind arith
 none_lost : (all : List Losses) → together all ≡ both_losses (together all) no_losses
 none_lost all = grind (arith, unchanged)
 
-both_offer : (all : List Losses) (offer : Answer) → with_offer offer (together all) ≡ both_losses (together all) (lost_seed offer)
+both_offer : (all : List Losses) (offer : Outcome) → with_offer offer (together all) ≡ both_losses (together all) (lost_seed offer)
 both_offer all offer = grind (arith, none_lost, unchanged)
 
-offer_more : (offers : List Answer) (offer : Answer) → with_offer offer (together (map lost_seed offers)) ≡ together (map lost_seed (offers ++ offer ∷ []))
+offer_more : (offers : List Outcome) (offer : Outcome) → with_offer offer (together (map lost_seed offers)) ≡ together (map lost_seed (offers ++ offer ∷ []))
 offer_more offers offer = both_offer (map lost_seed offers) offer ∙ together_more (map lost_seed offers) (lost_seed offer) ∙ ap together (sym (map-append lost_seed offers (offer ∷ [])))
 
 -- the seeder has offered one more seed
-all_more : (workers : ℕ) (allowed : List ℕ → Bool) (s m s' : SeederId) (seeds : List (List ℕ)) (answers : List Answer) (seed : List ℕ) (answer : Answer)
-    → AllOffered workers allowed s m seeds answers → IsSeedOffer workers allowed m s' seed answer → AllOffered workers allowed s s' (seeds ++ seed ∷ []) (answers ++ answer ∷ [])
-all_more workers allowed s m s' [] [] seed answer each own = (s', subst (λ (x : SeederId). IsSeedOffer workers allowed x s' seed answer) each own, refl)
-all_more workers allowed s m s' (u ∷ seeds) (a ∷ answers) seed answer each own = (each.0, each.1, all_more workers allowed each.0 m s' seeds answers seed answer each.2 own)
-all_more workers allowed s m s' seeds answers seed answer each own = absurd each
+all_more : (workers : ℕ) (allowed : List ℕ → Bool) (s m s' : SeederId) (seeds : List (List ℕ)) (outcomes : List Outcome) (seed : List ℕ) (outcome : Outcome)
+    → AllOffered workers allowed s m seeds outcomes → IsSeedOffer workers allowed m s' seed outcome → AllOffered workers allowed s s' (seeds ++ seed ∷ []) (outcomes ++ outcome ∷ [])
+all_more workers allowed s m s' [] [] seed outcome each own = (s', subst (λ (x : SeederId). IsSeedOffer workers allowed x s' seed outcome) each own, refl)
+all_more workers allowed s m s' (u ∷ seeds) (a ∷ outcomes) seed outcome each own = (each.0, each.1, all_more workers allowed each.0 m s' seeds outcomes seed outcome each.2 own)
+all_more workers allowed s m s' seeds outcomes seed outcome each own = absurd each
 
-pub offered_more : (workers : ℕ) (allowed : List ℕ → Bool) (s m s' : SeederId) (seeds : List (List ℕ)) (seed : List ℕ) (answer : Answer) (before after : Losses) → IsSeedOffer workers allowed m s' seed answer → after ≡ with_offer answer before
+pub offered_more : (workers : ℕ) (allowed : List ℕ → Bool) (s m s' : SeederId) (seeds : List (List ℕ)) (seed : List ℕ) (outcome : Outcome) (before after : Losses) → IsSeedOffer workers allowed m s' seed outcome → after ≡ with_offer outcome before
     → AreOffered workers allowed s m seeds before → AreOffered workers allowed s s' (seeds ++ seed ∷ []) after
-offered_more workers allowed s m s' seeds seed answer before after own counted so_far = grind (arith, all_more, offer_more)
+offered_more workers allowed s m s' seeds seed outcome before after own counted so_far = grind (arith, all_more, offer_more)
 
 -- ---- the ends of a run, whatever identifies its frontier
 
@@ -89,7 +89,7 @@ run_of {K} (Ok ran) gate workers allowed meaning seeds starts ends seeder seeded
   seeder = seeder;
   seeded = seeded;
   sender = sender;
-  answers = offered.answers;
+  outcomes = offered.outcomes;
   queues = ran.account.queues;
   fresh = fresh;
   ran = same_ran workers allowed meaning starts ends did;
@@ -100,8 +100,8 @@ run_of {K} (Ok ran) gate workers allowed meaning seeds starts ends seeder seeded
   accepted = ap entries_in (take_all ran.account.workers ran.account.queues (omega (arith, own.len, many)));
   found = results ∙ same_found ends;
   lost =
-      lost ∙ ap (λ (l : Losses). losses_with l ends) offered.lost ∙ with_ends (map lost_seed offered.answers) ends
-      ∙ ap (λ (ls : List Losses). together (map lost_seed offered.answers ++ ls)) (same_lost ends);
+      lost ∙ ap (λ (l : Losses). losses_with l ends) offered.lost ∙ with_ends (map lost_seed offered.outcomes) ends
+      ∙ ap (λ (ls : List Losses). together (map lost_seed offered.outcomes ++ ls)) (same_lost ends);
 }
 run_of {K} (Err e) gate workers allowed meaning seeds starts ends seeder seeded sender before fresh did first offered last many own results lost = tt
 
@@ -109,5 +109,5 @@ run_of {K} (Err e) gate workers allowed meaning seeds starts ends seeder seeded 
 
 -- a culprit of such a run is reported with its losses, and with none if memory ran out
 pub culprit_counted : (workers : ℕ) (allowed : List ℕ → Bool) (meaning : List ℕ → Page) (seeds : List (List ℕ)) (entries : List Entry) (results : List PageResult) (losses : Losses) (culprit : Culprit) → IsRun workers allowed meaning seeds entries results losses
-    → IsCulprit (first_fault allowed seeds entries results) (is_at_fault allowed seeds entries results) culprit ⊎ (culprit ≡ no_memory) → CountsLosses workers allowed meaning seeds (of_cert culprit.cause) culprit.url (losses_at culprit.url losses)
-culprit_counted workers allowed meaning seeds entries results losses culprit run told = grind arith
+    → IsCulprit (first_error allowed seeds entries results) (shows_error allowed seeds entries results) culprit ⊎ (culprit ≡ no_memory) → CountsLosses workers allowed meaning seeds (of_cert culprit.cause) culprit.url (losses_at culprit.url losses)
+culprit_counted workers allowed meaning seeds entries results losses culprit run reported = grind arith

@@ -2,8 +2,8 @@
 use Rattle.crawl_run.proofs.Prelude.{◌≡◌, inl, inr, ℕ, zero, suc, ◌+◌, ◌-◌, ◌^◌, ◌<◌, ◌≤◌, min, Bool, List, [], ◌∷◌, ◌++◌, length, map, slice_get, length-append, zero-add, refl, sym, ap, subst, ◌∙◌, arith, Result, sum_by-append, sum_by-cons, slice_get_cases, slice_get_within, sum_by, entries_in, At, HasWorkers, AllFresh, WorkerId, Entry, OfferError, Offer, GateId, Page, PageResult, AllRan, Losses, WorkerEnd, IsRun, lost_seed, all_closed, all_found, all_lost}
 use Rattle.crawl_frontier.specs.declared.error.OfferError.TheVariants as refused
 
-abbrev Answer : Type 0
-Answer = Result Offer OfferError
+abbrev Outcome : Type 0
+Outcome = Result Offer OfferError
 
 abbrev End : Type 0
 End = WorkerEnd (Unit {0})
@@ -75,18 +75,18 @@ same_lists (q ∷ qs) (e ∷ es) len each =
 
 -- ---- seeds lose only links
 
-no_url : (answer : Answer) → ((lost_seed answer).failed ≡ 0) × ((lost_seed answer).unkept ≡ 0)
-no_url answer = grind arith
+no_url : (outcome : Outcome) → ((lost_seed outcome).failed ≡ 0) × ((lost_seed outcome).unkept ≡ 0)
+no_url outcome = grind arith
 
-no_urls : (kind : Losses → ℕ) (answers : List Answer) → ((answer : Answer) → kind (lost_seed answer) ≡ 0) → sum_by kind (map lost_seed answers) ≡ 0
+no_urls : (kind : Losses → ℕ) (outcomes : List Outcome) → ((outcome : Outcome) → kind (lost_seed outcome) ≡ 0) → sum_by kind (map lost_seed outcomes) ≡ 0
 no_urls kind [] none = refl
-no_urls kind (a ∷ answers) none = sum_by-cons kind (lost_seed a) (map lost_seed answers) ∙ ap (λ n. n + sum_by kind (map lost_seed answers)) (none a) ∙ (λ i. 0 + no_urls kind answers none i)
+no_urls kind (a ∷ outcomes) none = sum_by-cons kind (lost_seed a) (map lost_seed outcomes) ∙ ap (λ n. n + sum_by kind (map lost_seed outcomes)) (none a) ∙ (λ i. 0 + no_urls kind outcomes none i)
 
 -- ---- a run
 
-of_ends : (kind : Losses → ℕ) (told : ℕ) (answers : List Answer) (ends : List End) → ((answer : Answer) → kind (lost_seed answer) ≡ 0) → told ≡ min (sum_by kind (map lost_seed answers ++ all_lost ends)) (2 ^ 64 - 1) → told < 2 ^ 64 - 1
-    → told ≡ sum_by kind (all_lost ends)
-of_ends kind told answers ends none is few = grind (arith, sum_by-append, no_urls)
+of_ends : (kind : Losses → ℕ) (reported : ℕ) (outcomes : List Outcome) (ends : List End) → ((outcome : Outcome) → kind (lost_seed outcome) ≡ 0) → reported ≡ min (sum_by kind (map lost_seed outcomes ++ all_lost ends)) (2 ^ 64 - 1) → reported < 2 ^ 64 - 1
+    → reported ≡ sum_by kind (all_lost ends)
+of_ends kind reported outcomes ends none is few = grind (arith, sum_by-append, no_urls)
 
 pub lost_urls : (workers : ℕ) (allowed : List ℕ → Bool) (meaning : List ℕ → Page) (seeds : List (List ℕ)) (entries : List Entry) (results : List PageResult) (losses : Losses) → IsRun workers allowed meaning seeds entries results losses → losses.failed + losses.unkept < 2 ^ 64 - 1
     → length entries ≡ length results + losses.failed + losses.unkept
@@ -97,8 +97,8 @@ lost_urls workers allowed meaning seeds entries results losses run few =
     let all : workers ≤ length (all_closed run.ends) = enough workers (all_closed run.ends) run.account.worked own in
     let same : run.queues ≡ all_taken run.ends =
     same_lists run.queues run.ends (omega (arith, run.account.len, many, all)) (λ k w at. ap (slice_get run.queues) (sym (own k w at)) ∙ taken k w at) in
-    let failed : losses.failed ≡ sum_by failed_of (all_lost run.ends) = of_ends failed_of losses.failed run.answers run.ends (λ a. (no_url a).0) (ap failed_of run.lost) (omega (arith, few)) in
-    let unkept : losses.unkept ≡ sum_by unkept_of (all_lost run.ends) = of_ends unkept_of losses.unkept run.answers run.ends (λ a. (no_url a).1) (ap unkept_of run.lost) (omega (arith, few)) in
+    let failed : losses.failed ≡ sum_by failed_of (all_lost run.ends) = of_ends failed_of losses.failed run.outcomes run.ends (λ a. (no_url a).0) (ap failed_of run.lost) (omega (arith, few)) in
+    let unkept : losses.unkept ≡ sum_by unkept_of (all_lost run.ends) = of_ends unkept_of losses.unkept run.outcomes run.ends (λ a. (no_url a).1) (ap unkept_of run.lost) (omega (arith, few)) in
     let few_ends : sum_by failed_of (all_lost run.ends) + sum_by unkept_of (all_lost run.ends) < 2 ^ 64 - 1 =
     subst (λ n. n + sum_by unkept_of (all_lost run.ends) < 2 ^ 64 - 1) failed (subst (λ n. losses.failed + n < 2 ^ 64 - 1) unkept few) in
     ap length run.accepted ∙ ap (λ qs. length (entries_in qs)) same

@@ -2,9 +2,9 @@
 pub use Rattle.crawl_certificate.proofs.Lists.{first_or_later, here, no_element, same_text, there}
 pub use Rattle.crawl_certificate.proofs.Places.{among_at, place_among}
 pub use Rattle.crawl_certificate.specs.AccountEntries.{entries_in, entries_of}
-pub use Rattle.crawl_certificate.specs.CertFaults.{first_fault, link_missing, not_fetched, seed_missing}
+pub use Rattle.crawl_certificate.specs.CertErrors.{first_error, link_missing, not_fetched, seed_missing}
 pub use Rattle.crawl_certificate.specs.Certificate.{AllowedAreIn, ArePages, CountsOf, NothingLost, entry_urls, result_urls}
-pub use Rattle.crawl_certificate.specs.Culprits.{IsCulprit, is_at_fault, no_memory}
+pub use Rattle.crawl_certificate.specs.Culprits.{IsCulprit, shows_error, no_memory}
 pub use Rattle.crawl_certificate.specs.declared.culprit.Culprit.{Culprit}
 pub use Rattle.crawl_certificate.specs.declared.error.CertError.{CertError}
 pub use Rattle.crawl_frontier.proofs.Gets.{get_before, get_last}

@@ -1,5 +1,5 @@
 -- From the ends of a run to its results, and from an account to its counts.
-use Rattle.crawl_run.proofs.Prelude.{◌≡◌, ◌⊎◌, inl, inr, ℕ, ◌+◌, Bool, List, [], ◌∷◌, ◌++◌, length, slice_get, Option, Some, sym, ap, ◌∙◌, arith, length-append, cases_lt, All-nil, All-append, ArePages, CountsOf, first_fault, CertError, IsCulprit, is_at_fault, no_memory, Culprit, get_last, AccountId, WorkerId, Entry, Page, PageResult, AllRan, WorkerEnd, AreCounts, ComesIn, CountedBelow, IsJudged, IsJudgedAt, IsOfRun, of_cert, all_found, get_before}
+use Rattle.crawl_run.proofs.Prelude.{◌≡◌, ◌⊎◌, inl, inr, ℕ, ◌+◌, Bool, List, [], ◌∷◌, ◌++◌, length, slice_get, Option, Some, sym, ap, ◌∙◌, arith, length-append, cases_lt, All-nil, All-append, ArePages, CountsOf, first_error, CertError, IsCulprit, shows_error, no_memory, Culprit, get_last, AccountId, WorkerId, Entry, Page, PageResult, AllRan, WorkerEnd, AreCounts, ComesIn, CountedBelow, IsJudged, IsJudgedAt, IsOfRun, of_cert, all_found, get_before}
 use Rattle.crawl_run.specs.declared.error.CrawlError.{CrawlError}
 use Rattle.crawl_certificate.specs.declared.error.CertError.TheVariants as cert
 use Rattle.crawl_run.specs.declared.settings.Mode.{Mode}
@@ -39,8 +39,8 @@ urls_counted account urls counts counted own = record {
 
 -- a culprit of these entries and results, as the crawl reports it
 pub culprit_judged : (meaning : List ℕ → Page) (allowed : List ℕ → Bool) (seeds : List (List ℕ)) (entries : List Entry) (results : List PageResult) (culprit : Culprit) → ArePages meaning results
-    → IsCulprit (first_fault allowed seeds entries results) (is_at_fault allowed seeds entries results) culprit ⊎ (culprit ≡ no_memory) → IsJudgedAt meaning allowed seeds (of_cert culprit.cause) culprit.url
-culprit_judged meaning allowed seeds entries results culprit means told = grind arith
+    → IsCulprit (first_error allowed seeds entries results) (shows_error allowed seeds entries results) culprit ⊎ (culprit ≡ no_memory) → IsJudgedAt meaning allowed seeds (of_cert culprit.cause) culprit.url
+culprit_judged meaning allowed seeds entries results culprit means reported = grind arith
 
 -- the cause of a culprit is an error of a run
 pub cause_of_run : (cause : CertError) → IsOfRun (of_cert cause)
@@ -51,5 +51,5 @@ pub cause_comes : (mode : Mode) (cause : CertError) → ComesIn mode (of_cert ca
 cause_comes mode cause = grind arith
 
 -- likewise for the error without its URL
-pub judged_alone : (meaning : List ℕ → Page) (allowed : List ℕ → Bool) (seeds : List (List ℕ)) (error : CrawlError) (culprit : Option (List ℕ)) → IsJudgedAt meaning allowed seeds error culprit → IsJudged meaning allowed seeds error
-judged_alone meaning allowed seeds error culprit at = grind arith
+pub judged_on_one_worker : (meaning : List ℕ → Page) (allowed : List ℕ → Bool) (seeds : List (List ℕ)) (error : CrawlError) (culprit : Option (List ℕ)) → IsJudgedAt meaning allowed seeds error culprit → IsJudged meaning allowed seeds error
+judged_on_one_worker meaning allowed seeds error culprit at = grind arith

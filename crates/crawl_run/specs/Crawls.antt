@@ -1,10 +1,10 @@
 -- The results of a crawl in addition to its pages.
 use Rattle.std.specs.Prelude.{◌≡◌, ℕ, ◌<◌, ◌==◌, Bool, true, false, List, length, count_by, slice_get, Option, Some, None}
 use Rattle.crawl_certificate.specs.Certificate.{ArePages}
-use Rattle.crawl_certificate.specs.CertFaults.{first_fault}
+use Rattle.crawl_certificate.specs.CertErrors.{first_error}
 use Rattle.crawl_certificate.specs.declared.error.CertError.{CertError}
 use Rattle.crawl_certificate.specs.declared.error.CertError.TheVariants as cert
-use Rattle.crawl_certificate.specs.Culprits.{is_at_fault}
+use Rattle.crawl_certificate.specs.Culprits.{shows_error}
 use Rattle.crawl_certificate.specs.Least.{IsLeast}
 use Rattle.crawl_frontier.specs.Accounts.{AccountId}
 use Rattle.crawl_frontier.specs.Limits.{IsWorkers}
@@ -81,19 +81,19 @@ ComesIn mode (wrong.Run error) = mode ≡ Threads
 ComesIn mode _ = Unit {0}
 
 -- the certificate's error is the first error of some accepted entries and some results, and each result has the page of the source
-pub record IsFaultOf (meaning : List ℕ → Page) (allowed : List ℕ → Bool) (seeds : List (List ℕ)) (error : CertError) : Type 0 where
+pub record IsErrorOf (meaning : List ℕ → Page) (allowed : List ℕ → Bool) (seeds : List (List ℕ)) (error : CertError) : Type 0 where
   pub entries : List Entry
   pub results : List PageResult
   pub means : ArePages meaning results
-  pub first : first_fault allowed seeds entries results ≡ Some error
+  pub first : first_error allowed seeds entries results ≡ Some error
 
 -- likewise, and no lesser URL, byte by byte, has this error
-pub record IsFaultAt (meaning : List ℕ → Page) (allowed : List ℕ → Bool) (seeds : List (List ℕ)) (error : CertError) (url : List ℕ) : Type 0 where
+pub record IsErrorAt (meaning : List ℕ → Page) (allowed : List ℕ → Bool) (seeds : List (List ℕ)) (error : CertError) (url : List ℕ) : Type 0 where
   pub entries : List Entry
   pub results : List PageResult
   pub means : ArePages meaning results
-  pub first : first_fault allowed seeds entries results ≡ Some error
-  pub least : IsLeast (is_at_fault allowed seeds entries results error) (Some url)
+  pub first : first_error allowed seeds entries results ≡ Some error
+  pub least : IsLeast (shows_error allowed seeds entries results error) (Some url)
 
 -- an error that is reported without a URL: any that is not the certificate's
 abbrev pub NamesNone : CrawlError → Type 0
@@ -103,7 +103,7 @@ NamesNone error = Unit {0}
 -- an error of the certificate is reported with such a URL, and any other error without one
 abbrev pub IsJudgedAt : (List ℕ → Page) → (List ℕ → Bool) → List (List ℕ) → CrawlError → Option (List ℕ) → Type 0
 IsJudgedAt meaning allowed seeds error None = NamesNone error
-IsJudgedAt meaning allowed seeds (wrong.Cert error) (Some url) = IsFaultAt meaning allowed seeds error url
+IsJudgedAt meaning allowed seeds (wrong.Cert error) (Some url) = IsErrorAt meaning allowed seeds error url
 IsJudgedAt meaning allowed seeds error (Some url) = ⊥
 
 -- the failure for an error without a URL
@@ -117,7 +117,7 @@ losses_at (Some url) losses = losses
 
 -- if the error is one of the certificate, it is such an error
 abbrev pub IsJudged : (List ℕ → Page) → (List ℕ → Bool) → List (List ℕ) → CrawlError → Type 0
-IsJudged meaning allowed seeds (wrong.Cert error) = IsFaultOf meaning allowed seeds error
+IsJudged meaning allowed seeds (wrong.Cert error) = IsErrorOf meaning allowed seeds error
 IsJudged meaning allowed seeds _ = Unit {0}
 
 -- why a crawl with these numbers fails: the first number that is out of range, and another error only if both are in range

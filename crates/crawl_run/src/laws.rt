@@ -2,7 +2,7 @@
 //! are the theorem.
 ghost use Rattle.std.specs.Prelude.{◌≡◌, ℕ, ◌+◌, ◌-◌, ◌^◌, List, length, map, ◌<◌, Bool, false, All, Contains, flat_map};
 ghost use Rattle.crawl_certificate.specs.AccountEntries.{entries_in};
-ghost use Rattle.crawl_certificate.specs.CertFaults.{seed_missing, not_fetched, link_missing};
+ghost use Rattle.crawl_certificate.specs.CertErrors.{seed_missing, not_fetched, link_missing};
 ghost use Rattle.crawl_certificate.specs.Certificate.{NothingLost};
 ghost use Rattle.crawl_frontier.specs.Accounts.{Accounts};
 ghost use Rattle.crawl_frontier.specs.Parts.{SenderId};
@@ -24,7 +24,7 @@ pub fn nothing_lost_lacks_nothing()
         → 0 < workers → Accounts workers (map (λ share. share.now) shares) senders queues → All (IsWithoutLoss workers allowed meaning) shares
         → (sender : SenderId) → Contains senders sender → AllLogged workers allowed sender.book.log seeds
         → NothingLost allowed seeds (entries_in queues) (flat_map (λ share. share.found) shares) }
-    ensures faults { (workers : ℕ) (allowed : List ℕ → Bool) (meaning : List ℕ → Page) (seeds : List (List ℕ)) (shares : List Share) (senders : List SenderId) (queues : List (List Entry))
+    ensures errors { (workers : ℕ) (allowed : List ℕ → Bool) (meaning : List ℕ → Page) (seeds : List (List ℕ)) (shares : List Share) (senders : List SenderId) (queues : List (List Entry))
         → 0 < workers → Accounts workers (map (λ share. share.now) shares) senders queues → All (IsWithoutLoss workers allowed meaning) shares
         → (sender : SenderId) → Contains senders sender → AllLogged workers allowed sender.book.log seeds
         → (seed_missing allowed seeds (entries_in queues) ≡ false) × (not_fetched (entries_in queues) (flat_map (λ share. share.found) shares) ≡ false)

@@ -133,7 +133,7 @@ fn run<K: Name + Send + Sync, F: SessionFetch + Sync, R: Threads + Wait + Sync>(
 ) -> Result<Vec<WorkerEnd<K>>, RunError>
     ensures ran { IfOk result (λ ends. AllRan K.workers (allows K.filter) (F.meaning fetcher.now) workers.items ends.items) }
     ensures mode { IfErr result (λ error. (error ≡ unrun.NoMemory) ⊎ (settings.now.mode ≡ modes.Threads)) }
-    ensures alone { settings.now.workers ≤ 1 → IfErr result (λ error. error ≡ unrun.NoMemory) }
+    ensures one_worker { settings.now.workers ≤ 1 → IfErr result (λ error. error ≡ unrun.NoMemory) }
 {
     if settings.has_threads() {
         run_threads(rt, alloc, frontier, workers, fetcher)

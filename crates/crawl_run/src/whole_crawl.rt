@@ -50,7 +50,7 @@ use std::thread::Threads;
 ///     Some(found.result.pages().len())
 /// }
 /// ```
-#[tactic(auto, using(crate::proofs::RunResults::judged_alone))]
+#[tactic(auto, using(crate::proofs::RunResults::judged_on_one_worker))]
 pub fn crawl<F: SessionFetch + Sync, R: Threads + Wait + Sync>(
     rt: &R,
     alloc: Global,

@@ -1,7 +1,7 @@
 -- A session with the answer that the frontier is closed.
-use Rattle.crawl_session.proofs.Prelude.{◌≡◌, ℕ, List, [], ◌∷◌, ◌++◌, slice_get, Option, Some, None, Result, Ok, Err, sym, ap, subst, ◌∙◌, arith, append_assoc, append-nil, Event, Reply, State, turn, Told, Request, Offer, Next, Again, Later, Done, EndSeeds, Seen, Stats, RequestError, Deferred, Outcome, counting, deferring, seen_reply, exchange, finishing, offering, taking, taking_again, taking_next, Frontier, deferrals_at, request_for, answered, line_exchange, history_of, state_after, Settings}
+use Rattle.crawl_session.proofs.Prelude.{◌≡◌, ℕ, List, [], ◌∷◌, ◌++◌, slice_get, Option, Some, None, Result, Ok, Err, sym, ap, subst, ◌∙◌, arith, append_assoc, append-nil, Event, Reply, State, turn, Replied, Request, Offer, Next, Again, Later, Done, EndSeeds, Seen, Stats, RequestError, Deferred, Outcome, counting, deferring, seen_reply, exchange, finishing, offering, taking, taking_again, taking_next, Frontier, deferrals_at, request_for, answered, line_exchange, history_of, state_after, Settings}
 use Rattle.crawl_core.specs.declared.event.Event.TheVariants as event
-use Rattle.crawl_core.specs.declared.reply.Reply.TheVariants as told
+use Rattle.crawl_core.specs.declared.reply.Reply.TheVariants as says
 use Rattle.crawl_session.proofs.Choices.{either_way}
 use Rattle.crawl_session.proofs.Lines.{history_of-append}
 
@@ -11,25 +11,25 @@ use Rattle.crawl_session.proofs.Lines.{history_of-append}
 pub record Closes (history : List (Event × Reply)) : Type 0 where
   pub before : List (Event × Reply)
   pub last : Event
-  pub is : history ≡ before ++ (last, told.Closed) ∷ []
+  pub is : history ≡ before ++ (last, says.Closed) ∷ []
 
-told_is : {a b : Reply} → Told a ≡ Told b → a ≡ b
-told_is e = cc
+answered_is : {a b : Reply} → Replied a ≡ Replied b → a ≡ b
+answered_is e = cc
 
-closes_at : (e : Event) (reply : Reply) → reply ≡ told.Closed → Closes ((e, reply) ∷ [])
+closes_at : (e : Event) (reply : Reply) → reply ≡ says.Closed → Closes ((e, reply) ∷ [])
 closes_at e reply is = record { before = []; last = e; is = ap (λ r. (e, r) ∷ []) is }
 
-closes_behind : (x : Event × Reply) (history : List (Event × Reply)) → Closes history → Closes (x ∷ history)
-closes_behind x history closes = record { before = x ∷ closes.before; last = closes.last; is = ap (λ l. x ∷ l) closes.is }
+closes_after : (x : Event × Reply) (history : List (Event × Reply)) → Closes history → Closes (x ∷ history)
+closes_after x history closes = record { before = x ∷ closes.before; last = closes.last; is = ap (λ l. x ∷ l) closes.is }
 
-offering_closes : (state : State) (url : List ℕ) (named : ℕ) → (offering state url named).answer ≡ Told told.Closed → Closes (offering state url named).history
-offering_closes state url named closed = grind (arith, closes_behind, closes_at, told_is)
+offering_closes : (state : State) (url : List ℕ) (named : ℕ) → (offering state url named).answer ≡ Replied says.Closed → Closes (offering state url named).history
+offering_closes state url named closed = grind (arith, closes_after, closes_at, answered_is)
 
-taking_closes : (state : State) (named : ℕ) → (taking state named).answer ≡ Told told.Closed → Closes (taking state named).history
-taking_closes state named closed = grind (arith, closes_behind, closes_at, told_is)
+taking_closes : (state : State) (named : ℕ) → (taking state named).answer ≡ Replied says.Closed → Closes (taking state named).history
+taking_closes state named closed = grind (arith, closes_after, closes_at, answered_is)
 
 abbrev ClosesSo : Outcome → Type 0
-ClosesSo x = x.answer ≡ Told told.Closed → Closes x.history
+ClosesSo x = x.answer ≡ Replied says.Closed → Closes x.history
 
 next_closes : (state : Frontier) (named : ℕ) (waiting : List Deferred) (fetched : Option Deferred) → ClosesSo (taking_next state named waiting fetched)
 next_closes state named waiting fetched = grind (arith, either_way, taking_closes)
@@ -46,7 +46,7 @@ finishing_closes state named fetched = grind arith
 counting_closes : (state : Frontier) (queue : Option ℕ) → ClosesSo (counting state queue)
 counting_closes state queue = grind arith
 
-not_closed : (before : Option ℕ) → Told (seen_reply before) ≡ Told told.Closed → ⊥
+not_closed : (before : Option ℕ) → Replied (seen_reply before) ≡ Replied says.Closed → ⊥
 not_closed None closed = cc
 not_closed (Some count) closed = cc
 
@@ -58,17 +58,17 @@ exchange_closes state (Later named) = deferring_closes state named (deferrals_at
 exchange_closes state (Done named) = finishing_closes state named (deferrals_at state named).fetched
 exchange_closes state (Stats queue) = counting_closes state queue
 exchange_closes state (Seen named count) = λ closed. absurd (not_closed (slice_get state.seen named) closed)
-exchange_closes state EndSeeds = λ closed. closes_at event.EndSeeds (turn state.machine event.EndSeeds).reply (told_is closed)
+exchange_closes state EndSeeds = λ closed. closes_at event.EndSeeds (turn state.machine event.EndSeeds).reply (answered_is closed)
 
-pub answered_closes : (state : Frontier) (asks : Result Request RequestError) → (answered state asks).answer ≡ Told told.Closed → Closes (answered state asks).history
+pub answered_closes : (state : Frontier) (asks : Result Request RequestError) → (answered state asks).answer ≡ Replied says.Closed → Closes (answered state asks).history
 answered_closes state (Ok request) closed = exchange_closes state request closed
 answered_closes state (Err why) closed = absurd (cc (closed))
 
 closes_later : (front history : List (Event × Reply)) → Closes history → Closes (front ++ history)
-closes_later front history closes = record { before = front ++ closes.before; last = closes.last; is = ap (λ l. front ++ l) closes.is ∙ sym (append_assoc front closes.before ((closes.last, told.Closed) ∷ [])) }
+closes_later front history closes = record { before = front ++ closes.before; last = closes.last; is = ap (λ l. front ++ l) closes.is ∙ sym (append_assoc front closes.before ((closes.last, says.Closed) ∷ [])) }
 
 -- if the answer to the last line is that the frontier is closed, the last event found the gate closed
-pub session_closes : (settings : Settings) (state : Frontier) (front : List (List ℕ)) (line : List ℕ) → (line_exchange settings (state_after settings state front) line).answer ≡ Told told.Closed → Closes (history_of settings state (front ++ line ∷ []))
+pub session_closes : (settings : Settings) (state : Frontier) (front : List (List ℕ)) (line : List ℕ) → (line_exchange settings (state_after settings state front) line).answer ≡ Replied says.Closed → Closes (history_of settings state (front ++ line ∷ []))
 session_closes settings state front line closed =
     let mid = state_after settings state front in
     let here = line_exchange settings mid line in

@@ -51,8 +51,8 @@ needed_whole settings had state (line ∷ more) all =
 strip_return : (line : List ℕ) → strip_carriage_return (line ++ 13 ∷ []) ≡ line
 strip_return line = grind (arith, common_steps, length-append, slice_index, get_or-append_seam, take-append_seam)
 
-line_stands : (line more : List ℕ) → IsUnfinished line → lines (log_line line ++ more) ≡ line ∷ lines more
-line_stands line more whole = by_end (slice_index line (length line - 1) == 13) refl
+line_holds : (line more : List ℕ) → IsUnfinished line → lines (log_line line ++ more) ≡ line ∷ lines more
+line_holds line more whole = by_end (slice_index line (length line - 1) == 13) refl
   where
     by_end : (b : Bool) → (slice_index line (length line - 1) == 13) ≡ b → lines ((line ++ (if b then 13 ∷ 10 ∷ [] else 10 ∷ [])) ++ more) ≡ line ∷ lines more
     by_end true is =
@@ -68,15 +68,15 @@ line_stands line more whole = by_end (slice_index line (length line - 1) == 13) 
         ∙ line_before line more whole
         ∙ ap (λ b. (if b then take (length line - 1) line else line) ∷ lines more) is
 
-text_stands : (ls : List (List ℕ)) → AllWhole ls → lines (log_text ls) ≡ ls
+text_holds : (ls : List (List ℕ)) → AllWhole ls → lines (log_text ls) ≡ ls
 unfolding AllWhole
-text_stands [] all = refl
-text_stands (line ∷ more) all =
-    line_stands line (log_text more) (All-head IsUnfinished line more all) ∙ ap (λ l. line ∷ l) (text_stands more (All-tail IsUnfinished line more all))
+text_holds [] all = refl
+text_holds (line ∷ more) all =
+    line_holds line (log_text more) (All-head IsUnfinished line more all) ∙ ap (λ l. line ∷ l) (text_holds more (All-tail IsUnfinished line more all))
 
 -- the lines that are needed, and others after them
-pub needed_stands : (settings : Settings) (had : Had) (state : Frontier) (bytes : List ℕ) (more : List (List ℕ)) → All IsUnfinished more → lines (log_text (needed settings had state (lines bytes) ++ more)) ≡ needed settings had state (lines bytes) ++ more
+pub needed_holds : (settings : Settings) (had : Had) (state : Frontier) (bytes : List ℕ) (more : List (List ℕ)) → All IsUnfinished more → lines (log_text (needed settings had state (lines bytes) ++ more)) ≡ needed settings had state (lines bytes) ++ more
 unfolding AllWhole
-needed_stands settings had state bytes more whole =
+needed_holds settings had state bytes more whole =
     let front = needed settings had state (lines bytes) in
-    text_stands (front ++ more) (All-append IsUnfinished front more (needed_whole settings had state (lines bytes) (of_parts (slice_split is_lf bytes) (parts_whole bytes))) whole)
+    text_holds (front ++ more) (All-append IsUnfinished front more (needed_whole settings had state (lines bytes) (of_parts (slice_split is_lf bytes) (parts_whole bytes))) whole)

@@ -1,17 +1,17 @@
 -- The lines of a log that are needed bring a new session to the same state, except for the gate words that senders remember and the
 -- numbers of `seen`. The lines after them bring these numbers back.
-use Rattle.crawl_session.proofs.Prelude.{◌≡◌, ℕ, suc, arith, ◌<◌, ◌≤◌, Bool, true, false, ◌||◌, if◌then◌else◌, List, [], ◌∷◌, ◌++◌, length, get_or, replicate, slice_get, Option, Some, None, Result, Ok, Err, IfOk, refl, sym, ap, subst, ◌∙◌, true≢false, is_at, nat_cmp, remove_entry, lines, slice_get-get_or, Event, Reply, GateSide, GateTurn, back, end_seeds, enter, holds, Run, in_fetch, can_hand_over, State, unfinished_in, Turn, turn, admit_to, done_with, Subqueue, empty_subqueue, Sound, gate_effect, Answer, Told, Counted, Unasked, Request, Offer, Next, Again, Later, Done, EndSeeds, Seen, Stats, RequestError, Had, compacted, had_none, having, says_closed, changes, asks_again, is_needed, needed, log_text, Deferred, Exchange, Outcome, by_machine, client, after, deferring, deferring_taken, ends, admitting, entering, exchange, finishing, handing, is_count, is_due, is_entered, is_seen, noted, offering, put_back, replies, retaking, seeds_ended, seen_reply, taking, taking_again, taking_next, request_for, Frontier, deferrals_at, start, with_deferrals, with_words, answered, answers, line_exchange, state_after, Settings}
+use Rattle.crawl_session.proofs.Prelude.{◌≡◌, ℕ, suc, arith, ◌<◌, ◌≤◌, Bool, true, false, ◌||◌, if◌then◌else◌, List, [], ◌∷◌, ◌++◌, length, get_or, replicate, slice_get, Option, Some, None, Result, Ok, Err, IfOk, refl, sym, ap, subst, ◌∙◌, true≢false, is_at, nat_cmp, remove_entry, lines, slice_get-get_or, Event, Reply, GateSide, GateTurn, back, end_seeds, enter, holds, Run, in_fetch, can_hand_over, State, unfinished_in, Turn, turn, admit_to, done_with, Subqueue, empty_subqueue, Sound, gate_effect, Answer, Replied, Counted, Unasked, Request, Offer, Next, Again, Later, Done, EndSeeds, Seen, Stats, RequestError, Had, compacted, had_none, having, says_closed, changes, asks_again, is_needed, needed, log_text, Deferred, Exchange, Outcome, by_machine, client, after, deferring, deferring_taken, ends, admitting, entering, exchange, finishing, handing, is_count, is_due, is_entered, is_seen, noted, offering, put_back, replies, retaking, seeds_ended, seen_reply, taking, taking_again, taking_next, request_for, Frontier, deferrals_at, start, with_deferrals, with_words, answered, answers, line_exchange, state_after, Settings}
 use Rattle.std.proofs.lemmas.Bool.{cond_both}
 use Rattle.crawl_core.specs.declared.event.Event.TheVariants as event
-use Rattle.crawl_core.specs.declared.reply.Reply.TheVariants as told
+use Rattle.crawl_core.specs.declared.reply.Reply.TheVariants as says
 use Rattle.crawl_core.specs.declared.reply.Refusal.TheVariants as why
 use Rattle.crawl_session.specs.Exchanges as exchanges
 use Rattle.crawl_session.specs.Seen.{add_seen, none_seen, seen_lines, seen_with}
 use Rattle.crawl_session.specs.Steps as machine
 use Rattle.crawl_session.proofs.Choices.{either_way}
-use Rattle.crawl_session.proofs.Assigned.{IsAssigned, as_asked, assigns_for, assigned_below}
+use Rattle.crawl_session.proofs.Assigned.{IsAssigned, as_requested, assigns_for, assigned_below}
 use Rattle.crawl_session.proofs.Closings.{answered_closes}
-use Rattle.crawl_session.proofs.CompactText.{needed_stands}
+use Rattle.crawl_session.proofs.CompactText.{needed_holds}
 use Rattle.crawl_session.proofs.Lines.{state_after-append}
 use Rattle.crawl_session.proofs.Noted.{answered_but, seen_next, with_seen}
 use Rattle.crawl_session.proofs.Rests.{AtRest, Entry, entry_is, line_fits, looked_word, starts_at_rest, tries}
@@ -78,7 +78,7 @@ admits had state url named queue held = grind arith
 -- ---- requests whose answers change nothing
 
 abbrev Quiet : Had → Answer → Type 0
-Quiet had (Told reply) = changes had reply ≡ false
+Quiet had (Replied reply) = changes had reply ≡ false
 Quiet had (Counted stats) = Unit {0}
 Quiet had (Unasked why) = Unit {0}
 
@@ -102,8 +102,8 @@ admitting_stays had workers url named state old below shape one leaves =
     let there : slice_get state.subqueues named ≡ Some queue = slice_get-get_or state.subqueues named empty_subqueue (subst (λ n. named < n) (sym shape) below) in
     let done = turn state admit in
     let admission : Admits had state done = subst (λ q. Admits had state (admit_to state client url named q)) (sym there) (admits had state url named queue one) in
-    stays_after had old state admit (λ reply admitted. if is_seen reply then after admitted (event.Back client) (λ _ left. ends told.Seen left) else ends reply admitted)
-    (cond_both (is_seen done.reply) (after done.state (event.Back client) (λ _ left. ends told.Seen left)) (ends done.reply done.state) (Stays had old)
+    stays_after had old state admit (λ reply admitted. if is_seen reply then after admitted (event.Back client) (λ _ left. ends says.Seen left) else ends reply admitted)
+    (cond_both (is_seen done.reply) (after done.state (event.Back client) (λ _ left. ends says.Seen left)) (ends done.reply done.state) (Stays had old)
     (λ seen. record { same = λ quiet. (leaves.0, ap (λ (s : State). (turn s (event.Back client)).state) (admission.seen seen) ∙ leaves.1) })
     (λ other. record { same = λ quiet. absurd (true≢false (sym (admission.other other) ∙ quiet)) }))
 
@@ -114,7 +114,7 @@ offer_stays had workers url named state below rest =
     let messages = unfinished_in state in
     let looking = gate_effect state rest.sound (event.Look client) in
     let entering_it = gate_effect first.state looking.sound (event.Enter client) in
-    let shape : length second.state.subqueues ≡ workers = entering_it.as_many ∙ looking.as_many ∙ rest.shape in
+    let shape : length second.state.subqueues ≡ workers = entering_it.right_length ∙ looking.right_length ∙ rest.shape in
     let entry : Entry url named (enter first.state.gate messages client) =
     subst (Entry url named) (sym (entry_is first.state.gate messages rest.nobody (looked_word state.gate messages))) (tries url named first.state.gate messages rest.nobody) in
     let back_as : is_entered second.reply ≡ true → SameMachine state (turn second.state (event.Back client)).state =
@@ -140,18 +140,18 @@ keeps_still : (had : Had) (state : Frontier) (reply : Reply) → Keeps had state
 keeps_still had state reply = record { same = λ quiet. (state.machine.gate.remembered, refl) }
 
 next_keeps : (had : Had) (state : Frontier) (named : ℕ) (waiting : List Deferred) (fetched : Option Deferred) → (had.closed ≡ true → state.machine.gate.closed ≡ true) → Keeps had state (taking_next state named waiting fetched)
-next_keeps had state named waiting (Some url) known = keeps_still had state (told.Refused why.Busy)
+next_keeps had state named waiting (Some url) known = keeps_still had state (says.Refused why.Busy)
 next_keeps had state named waiting None known =
     either_way (Keeps had state) (is_due (slice_get state.machine.subqueues named) waiting) (retaking state named waiting) (by_machine state (taking state.machine named))
     (by_waiting waiting) (keeps_machine had state (taking state.machine named) (next_stays had state.machine named known))
   where
     by_waiting : (waiting : List Deferred) → Keeps had state (retaking state named waiting)
-    by_waiting [] = keeps_still had state (told.Refused why.Busy)
+    by_waiting [] = keeps_still had state (says.Refused why.Busy)
     by_waiting (first ∷ more) = record { same = λ quiet. absurd (true≢false quiet) }
 
 again_keeps : (had : Had) (state : Frontier) (named : ℕ) (fetched : Option Deferred) → Keeps had state (taking_again state named fetched)
 again_keeps had state named None = record { same = λ quiet. (state.machine.gate.remembered, refl) }
-again_keeps had state named (Some url) = keeps_still had state (told.Taken url.url)
+again_keeps had state named (Some url) = keeps_still had state (says.Taken url.url)
 
 quiet_count : (had : Had) (reply : Reply) → changes had reply ≡ false → is_count reply ≡ false
 quiet_count had reply quiet = grind arith
@@ -175,12 +175,12 @@ finishing_keeps had state named (Some url) =
     }
 
 taken_keeps : (had : Had) (state : Frontier) (named : ℕ) (found : Option (Option (List ℕ))) → Keeps had state (deferring_taken state named found)
-taken_keeps had state named None = keeps_still had state (told.Refused why.NoSuch)
-taken_keeps had state named (Some None) = keeps_still had state (told.Refused why.Nothing)
+taken_keeps had state named None = keeps_still had state (says.Refused why.NoSuch)
+taken_keeps had state named (Some None) = keeps_still had state (says.Refused why.Nothing)
 taken_keeps had state named (Some (Some url)) =
     let sender = suc state.senders in
-    either_way (Keeps had state) (can_hand_over state.machine named sender) (by_machine (record (put_back state named url sender) { senders = sender }) (handing state.machine named sender)) (replies (told.Refused why.Nothing) state)
-    (record { same = λ quiet. absurd (true≢false quiet) }) (keeps_still had state (told.Refused why.Nothing))
+    either_way (Keeps had state) (can_hand_over state.machine named sender) (by_machine (record (put_back state named url sender) { senders = sender }) (handing state.machine named sender)) (replies (says.Refused why.Nothing) state)
+    (record { same = λ quiet. absurd (true≢false quiet) }) (keeps_still had state (says.Refused why.Nothing))
 
 deferring_keeps : (had : Had) (state : Frontier) (named : ℕ) (fetched : Option Deferred) → Keeps had state (deferring state named fetched)
 deferring_keeps had state named None = taken_keeps had state named (in_fetch state.machine named)
@@ -196,7 +196,7 @@ noted_stays had state named x keeps quiet =
 kept : (had : Had) (state : Frontier) (x : Outcome) → Keeps had state x → Quiet had x.answer → Stayed state x.state
 kept had state x keeps quiet = stayed state x.state (keeps.same quiet)
 
-request_stays : (had : Had) (workers : ℕ) (state : Frontier) (request : Request) → IfOk (as_asked request) (IsAssigned workers) → 1 ≤ workers → AtRest workers state.machine → (had.closed ≡ true → state.machine.gate.closed ≡ true) → Quiet had (exchange state request).answer → Stayed state (exchange state request).state
+request_stays : (had : Had) (workers : ℕ) (state : Frontier) (request : Request) → IfOk (as_requested request) (IsAssigned workers) → 1 ≤ workers → AtRest workers state.machine → (had.closed ≡ true → state.machine.gate.closed ≡ true) → Quiet had (exchange state request).answer → Stayed state (exchange state request).state
 request_stays had workers state (Offer url named) assigned some rest known quiet =
     noted_stays had state named (by_machine state (offering state.machine url named)) (keeps_machine had state (offering state.machine url named) (offer_stays had workers url named state.machine (assigned_below workers url named some assigned) rest)) quiet
 request_stays had workers state (Next named) assigned some rest known quiet = kept had state (exchange state (Next named)) (next_keeps had state named (deferrals_at state named).waiting (deferrals_at state named).fetched known) quiet
@@ -218,7 +218,7 @@ again_same : (state : Frontier) (named : ℕ) (fetched : Option Deferred) → St
 again_same state named None = (state.seen, (state.machine.gate.remembered, refl))
 again_same state named (Some url) = (state.seen, (state.machine.gate.remembered, refl))
 
-unneeded : (had : Had) (workers : ℕ) (state : Frontier) (request : Request) (again : Bool) → asks_again request ≡ again → IfOk (as_asked request) (IsAssigned workers) → 1 ≤ workers → AtRest workers state.machine → (had.closed ≡ true → state.machine.gate.closed ≡ true)
+unneeded : (had : Had) (workers : ℕ) (state : Frontier) (request : Request) (again : Bool) → asks_again request ≡ again → IfOk (as_requested request) (IsAssigned workers) → 1 ≤ workers → AtRest workers state.machine → (had.closed ≡ true → state.machine.gate.closed ≡ true)
     → is_needed had (Ok request) (exchange state request).answer ≡ false → Stayed state (exchange state request).state
 unneeded had workers state (Again named) true is assigned some rest known none = again_same state named (deferrals_at state named).fetched
 unneeded had workers state request false is assigned some rest known none = request_stays had workers state request assigned some rest known (quiet_of had request (exchange state request).answer is none)
@@ -235,11 +235,11 @@ pub stays_closed : (old : State) (history : List (Event × Reply)) (new : State)
 stays_closed old [] new sound closed run = ap (λ (s : State). s.gate.closed) run ∙ closed
 stays_closed old (x ∷ xs) new sound closed run = grind (arith, gate_effect, stays_closed run.0 xs new)
 
-pub closes_run : (old : State) (front : List (Event × Reply)) (last : Event) (new : State) → Sound old → Run old (front ++ (last, told.Closed) ∷ []) new → new.gate.closed ≡ true
+pub closes_run : (old : State) (front : List (Event × Reply)) (last : Event) (new : State) → Sound old → Run old (front ++ (last, says.Closed) ∷ []) new → new.gate.closed ≡ true
 closes_run old [] last new sound run = grind arith
 closes_run old (x ∷ xs) last new sound run = closes_run run.0 xs last new (subst Sound (sym run.1.state_is) (gate_effect old sound x.0).sound) run.2
 
-closed_is : (answer : Answer) → says_closed answer ≡ true → answer ≡ Told told.Closed
+closed_is : (answer : Answer) → says_closed answer ≡ true → answer ≡ Replied says.Closed
 closed_is answer is = grind arith
 
 knows : (had : Had) (state : Frontier) (r : Result Request RequestError) → Sound state.machine → (had.closed ≡ true → state.machine.gate.closed ≡ true) → (having had (answered state r).answer).closed ≡ true → (answered state r).state.machine.gate.closed ≡ true
@@ -267,7 +267,7 @@ needed_keeps had state (Ok EndSeeds) seen is = refl
 needed_keeps had state (Ok (Stats queue)) seen is = refl
 needed_keeps had state (Ok (Seen named count)) seen is = absurd (never (slice_get state.seen named) is)
   where
-    never : (before : Option ℕ) → is_needed had (Ok (Seen named count)) (Told (seen_reply before)) ≡ true → ⊥
+    never : (before : Option ℕ) → is_needed had (Ok (Seen named count)) (Replied (seen_reply before)) ≡ true → ⊥
     never None is = true≢false (sym is)
     never (Some n) is = true≢false (sym is)
 needed_keeps had state (Err why) seen is = refl
@@ -350,17 +350,17 @@ compacted_after settings max lines some =
           ∙ restored settings worded [] full.seen (numbers_fit settings max lines),
     )
 
-pub compacted_stands : (settings : Settings) (max : ℕ) (bytes : List ℕ) → lines (log_text (compacted settings (start settings.workers max) (lines bytes))) ≡ compacted settings (start settings.workers max) (lines bytes)
-compacted_stands settings max bytes =
+pub compacted_holds : (settings : Settings) (max : ℕ) (bytes : List ℕ) → lines (log_text (compacted settings (start settings.workers max) (lines bytes))) ≡ compacted settings (start settings.workers max) (lines bytes)
+compacted_holds settings max bytes =
     let begun = start settings.workers max in
     let seen = (state_after settings begun (lines bytes)).seen in
-    needed_stands settings had_none begun bytes (seen_lines 0 seen) (lines_whole 0 seen (numbers_fit settings max (lines bytes)))
+    needed_holds settings had_none begun bytes (seen_lines 0 seen) (lines_whole 0 seen (numbers_fit settings max (lines bytes)))
 
 pub compacted_answers : (settings : Settings) (max : ℕ) (bytes : List ℕ) (more : List (List ℕ)) → 1 ≤ settings.workers
     → answers settings (state_after settings (start settings.workers max) (lines (log_text (compacted settings (start settings.workers max) (lines bytes))))) more ≡ answers settings (state_after settings (start settings.workers max) (lines bytes)) more
 compacted_answers settings max bytes more some =
     let begun = start settings.workers max in
     let same = compacted_after settings max (lines bytes) some in
-    ap (λ ls. answers settings (state_after settings begun ls) more) (compacted_stands settings max bytes)
+    ap (λ ls. answers settings (state_after settings begun ls) more) (compacted_holds settings max bytes)
     ∙ ap (λ (s : Frontier). answers settings s more) same.1
     ∙ words_forgotten settings (state_after settings begun (lines bytes)) same.0 more

@@ -1,5 +1,5 @@
 -- What waited in a queue, followed by what joined it, is what was taken from it, followed by what waits.
-use Rattle.crawl_session.proofs.Prelude.{common_steps, ◌≡◌, ℕ, zero, suc, ◌+◌, Bool, true, cond, ◌||◌, if◌then◌else◌, is_some, List, [], ◌∷◌, ◌++◌, length, get_or, replicate, slice_get, Option, Some, None, Result, refl, sym, ap, subst, ◌∙◌, arith, append-nil, cons_option, option_or, option_to_list, length-replicate, sum_by-cons, Event, Reply, one_if, Run, State, Subqueue, empty_subqueue, Sound, gate_effect, Answer, Request, RequestError, Asked, accepted_of, accepts, asked, busy_after, done_of, finishes, joined_from, joins, put_back_of, puts_back, taken_of, takes, Deferrals, Frontier, deferrals_at, no_deferrals, start, request_for, answered, line_exchange, state_after, Settings}
+use Rattle.crawl_session.proofs.Prelude.{common_steps, ◌≡◌, ℕ, zero, suc, ◌+◌, Bool, true, cond, ◌||◌, if◌then◌else◌, is_some, List, [], ◌∷◌, ◌++◌, length, get_or, replicate, slice_get, Option, Some, None, Result, refl, sym, ap, subst, ◌∙◌, arith, append-nil, cons_option, option_or, option_to_list, length-replicate, sum_by-cons, Event, Reply, one_if, Run, State, Subqueue, empty_subqueue, Sound, gate_effect, Answer, Request, RequestError, LineAnswer, accepted_of, accepts, line_answers, busy_after, done_of, finishes, joined_from, joins, put_back_of, puts_back, taken_of, takes, Deferrals, Frontier, deferrals_at, no_deferrals, start, request_for, answered, line_exchange, state_after, Settings}
 use Rattle.crawl_session.proofs.Flows.{answered_passes}
 use Rattle.crawl_session.proofs.Joined.{busy_at, line_at}
 use Rattle.crawl_session.proofs.Queues.{Settled, busy_of, queue_at}
@@ -31,13 +31,13 @@ joint : (waits next more taken last : List (List ℕ)) (j t : Option (List ℕ))
 joint waits next more taken last j t here later = grind (arith, common_steps, put_on)
 
 pub conserved : (settings : Settings) (state : Frontier) (lines : List (List ℕ)) (queue : ℕ) → Sound state.machine → Settled state
-    → line_of state queue ++ joined_from queue (busy_of state queue) (asked settings state lines) ≡ taken_of queue (asked settings state lines) ++ line_of (state_after settings state lines) queue
+    → line_of state queue ++ joined_from queue (busy_of state queue) (line_answers settings state lines) ≡ taken_of queue (line_answers settings state lines) ++ line_of (state_after settings state lines) queue
 conserved settings state [] queue sound settled = append-nil (line_of state queue)
 conserved settings state (line ∷ more) queue sound settled =
     let r = request_for settings line in
     let here = line_exchange settings state line in
-    let rest = asked settings here.state more in
-    let x : Asked = record { request = r; answer = here.answer } in
+    let rest = line_answers settings here.state more in
+    let x : LineAnswer = record { request = r; answer = here.answer } in
     let passes = answered_passes state r sound settled in
     let flow = passes.flow queue in
     let last = line_of (state_after settings here.state more) queue in
@@ -69,20 +69,20 @@ length_on o xs = grind arith
 
 -- the number of URLs taken is the number of fetches that ended, apart from a fetch in progress before or after
 pub counted_takes : (settings : Settings) (state : Frontier) (lines : List (List ℕ)) (queue : ℕ) → Sound state.machine → Settled state
-    → length (taken_of queue (asked settings state lines)) + one_if (is_some (busy_of state queue)) ≡ (done_of queue (asked settings state lines) + put_back_of queue (asked settings state lines)) + one_if (is_some (busy_of (state_after settings state lines) queue))
+    → length (taken_of queue (line_answers settings state lines)) + one_if (is_some (busy_of state queue)) ≡ (done_of queue (line_answers settings state lines) + put_back_of queue (line_answers settings state lines)) + one_if (is_some (busy_of (state_after settings state lines) queue))
 counted_takes settings state [] queue sound settled = refl
 counted_takes settings state (line ∷ more) queue sound settled =
     let r = request_for settings line in
     let here = line_exchange settings state line in
-    let rest = asked settings here.state more in
-    let x : Asked = record { request = r; answer = here.answer } in
+    let rest = line_answers settings here.state more in
+    let x : LineAnswer = record { request = r; answer = here.answer } in
     let passes = answered_passes state r sound settled in
     let flow = passes.flow queue in
     let later = counted_takes settings here.state more queue (line_sound settings state line sound) passes.settled in
     let first = counts_line queue r here.answer (busy_of state queue) (busy_of here.state queue) flow.busy flow.was flow.free in
     let taken = length_on (takes queue r here.answer) (taken_of queue rest) in
-    let done = sum_by-cons (λ (y : Asked). cond (finishes queue y.request y.answer) 1 0) x rest in
-    let put = sum_by-cons (λ (y : Asked). cond (puts_back queue y.request y.answer) 1 0) x rest in
+    let done = sum_by-cons (λ (y : LineAnswer). cond (finishes queue y.request y.answer) 1 0) x rest in
+    let put = sum_by-cons (λ (y : LineAnswer). cond (puts_back queue y.request y.answer) 1 0) x rest in
     omega (arith, later, first, taken, done, put)
 
 -- the number of URLs that joined is the number that were accepted plus the number that were put back
@@ -90,13 +90,13 @@ join_counts : (queue : ℕ) (r : Result Request RequestError) (answer : Answer) 
 join_counts queue r answer busy was = grind arith
 
 pub counted_joins : (settings : Settings) (state : Frontier) (lines : List (List ℕ)) (queue : ℕ) → Sound state.machine → Settled state
-    → length (joined_from queue (busy_of state queue) (asked settings state lines)) ≡ length (accepted_of queue (asked settings state lines)) + put_back_of queue (asked settings state lines)
+    → length (joined_from queue (busy_of state queue) (line_answers settings state lines)) ≡ length (accepted_of queue (line_answers settings state lines)) + put_back_of queue (line_answers settings state lines)
 counted_joins settings state [] queue sound settled = refl
 counted_joins settings state (line ∷ more) queue sound settled =
     let r = request_for settings line in
     let here = line_exchange settings state line in
-    let rest = asked settings here.state more in
-    let x : Asked = record { request = r; answer = here.answer } in
+    let rest = line_answers settings here.state more in
+    let x : LineAnswer = record { request = r; answer = here.answer } in
     let passes = answered_passes state r sound settled in
     let flow = passes.flow queue in
     let next : length (joined_from queue (busy_after queue (busy_of state queue) x) rest) ≡ length (accepted_of queue rest) + put_back_of queue rest =
@@ -104,7 +104,7 @@ counted_joins settings state (line ∷ more) queue sound settled =
     let joined = length_on (joins queue (busy_of state queue) x) (joined_from queue (busy_after queue (busy_of state queue) x) rest) in
     let accepted = length_on (accepts queue r here.answer) (accepted_of queue rest) in
     let first = join_counts queue r here.answer (busy_of state queue) flow.was in
-    let put = sum_by-cons (λ (y : Asked). cond (puts_back queue y.request y.answer) 1 0) x rest in
+    let put = sum_by-cons (λ (y : LineAnswer). cond (puts_back queue y.request y.answer) 1 0) x rest in
     omega (arith, next, joined, accepted, first, put)
 
 -- ---- a new session

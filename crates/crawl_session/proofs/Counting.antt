@@ -1,5 +1,5 @@
 -- The numbers of a queue, derived from the answers before.
-use Rattle.crawl_session.proofs.Prelude.{◌≡◌, ℕ, ◌+◌, ◌-◌, ◌^◌, ◌<◌, true, false, is_some, List, [], ◌∷◌, length, map, take, drop, slice_get, Option, Some, None, option_and_then, option_map, refl, sym, ap, subst, ◌∙◌, arith, get_or_from_slice_get, slice_get_within, one_if, progress, accepted_in, Subqueue, waiting, state_of_history, start_sound, Deferred, IsTold, accepted_of, asked, joined_from, joined_of, put_back_of, seen_of, taken_of, Frontier, deferrals_at, start, history_of, state_after, Settings}
+use Rattle.crawl_session.proofs.Prelude.{◌≡◌, ℕ, ◌+◌, ◌-◌, ◌^◌, ◌<◌, true, false, is_some, List, [], ◌∷◌, length, map, take, drop, slice_get, Option, Some, None, option_and_then, option_map, refl, sym, ap, subst, ◌∙◌, arith, get_or_from_slice_get, slice_get_within, one_if, progress, accepted_in, Subqueue, waiting, state_of_history, start_sound, Deferred, IsReported, accepted_of, line_answers, joined_from, joined_of, put_back_of, seen_of, taken_of, Frontier, deferrals_at, start, history_of, state_after, Settings}
 use Rattle.std.proofs.lemmas.List.{length-append, length-drop, length-map, take-append-drop}
 use Rattle.std.proofs.lemmas.Option.{none-some, same_Some}
 use Rattle.std.specs.Prelude.{min}
@@ -30,17 +30,17 @@ busy_flags : (found : Subqueue) (fetched : Option Deferred) → (is_some fetched
 busy_flags found fetched apart some = grind arith
 
 -- the number of `seen` is that of the answers
-seen_told : (settings : Settings) (max : ℕ) (lines : List (List ℕ)) (queue seen : ℕ) → slice_get (state_after settings (start settings.workers max) lines).seen queue ≡ Some seen → seen ≡ min (seen_of queue (asked settings (start settings.workers max) lines)) (2 ^ 64 - 1)
-seen_told settings max lines queue seen has =
+seen_answered : (settings : Settings) (max : ℕ) (lines : List (List ℕ)) (queue seen : ℕ) → slice_get (state_after settings (start settings.workers max) lines).seen queue ≡ Some seen → seen ≡ min (seen_of queue (line_answers settings (start settings.workers max) lines)) (2 ^ 64 - 1)
+seen_answered settings max lines queue seen has =
     let state = state_after settings (start settings.workers max) lines in
     let inside = subst (λ n. queue < n) (long_after settings max lines) (slice_get_within state.seen queue seen has) in
     sym (get_or_from_slice_get state.seen queue seen 0 has) ∙ counted_from_none settings max lines queue inside
 
-queue_told : (settings : Settings) (max : ℕ) (lines : List (List ℕ)) (queue : ℕ) (found : Subqueue) (seen : ℕ) → queue_at (state_after settings (start settings.workers max) lines) queue ≡ Some found → slice_get (state_after settings (start settings.workers max) lines).seen queue ≡ Some seen
-    → IsTold queue (asked settings (start settings.workers max) lines) (stats_of (progress found) (length (deferrals_at (state_after settings (start settings.workers max) lines) queue).waiting) (is_some (deferrals_at (state_after settings (start settings.workers max) lines) queue).fetched) seen)
-queue_told settings max lines queue found seen at has =
+queue_answered : (settings : Settings) (max : ℕ) (lines : List (List ℕ)) (queue : ℕ) (found : Subqueue) (seen : ℕ) → queue_at (state_after settings (start settings.workers max) lines) queue ≡ Some found → slice_get (state_after settings (start settings.workers max) lines).seen queue ≡ Some seen
+    → IsReported queue (line_answers settings (start settings.workers max) lines) (stats_of (progress found) (length (deferrals_at (state_after settings (start settings.workers max) lines) queue).waiting) (is_some (deferrals_at (state_after settings (start settings.workers max) lines) queue).fetched) seen)
+queue_answered settings max lines queue found seen at has =
     let begun = start settings.workers max in
-    let all = asked settings begun lines in
+    let all = line_answers settings begun lines in
     let state = state_after settings begun lines in
     let history = history_of settings begun lines in
     let deferrals = deferrals_at state queue in
@@ -65,24 +65,24 @@ queue_told settings max lines queue found seen at has =
     ∙ ap length (sees_accepted settings begun lines queue) in
     let flags : one_if found.busy + one_if (is_some deferrals.fetched) ≡ one_if (is_some (busy_of state queue)) =
     busy_flags found deferrals.fetched fine.apart (some_fetch found inv) ∙ ap (λ (o : Option Subqueue). one_if (is_some (busy_at o deferrals.fetched))) (sym at) in
-    let told = busy_is settings begun lines queue None fresh settled (sym (starts_free settings.workers max queue)) in
+    let its_reply = busy_is settings begun lines queue None fresh settled (sym (starts_free settings.workers max queue)) in
     record {
       accepted = accepted;
       done = omega (arith, free, line, mapped, dropped, joined, joins, takes, accepted, flags);
-      in_progress = flags ∙ ap (λ (o : Option (List ℕ)). one_if (is_some o)) (sym told);
+      in_progress = flags ∙ ap (λ (o : Option (List ℕ)). one_if (is_some o)) (sym its_reply);
       waiting = omega (arith, free, line, mapped, dropped, joined, joins, takes, accepted, flags);
-      seen = seen_told settings max lines queue seen has;
+      seen = seen_answered settings max lines queue seen has;
     }
 
-pub stats_told : (settings : Settings) (max : ℕ) (lines : List (List ℕ)) (queue : ℕ) (stats : Stats) → stats_at (state_after settings (start settings.workers max) lines) queue ≡ Some stats → IsTold queue (asked settings (start settings.workers max) lines) stats
-stats_told settings max lines queue stats is = by_queue (queue_at state queue) refl (slice_get state.seen queue) refl is
+pub stats_answered : (settings : Settings) (max : ℕ) (lines : List (List ℕ)) (queue : ℕ) (stats : Stats) → stats_at (state_after settings (start settings.workers max) lines) queue ≡ Some stats → IsReported queue (line_answers settings (start settings.workers max) lines) stats
+stats_answered settings max lines queue stats is = by_queue (queue_at state queue) refl (slice_get state.seen queue) refl is
   where
     state : Frontier
     state = state_after settings (start settings.workers max) lines
 
     by_queue : (o : Option Subqueue) → queue_at state queue ≡ o → (m : Option ℕ) → slice_get state.seen queue ≡ m
         → option_and_then (λ p. option_map (stats_of p (length (deferrals_at state queue).waiting) (is_some (deferrals_at state queue).fetched)) m) (option_map progress o) ≡ Some stats
-        → IsTold queue (asked settings (start settings.workers max) lines) stats
-    by_queue (Some found) at (Some seen) has is = subst (IsTold queue (asked settings (start settings.workers max) lines)) (same_Some _ _ is) (queue_told settings max lines queue found seen at has)
+        → IsReported queue (line_answers settings (start settings.workers max) lines) stats
+    by_queue (Some found) at (Some seen) has is = subst (IsReported queue (line_answers settings (start settings.workers max) lines)) (same_Some _ _ is) (queue_answered settings max lines queue found seen at has)
     by_queue (Some found) at None has is = absurd (none-some _ is)
     by_queue None at m has is = absurd (none-some _ is)

@@ -1,5 +1,5 @@
 -- Lines of bytes that are cut in two, and of bytes after an unfinished line that was cut short.
-use Rattle.crawl_session.proofs.Prelude.{◌≡◌, ◌⊎◌, ℕ, ◌+◌, ◌<◌, ◌==◌, inl, inr, Bool, true, false, List, [], ◌∷◌, ◌++◌, length, take, map, nat_lt, slice_index, Option, Result, Err, refl, sym, ap, subst, ◌∙◌, arith, append-nil, append_assoc, eqb-true, ltb-true, ltb-false, lt-ltb, ne_eqb, common_steps, slice_split, bytes_eq-Decides, lines, lines_of_parts, strip_carriage_return, length-append, length-take-le, take_all, All-nil, All-cons, All-append, All-take, slice_split_none, slice_split_at, length-slice_split, line_limit, Request, RequestError, held_limit, IsUnfinished, AreWhole, asked_of, request_for, request_of, Part, Settings}
+use Rattle.crawl_session.proofs.Prelude.{◌≡◌, ◌⊎◌, ℕ, ◌+◌, ◌<◌, ◌==◌, inl, inr, Bool, true, false, List, [], ◌∷◌, ◌++◌, length, take, map, nat_lt, slice_index, Option, Result, Err, refl, sym, ap, subst, ◌∙◌, arith, append-nil, append_assoc, eqb-true, ltb-true, ltb-false, lt-ltb, ne_eqb, common_steps, slice_split, bytes_eq-Decides, lines, lines_of_parts, strip_carriage_return, length-append, length-take-le, take_all, All-nil, All-cons, All-append, All-take, slice_split_none, slice_split_at, length-slice_split, line_limit, Request, RequestError, held_limit, IsUnfinished, AreWhole, own_request, request_for, request_of, Part, Settings}
 use Rattle.text_lines.proofs.CutLines.{lines_cut}
 use Rattle.crawl_session.specs.declared.request.RequestError.TheVariants.{LineTooLong}
 
@@ -19,8 +19,8 @@ parts_below bytes = omega (arith, length-slice_split is_lf bytes)
 -- ---- whole lines, and bytes after them
 
 -- whole lines, and then those of the bytes after them
-pub lines_behind : (front rest : List ℕ) → AreWhole front → lines (front ++ rest) ≡ lines front ++ lines rest
-lines_behind front rest whole = grind (arith, append_assoc, lines_cut)
+pub lines_after : (front rest : List ℕ) → AreWhole front → lines (front ++ rest) ≡ lines front ++ lines rest
+lines_after front rest whole = grind (arith, append_assoc, lines_cut)
 
 -- whole lines and whole lines are whole lines
 pub whole-append : (front more : List ℕ) → AreWhole front → AreWhole more → AreWhole (front ++ more)
@@ -61,7 +61,7 @@ requests settings ls = map (request_for settings) ls
 asks_too_long : (workers : ℕ) (suffixes : List (List ℕ)) (line : List ℕ) → line_limit < length line → request_of workers suffixes line ≡ Err LineTooLong
 asks_too_long workers suffixes line long = rw (lt-ltb line_limit (length line) long) refl
 
-refused_so : (part : Option Part) (line : List ℕ) → line_limit < length line → asked_of part line (Err LineTooLong) ≡ Err LineTooLong
+refused_so : (part : Option Part) (line : List ℕ) → line_limit < length line → own_request part line (Err LineTooLong) ≡ Err LineTooLong
 refused_so part line long = grind (arith, bytes_eq-Decides)
 
 -- two lines that are too long request the same

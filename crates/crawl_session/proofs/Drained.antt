@@ -73,13 +73,13 @@ freed state named fit = by_busy (busy_of state named) refl
 -- ---- `next`
 
 -- of another queue no URL goes
-not_taken : (named queue : ℕ) (answer : Answer) → nat_eq named queue ≡ false → takes queue (Ok (Next named)) answer ≡ None
-not_taken named queue answer apart = grind (arith, apart)
+none_taken : (named queue : ℕ) (answer : Answer) → nat_eq named queue ≡ false → takes queue (Ok (Next named)) answer ≡ None
+none_taken named queue answer apart = grind (arith, apart)
 
 next_line : (state : Frontier) (named queue : ℕ) → Fit state → nat_eq named queue ≡ false → line_of (exchange state (Next named)).state queue ≡ line_of state queue
 next_line state named queue fit apart =
     let flow = ((answered_passes state (Ok (Next named)) fit.sound fit.settled).flow queue).line in
-    let none = not_taken named queue (exchange state (Next named)).answer apart in
+    let none = none_taken named queue (exchange state (Next named)).answer apart in
     sym (flow ∙ ap (λ (o : Option (List ℕ)). option_to_list o ++ line_of (exchange state (Next named)).state queue) none) ∙ append-nil (line_of state queue)
 
 -- a queue that is free and in which URLs wait has a next one

@@ -1,6 +1,6 @@
 -- If an answer says that the frontier is closed, all URLs are done, and no URL is accepted or taken afterwards.
-use Rattle.crawl_session.proofs.Prelude.{◌≡◌, ℕ, ◌+◌, ◌≤◌, ◌<◌, Bool, true, false, cond, is_some, List, [], ◌∷◌, ◌++◌, length, map, Option, Some, None, Result, refl, sym, ap, subst, ◌∙◌, arith, append-nil, cons_option, sum_by, option_to_list, drop_of_length-le, get_or-eq_default, sum_by-cons, sum_by-set, slice_get_within, Event, Reply, one_if, accepted_in, Message, Run, State, count_of, Subqueue, eqb_same, start_sound, Sound, gate_effect, none_unfinished, Answer, Told, Deferred, Request, RequestError, AllDone, accepted_of, asked, busy_in, done_of, joined_from, joined_of, joins, put_back_of, taken_of, takes, times, Deferrals, Frontier, deferrals_at, no_deferrals, start, request_for, history_of, line_exchange, state_after, Settings, nil_from_length}
-use Rattle.crawl_core.specs.declared.reply.Reply.TheVariants as told
+use Rattle.crawl_session.proofs.Prelude.{◌≡◌, ℕ, ◌+◌, ◌≤◌, ◌<◌, Bool, true, false, cond, is_some, List, [], ◌∷◌, ◌++◌, length, map, Option, Some, None, Result, refl, sym, ap, subst, ◌∙◌, arith, append-nil, cons_option, sum_by, option_to_list, drop_of_length-le, get_or-eq_default, sum_by-cons, sum_by-set, slice_get_within, Event, Reply, one_if, accepted_in, Message, Run, State, count_of, Subqueue, eqb_same, start_sound, Sound, gate_effect, none_unfinished, Answer, Replied, Deferred, Request, RequestError, AllDone, accepted_of, line_answers, busy_in, done_of, joined_from, joined_of, joins, put_back_of, taken_of, takes, times, Deferrals, Frontier, deferrals_at, no_deferrals, start, request_for, history_of, line_exchange, state_after, Settings, nil_from_length}
+use Rattle.crawl_core.specs.declared.reply.Reply.TheVariants as says
 use Rattle.crawl_session.proofs.Closings.{session_closes}
 use Rattle.crawl_session.proofs.Compactions.{closes_run, stays_closed}
 use Rattle.crawl_session.proofs.Conserved.{counted_joins, counted_takes, line_of, line_sound, settled_after_lines, starts_free, starts_settled}
@@ -102,7 +102,7 @@ record Shut (settings : Settings) (max : ℕ) (all : List (List ℕ)) : Type 0 w
   owned : Owned (state_after settings (start settings.workers max) all)
   closed : (state_after settings (start settings.workers max) all).machine.gate.closed ≡ true
 
-shut : (settings : Settings) (max : ℕ) (front : List (List ℕ)) (line : List ℕ) → (line_exchange settings (state_after settings (start settings.workers max) front) line).answer ≡ Told told.Closed → Shut settings max (front ++ line ∷ [])
+shut : (settings : Settings) (max : ℕ) (front : List (List ℕ)) (line : List ℕ) → (line_exchange settings (state_after settings (start settings.workers max) front) line).answer ≡ Replied says.Closed → Shut settings max (front ++ line ∷ [])
 shut settings max front line closed =
     let begun = start settings.workers max in
     let all = front ++ line ∷ [] in
@@ -117,12 +117,12 @@ shut settings max front line closed =
       closed = closes_run begun.machine closes.before closes.last (state_after settings begun all).machine fresh (subst (λ h. Run begun.machine h (state_after settings begun all).machine) closes.is (session_runs settings begun all));
     }
 
-pub all_is_done : (settings : Settings) (max : ℕ) (front : List (List ℕ)) (line : List ℕ) → (line_exchange settings (state_after settings (start settings.workers max) front) line).answer ≡ Told told.Closed → AllDone (asked settings (start settings.workers max) (front ++ line ∷ []))
+pub all_is_done : (settings : Settings) (max : ℕ) (front : List (List ℕ)) (line : List ℕ) → (line_exchange settings (state_after settings (start settings.workers max) front) line).answer ≡ Replied says.Closed → AllDone (line_answers settings (start settings.workers max) (front ++ line ∷ []))
 all_is_done settings max front line closed =
     let begun = start settings.workers max in
     let all = front ++ line ∷ [] in
     let end = state_after settings begun all in
-    let told_all = asked settings begun all in
+    let told_all = line_answers settings begun all in
     let is_shut = shut settings max front line closed in
     let none : count_of end.machine ≡ 0 = is_shut.sound.empty is_shut.closed in
     let empty : (queue : ℕ) → Empties end queue = λ queue. empties end queue is_shut.sound is_shut.settled is_shut.owned none in
@@ -163,7 +163,7 @@ closed_run queue old (x ∷ xs) new sound closed run = grind (arith, gate_effect
 takes_none : (queue : ℕ) (r : Result Request RequestError) (answer : Answer) (busy : Option (List ℕ)) → option_to_list (joins queue busy (record { request = r; answer = answer })) ≡ option_to_list (takes queue r answer) ++ [] → takes queue r answer ≡ None
 takes_none queue r answer busy same = grind arith
 
-closed_takes : (settings : Settings) (state : Frontier) (lines : List (List ℕ)) (queue : ℕ) → Sound state.machine → Settled state → Owned state → state.machine.gate.closed ≡ true → taken_of queue (asked settings state lines) ≡ []
+closed_takes : (settings : Settings) (state : Frontier) (lines : List (List ℕ)) (queue : ℕ) → Sound state.machine → Settled state → Owned state → state.machine.gate.closed ≡ true → taken_of queue (line_answers settings state lines) ≡ []
 closed_takes settings state [] queue sound settled owned closed = refl
 closed_takes settings state (line ∷ more) queue sound settled owned closed =
     let r = request_for settings line in
@@ -173,15 +173,15 @@ closed_takes settings state (line ∷ more) queue sound settled owned closed =
     let next_owned = answered_owned state r sound settled owned in
     let next_closed = stays_closed state.machine here.history here.state.machine sound closed (answered_runs state r) in
     let before = empties state queue sound settled owned (sound.empty closed) in
-    let behind = empties here.state queue next_sound passes.settled next_owned (next_sound.empty next_closed) in
+    let following = empties here.state queue next_sound passes.settled next_owned (next_sound.empty next_closed) in
     let flow = (passes.flow queue).line in
     let same : option_to_list (joins queue (busy_of state queue) (record { request = r; answer = here.answer })) ≡ option_to_list (takes queue r here.answer) ++ [] =
-    ap (λ (l : List (List ℕ)). l ++ option_to_list (joins queue (busy_of state queue) (record { request = r; answer = here.answer }))) (sym before.line) ∙ flow ∙ ap (λ (l : List (List ℕ)). option_to_list (takes queue r here.answer) ++ l) behind.line in
-    ap (λ (o : Option (List ℕ)). cons_option o (taken_of queue (asked settings here.state more))) (takes_none queue r here.answer (busy_of state queue) same)
+    ap (λ (l : List (List ℕ)). l ++ option_to_list (joins queue (busy_of state queue) (record { request = r; answer = here.answer }))) (sym before.line) ∙ flow ∙ ap (λ (l : List (List ℕ)). option_to_list (takes queue r here.answer) ++ l) following.line in
+    ap (λ (o : Option (List ℕ)). cons_option o (taken_of queue (line_answers settings here.state more))) (takes_none queue r here.answer (busy_of state queue) same)
     ∙ closed_takes settings here.state more queue next_sound passes.settled next_owned next_closed
 
-pub closed_for_good : (settings : Settings) (max : ℕ) (front : List (List ℕ)) (line : List ℕ) (back : List (List ℕ)) (queue : ℕ) → (line_exchange settings (state_after settings (start settings.workers max) front) line).answer ≡ Told told.Closed
-    → (accepted_of queue (asked settings (state_after settings (start settings.workers max) (front ++ line ∷ [])) back) ≡ []) × (taken_of queue (asked settings (state_after settings (start settings.workers max) (front ++ line ∷ [])) back) ≡ [])
+pub closed_for_good : (settings : Settings) (max : ℕ) (front : List (List ℕ)) (line : List ℕ) (back : List (List ℕ)) (queue : ℕ) → (line_exchange settings (state_after settings (start settings.workers max) front) line).answer ≡ Replied says.Closed
+    → (accepted_of queue (line_answers settings (state_after settings (start settings.workers max) (front ++ line ∷ [])) back) ≡ []) × (taken_of queue (line_answers settings (state_after settings (start settings.workers max) (front ++ line ∷ [])) back) ≡ [])
 closed_for_good settings max front line back queue closed =
     let here = state_after settings (start settings.workers max) (front ++ line ∷ []) in
     let is_shut = shut settings max front line closed in (

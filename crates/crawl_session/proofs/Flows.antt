@@ -1,14 +1,14 @@
 -- What happens in each queue is what the answers say.
-use Rattle.crawl_session.proofs.Prelude.{common_steps, ◌≡◌, ◌⊎◌, inl, inr, ℕ, zero, suc, ◌≤◌, Bool, true, false, not, ◌&&◌, ◌||◌, if◌then◌else◌, is_some, List, [], ◌∷◌, length, slice_get, slice_set, Option, Some, None, Result, Ok, Err, refl, sym, ap, subst, ◌∙◌, arith, true≢false, get_or-eq_default, Reply, fetch_of, in_fetch, GateTurn, gave_back, holds, let_go, turned_away, can_hand_over, is_fetching, Message, has_url, State, count_of, unfinished_in, Turn, turn, admit_to, counted, done_with, put, refused, take_from, with_subqueue, Subqueue, after_accepting, after_finishing, after_taking, next_message, oldest, there, cond_both, Sound, Answer, Told, Deferred, Request, Offer, Next, Again, Later, Done, EndSeeds, Seen, Stats, RequestError, finishes, joins, puts_back, takes, Exchange, Outcome, accepted_at, admitting, after, by_machine, client, deferring, deferring_taken, ends, exchange, finishing, handing, is_count, is_due, is_empty, is_entered, is_seen, noted, offering, put_back, replies, retaking, seeds_ended, taking, taking_again, taking_next, Deferrals, Frontier, deferrals_at, waits_again, with_deferrals, answered}
+use Rattle.crawl_session.proofs.Prelude.{common_steps, ◌≡◌, ◌⊎◌, inl, inr, ℕ, zero, suc, ◌≤◌, Bool, true, false, not, ◌&&◌, ◌||◌, if◌then◌else◌, is_some, List, [], ◌∷◌, length, slice_get, slice_set, Option, Some, None, Result, Ok, Err, refl, sym, ap, subst, ◌∙◌, arith, true≢false, get_or-eq_default, Reply, fetch_of, in_fetch, GateTurn, gave_back, holds, let_go, turned_away, can_hand_over, is_fetching, Message, has_url, State, count_of, unfinished_in, Turn, turn, admit_to, counted, done_with, put, refused, take_from, with_subqueue, Subqueue, after_accepting, after_finishing, after_taking, next_message, oldest, there, cond_both, Sound, Answer, Replied, Deferred, Request, Offer, Next, Again, Later, Done, EndSeeds, Seen, Stats, RequestError, finishes, joins, puts_back, takes, Exchange, Outcome, accepted_at, admitting, after, by_machine, client, deferring, deferring_taken, ends, exchange, finishing, handing, is_count, is_due, is_empty, is_entered, is_seen, noted, offering, put_back, replies, retaking, seeds_ended, taking, taking_again, taking_next, Deferrals, Frontier, deferrals_at, waits_again, with_deferrals, answered}
 use Rattle.crawl_core.specs.declared.event.Event.TheVariants as event
-use Rattle.crawl_core.specs.declared.reply.Reply.TheVariants as told
+use Rattle.crawl_core.specs.declared.reply.Reply.TheVariants as says
 use Rattle.crawl_core.specs.declared.reply.Refusal.TheVariants as why
 use Rattle.crawl_session.specs.Exchanges as exchanges
 use Rattle.crawl_session.proofs.Choices.{either_way}
 use Rattle.crawl_session.proofs.InLine.{Within, within_push}
 use Rattle.crawl_session.proofs.Joined.{Fine, Flow, busy_at, fine_accepts, flow_accepts, flow_defers, flow_defers_again, flow_finishes, flow_finishes_again, flow_retakes, flow_still, flow_takes}
-use Rattle.crawl_session.proofs.Queues.{Change, Passes, Quietly, Settled, as_told, busy_of, change_both, change_deferrals, change_queue, flow_after, passes_gate, passes_still, queue_at, settled_after}
-use Rattle.crawl_session.proofs.Sees.{entry_tells, is_other}
+use Rattle.crawl_session.proofs.Queues.{Change, Passes, Quietly, Settled, as_answered, busy_of, change_both, change_deferrals, change_queue, flow_after, passes_gate, passes_still, queue_at, settled_after}
+use Rattle.crawl_session.proofs.Sees.{entry_says, is_other}
 
 -- ---- an offer
 
@@ -18,27 +18,27 @@ as_offer url named = Ok (Offer url named)
 -- the queue has one more URL, or nothing happens
 abbrev Accepts : State → List ℕ → ℕ → Exchange → Type 0
 Accepts state url named x =
-    (found : Subqueue) × ((number : ℕ) × ((slice_get state.subqueues named ≡ Some found) × ((x.answer ≡ Told (told.Accepted named number)) × (x.state.subqueues ≡ slice_set state.subqueues named (after_accepting found (next_message found client url))))))
+    (found : Subqueue) × ((number : ℕ) × ((slice_get state.subqueues named ≡ Some found) × ((x.answer ≡ Replied (says.Accepted named number)) × (x.state.subqueues ≡ slice_set state.subqueues named (after_accepting found (next_message found client url))))))
 
 abbrev Offers : State → List ℕ → ℕ → Exchange → Type 0
 Offers state url named x = ((x.state.subqueues ≡ state.subqueues) × Quietly (as_offer url named) x.answer) ⊎ Accepts state url named x
 
-other_quiet : (url : List ℕ) (named : ℕ) (reply : Reply) → is_other reply ≡ true → Quietly (as_offer url named) (Told reply)
+other_quiet : (url : List ℕ) (named : ℕ) (reply : Reply) → is_other reply ≡ true → Quietly (as_offer url named) (Replied reply)
 unfolding is_other
 other_quiet url named reply other = grind arith
 
 -- what comes of an admission by its turn
 abbrev admitted_by : Turn → List ℕ → ℕ → Exchange
 admitted_by done url named =
-    let rest = if is_seen done.reply then after done.state (event.Back client) (λ _ left. ends told.Seen left) else ends done.reply done.state in
+    let rest = if is_seen done.reply then after done.state (event.Back client) (λ _ left. ends says.Seen left) else ends done.reply done.state in
     record rest { history = (event.Admit client url named, done.reply) ∷ rest.history }
 
 admits : (state : State) (url : List ℕ) (named : ℕ) (queue : Option Subqueue) → slice_get state.subqueues named ≡ queue → Offers state url named (admitted_by (admit_to state client url named queue) url named)
 admits state url named None at = inl (refl, λ queue busy. (refl, (refl, refl)))
 admits state url named (Some found) at =
-    either_way (λ (t : Turn). Offers state url named (admitted_by t url named)) (not (holds state.gate client)) (refused state why.Nothing) (if has_url found.accepted url then record { reply = told.Seen; state = state } else put state client url named found)
+    either_way (λ (t : Turn). Offers state url named (admitted_by t url named)) (not (holds state.gate client)) (refused state why.Nothing) (if has_url found.accepted url then record { reply = says.Seen; state = state } else put state client url named found)
     (inl (refl, λ queue busy. (refl, (refl, refl))))
-    (either_way (λ (t : Turn). Offers state url named (admitted_by t url named)) (has_url found.accepted url) (record { reply = told.Seen; state = state }) (put state client url named found)
+    (either_way (λ (t : Turn). Offers state url named (admitted_by t url named)) (has_url found.accepted url) (record { reply = says.Seen; state = state }) (put state client url named found)
     (inl (refl, λ queue busy. (refl, (refl, refl))))
     (inr (found, ((next_message found client url).number, (at, (refl, refl))))))
 
@@ -48,7 +48,7 @@ offers state url named =
     let entered = turn looked (event.Enter client) in
     either_way (λ (x : Exchange). Offers state url named x) (is_entered entered.reply) (admitting entered.state url named) (ends entered.reply entered.state)
     (admits entered.state url named (slice_get state.subqueues named) refl)
-    (inl (refl, other_quiet url named entered.reply (entry_tells looked client)))
+    (inl (refl, other_quiet url named entered.reply (entry_says looked client)))
 
 offer_passes : (state : Frontier) (url : List ℕ) (named : ℕ) (x : Exchange) → Sound state.machine → Settled state → Offers state.machine url named x → Passes state (as_offer url named) (by_machine state x)
 offer_passes state url named x sound settled (inl same) = passes_gate state (as_offer url named) x settled same.0 same.1
@@ -60,7 +60,7 @@ offer_passes state url named x sound settled (inr (found, (number, (at, (answer,
     let flow = subst (λ (o : Option Subqueue). Flow o deferrals (Some url) None false (Some (after_accepting found m)) deferrals) (sym at) (flow_accepts found m deferrals (sound.queues named found at) fine) in
     record {
       settled = settled_after state (record state { machine = x.state }) named (Some (after_accepting found m)) deferrals settled change (fine_accepts found m deferrals fine);
-      flow = λ queue. subst (λ (a : Answer). Flow (queue_at state queue) (deferrals_at state queue) (joins queue (busy_of state queue) (as_told (as_offer url named) a)) (takes queue (as_offer url named) a) (finishes queue (as_offer url named) a || puts_back queue (as_offer url named) a) (slice_get x.state.subqueues queue) (deferrals_at state queue)) (sym answer)
+      flow = λ queue. subst (λ (a : Answer). Flow (queue_at state queue) (deferrals_at state queue) (joins queue (busy_of state queue) (as_answered (as_offer url named) a)) (takes queue (as_offer url named) a) (finishes queue (as_offer url named) a || puts_back queue (as_offer url named) a) (slice_get x.state.subqueues queue) (deferrals_at state queue)) (sym answer)
           (flow_after state (record state { machine = x.state }) named (Some (after_accepting found m)) deferrals (λ _ b. if b then Some url else None) (λ _ _. None) (λ _. false) change flow (λ there. (refl, (refl, refl))) queue);
     }
 
@@ -75,7 +75,7 @@ as_next named = Ok (Next named)
 
 abbrev TakesOne : State → ℕ → Exchange → Type 0
 TakesOne state named x =
-    (found : Subqueue) × ((m : Message) × ((slice_get state.subqueues named ≡ Some found) × ((found.busy ≡ false) × ((oldest found ≡ Some m) × ((x.answer ≡ Told (told.Taken m.url)) × (x.state.subqueues ≡ slice_set state.subqueues named (after_taking found)))))))
+    (found : Subqueue) × ((m : Message) × ((slice_get state.subqueues named ≡ Some found) × ((found.busy ≡ false) × ((oldest found ≡ Some m) × ((x.answer ≡ Replied (says.Taken m.url)) × (x.state.subqueues ≡ slice_set state.subqueues named (after_taking found)))))))
 
 abbrev Takes : State → ℕ → Exchange → Type 0
 Takes state named x = ((x.state.subqueues ≡ state.subqueues) × Quietly (as_next named) x.answer) ⊎ TakesOne state named x
@@ -100,7 +100,7 @@ take_passes state named x settled none due (inr (found, (m, (at, (idle, (first, 
     let flow = subst (λ (o : Option Subqueue). Flow o deferrals None (Some m.url) false (Some (after_taking found)) deferrals) (sym at) (flow_takes found m deferrals first idle none not_due) in
     record {
       settled = settled_after state (record state { machine = x.state }) named (Some (after_taking found)) deferrals settled change taken;
-      flow = λ queue. subst (λ (a : Answer). Flow (queue_at state queue) (deferrals_at state queue) (joins queue (busy_of state queue) (as_told (as_next named) a)) (takes queue (as_next named) a) (finishes queue (as_next named) a || puts_back queue (as_next named) a) (slice_get x.state.subqueues queue) (deferrals_at state queue)) (sym answer)
+      flow = λ queue. subst (λ (a : Answer). Flow (queue_at state queue) (deferrals_at state queue) (joins queue (busy_of state queue) (as_answered (as_next named) a)) (takes queue (as_next named) a) (finishes queue (as_next named) a || puts_back queue (as_next named) a) (slice_get x.state.subqueues queue) (deferrals_at state queue)) (sym answer)
           (flow_after state (record state { machine = x.state }) named (Some (after_taking found)) deferrals (λ _ _. None) (λ _ b. if b then Some m.url else None) (λ _. false) change flow (λ there. (refl, (refl, refl))) queue);
     }
 
@@ -124,7 +124,7 @@ retake_passes state named (Some found) (first ∷ more) at waits settled none du
     free b c e = grind arith
 
 next_passes : (state : Frontier) (named : ℕ) (fetched : Option Deferred) → (deferrals_at state named).fetched ≡ fetched → Settled state → Passes state (as_next named) (taking_next state named (deferrals_at state named).waiting fetched)
-next_passes state named (Some url) is settled = passes_still state (as_next named) (told.Refused why.Busy) settled (λ queue busy. (refl, (refl, refl)))
+next_passes state named (Some url) is settled = passes_still state (as_next named) (says.Refused why.Busy) settled (λ queue busy. (refl, (refl, refl)))
 next_passes state named None is settled =
     cond_both (Passes state (as_next named)) (is_due (queue_at state named) (deferrals_at state named).waiting) (retaking state named (deferrals_at state named).waiting) (by_machine state (taking state.machine named))
     (λ due. retake_passes state named (queue_at state named) (deferrals_at state named).waiting refl refl settled is due)
@@ -137,15 +137,15 @@ as_done named = Ok (Done named)
 
 abbrev Finishes : State → ℕ → Exchange → Type 0
 Finishes state named x =
-    (found : Subqueue) × ((left : ℕ) × ((slice_get state.subqueues named ≡ Some found) × ((found.busy ≡ true) × ((x.answer ≡ Told (told.Count left)) × (x.state.subqueues ≡ slice_set state.subqueues named (after_finishing found))))))
+    (found : Subqueue) × ((left : ℕ) × ((slice_get state.subqueues named ≡ Some found) × ((found.busy ≡ true) × ((x.answer ≡ Replied (says.Count left)) × (x.state.subqueues ≡ slice_set state.subqueues named (after_finishing found))))))
 
 abbrev Ends : State → ℕ → Exchange → Type 0
 Ends state named x = ((x.state.subqueues ≡ state.subqueues) × Quietly (as_done named) x.answer) ⊎ Finishes state named x
 
-ends_from : (state : State) (named : ℕ) (queue : Option Subqueue) → slice_get state.subqueues named ≡ queue → Ends state named (record { history = (event.Done named, (done_with state named queue).reply) ∷ []; answer = Told (done_with state named queue).reply; state = (done_with state named queue).state })
+ends_from : (state : State) (named : ℕ) (queue : Option Subqueue) → slice_get state.subqueues named ≡ queue → Ends state named (record { history = (event.Done named, (done_with state named queue).reply) ∷ []; answer = Replied (done_with state named queue).reply; state = (done_with state named queue).state })
 ends_from state named None at = inl (refl, λ queue busy. (refl, (refl, refl)))
 ends_from state named (Some found) at =
-    cond_both (λ (t : Turn). Ends state named (record { history = (event.Done named, t.reply) ∷ []; answer = Told t.reply; state = t.state })) found.busy (counted (with_subqueue state named (after_finishing found))) (refused state why.Nothing)
+    cond_both (λ (t : Turn). Ends state named (record { history = (event.Done named, t.reply) ∷ []; answer = Replied t.reply; state = t.state })) found.busy (counted (with_subqueue state named (after_finishing found))) (refused state why.Nothing)
     (λ busy. inr (found, (count_of (with_subqueue state named (after_finishing found)), (at, (busy, (refl, refl))))))
     (λ idle. inl (refl, λ queue busy. (refl, (refl, refl))))
 
@@ -164,7 +164,7 @@ done_passes state named x sound settled (inr (found, (left, (at, (busy, (answer,
     let flow = subst (λ (o : Option Subqueue). Flow o deferrals None None true (Some (after_finishing found)) deferrals) (sym at) (flow_finishes found deferrals (sound.queues named found at) busy none) in
     record {
       settled = settled_after state (record state { machine = x.state }) named (Some (after_finishing found)) deferrals settled change finished;
-      flow = λ queue. subst (λ (a : Answer). Flow (queue_at state queue) (deferrals_at state queue) (joins queue (busy_of state queue) (as_told (as_done named) a)) (takes queue (as_done named) a) (finishes queue (as_done named) a || puts_back queue (as_done named) a) (slice_get x.state.subqueues queue) (deferrals_at state queue)) (sym answer)
+      flow = λ queue. subst (λ (a : Answer). Flow (queue_at state queue) (deferrals_at state queue) (joins queue (busy_of state queue) (as_answered (as_done named) a)) (takes queue (as_done named) a) (finishes queue (as_done named) a || puts_back queue (as_done named) a) (slice_get x.state.subqueues queue) (deferrals_at state queue)) (sym answer)
           (flow_after state (record state { machine = x.state }) named (Some (after_finishing found)) deferrals (λ _ _. None) (λ _ _. None) (λ b. b || false) change flow (λ there. (refl, (refl, refl))) queue);
     }
 
@@ -183,7 +183,7 @@ back_by state named sender t =
     let left : Frontier = record state { machine = record state.machine { gate = t.gate } } in
     record {
       history = (event.Back sender, t.reply) ∷ [];
-      answer = Told t.reply;
+      answer = Replied t.reply;
       state = if is_count t.reply then with_deferrals left named (record { waiting = (deferrals_at state named).waiting; fetched = None }) else left;
     }
 
@@ -192,7 +192,7 @@ finish_again_passes state named d found at is settled =
     let gate = state.machine.gate in
     let messages = unfinished_in state.machine in
     either_way (λ (t : GateTurn). Passes state (as_done named) (back_by state named d.sender t)) (holds gate d.sender) (gave_back (let_go gate d.sender) messages) (turned_away gate why.Nothing)
-    given (let still = passes_still state (as_done named) (told.Refused why.Nothing) settled (λ queue busy. (refl, (refl, refl))) in record { settled = still.settled; flow = still.flow })
+    given (let still = passes_still state (as_done named) (says.Refused why.Nothing) settled (λ queue busy. (refl, (refl, refl))) in record { settled = still.settled; flow = still.flow })
   where
     deferrals : Deferrals
     deferrals = deferrals_at state named
@@ -255,14 +255,14 @@ defer_passes state named url found at fetched sound settled =
     }
 
 taken_passes : (state : Frontier) (named : ℕ) (found : Option (Option (List ℕ))) → in_fetch state.machine named ≡ found → Sound state.machine → Settled state → Passes state (as_later named) (deferring_taken state named found)
-taken_passes state named None is sound settled = passes_still state (as_later named) (told.Refused why.NoSuch) settled (λ queue busy. (refl, (refl, refl)))
-taken_passes state named (Some None) is sound settled = passes_still state (as_later named) (told.Refused why.Nothing) settled (λ queue busy. (refl, (refl, refl)))
+taken_passes state named None is sound settled = passes_still state (as_later named) (says.Refused why.NoSuch) settled (λ queue busy. (refl, (refl, refl)))
+taken_passes state named (Some None) is sound settled = passes_still state (as_later named) (says.Refused why.Nothing) settled (λ queue busy. (refl, (refl, refl)))
 taken_passes state named (Some (Some url)) is sound settled =
     let sender = suc state.senders in
     let here = there fetch_of (queue_at state named) (Some url) is in
-    either_way (Passes state (as_later named)) (can_hand_over state.machine named sender) (by_machine (record (put_back state named url sender) { senders = sender }) (handing state.machine named sender)) (replies (told.Refused why.Nothing) state)
+    either_way (Passes state (as_later named)) (can_hand_over state.machine named sender) (by_machine (record (put_back state named url sender) { senders = sender }) (handing state.machine named sender)) (replies (says.Refused why.Nothing) state)
     (defer_passes state named url here.0 here.1 here.2 sound settled)
-    (passes_still state (as_later named) (told.Refused why.Nothing) settled (λ queue busy. (refl, (refl, refl))))
+    (passes_still state (as_later named) (says.Refused why.Nothing) settled (λ queue busy. (refl, (refl, refl))))
 
 defer_again_passes : (state : Frontier) (named : ℕ) (u : Deferred) (found : Subqueue) → queue_at state named ≡ Some found → (deferrals_at state named).fetched ≡ Some u → Sound state.machine → Settled state → Passes state (as_later named) (deferring state named (Some u))
 defer_again_passes state named u found at fetched sound settled =

@@ -1,14 +1,14 @@
 -- What is read of an old session is what its answers say, each URL as often.
-use Rattle.crawl_session.proofs.Prelude.{◌≡◌, ℕ, zero, suc, ◌+◌, ◌≤◌, ◌<◌, Bool, true, false, not, cond, if◌then◌else◌, nat_eq, nat_lt, List, [], ◌∷◌, ◌++◌, take, Option, Some, None, Result, refl, sym, ap, ◌∙◌, true≢false, arith, append_assoc, append-nil, nat_tests, option_to_list, bytes_eq, slice_get, sum_by-cons, take_all, filter_map-append, same_text, eqb_same, subqueue_of, start_sound, Row, Request, RequestError, accepted_of, asked, busy_before, done_urls, taken_of, times, Frontier, start, done_by, done_in, pending_at, request_for, state_after, Settings}
+use Rattle.crawl_session.proofs.Prelude.{◌≡◌, ℕ, zero, suc, ◌+◌, ◌≤◌, ◌<◌, Bool, true, false, not, cond, if◌then◌else◌, nat_eq, nat_lt, List, [], ◌∷◌, ◌++◌, take, Option, Some, None, Result, refl, sym, ap, ◌∙◌, true≢false, arith, append_assoc, append-nil, nat_tests, option_to_list, bytes_eq, slice_get, sum_by-cons, take_all, filter_map-append, same_text, eqb_same, subqueue_of, start_sound, Row, Request, RequestError, accepted_of, line_answers, busy_before, done_urls, taken_of, times, Frontier, start, done_by, done_in, pending_at, request_for, state_after, Settings}
 use Rattle.std.specs.List.{filter}
 use Rattle.crawl_session.specs.declared.list.Row.TheVariants as variant
 use Rattle.crawl_session.specs.Listing.{done_of, in_progress_below, pending_below, url_of_queue, urls_of}
-use Rattle.crawl_session.specs.Rebuilding.{Inventory, by_turns, empty, in_queue, inventory, is_left_out, kept, longest, queues_below, row_url, turn, turns_below, unless_empty, unless_left_out, urls_in, with_asked, with_line, with_lines}
+use Rattle.crawl_session.specs.Rebuilding.{Inventory, by_turns, empty, in_queue, inventory, is_left_out, kept, longest, queues_below, row_url, turn, turns_below, unless_empty, unless_left_out, urls_in, with_requested, with_line, with_lines}
 use Rattle.crawl_session.proofs.Assigned.{assigned_below}
 use Rattle.crawl_session.proofs.Conserved.{line_of, settled_after_lines, starts_free, starts_settled}
 use Rattle.crawl_session.proofs.Drained.{Fit}
 use Rattle.crawl_session.proofs.Emptied.{owned_after_lines}
-use Rattle.crawl_session.proofs.Listed.{busy_told, done_after, done_told, lists_told, pending_told, was_done}
+use Rattle.crawl_session.proofs.Listed.{busy_answered, done_after, done_answered, lists_answered, pending_answered, was_done}
 use Rattle.crawl_session.proofs.Onces.{each_once}
 use Rattle.crawl_session.proofs.Owned.{starts_owned}
 use Rattle.crawl_session.proofs.Queues.{busy_of}
@@ -178,7 +178,7 @@ queues_total url (suc n) state =
 
 -- ---- what was read
 
-line_done : (state : Frontier) (had : Inventory) (r : Result Request RequestError) → (with_asked state had r).done ≡ had.done ++ urls_in (done_of r state).rows
+line_done : (state : Frontier) (had : Inventory) (r : Result Request RequestError) → (with_requested state had r).done ≡ had.done ++ urls_in (done_of r state).rows
 line_done state had r = grind (arith, append-nil)
 
 lines_done : (settings : Settings) (state : Frontier) (had : Inventory) (lines : List (List ℕ)) → (with_lines settings state had lines).done ≡ had.done ++ urls_in (done_in settings lines state).rows
@@ -191,15 +191,15 @@ lines_done settings state had (line ∷ more) =
     ∙ ap (λ urls. had.done ++ urls) (sym (filter_map-append row_url here.rows (done_in settings more here.state).rows))
 
 -- a URL that an answer of a queue accepted is assigned to it
-accepted_own : (settings : Settings) (most : ℕ) (lines : List (List ℕ)) (queue : ℕ) (url : List ℕ) → 1 ≤ times url (accepted_of queue (asked settings (start settings.workers most) lines)) → queue ≡ subqueue_of url settings.workers
+accepted_own : (settings : Settings) (most : ℕ) (lines : List (List ℕ)) (queue : ℕ) (url : List ℕ) → 1 ≤ times url (accepted_of queue (line_answers settings (start settings.workers most) lines)) → queue ≡ subqueue_of url settings.workers
 accepted_own settings most lines queue url some =
-    let place = some_place url (accepted_of queue (asked settings (start settings.workers most) lines)) some in
+    let place = some_place url (accepted_of queue (line_answers settings (start settings.workers most) lines)) some in
     (each_once settings most lines).assigned queue place.0 url place.1
 
 -- what the lists of an old session have, and the state after its lines
 pub record Read (settings : Settings) (most : ℕ) (lines : List (List ℕ)) : Type 0 where
   pub fit : Fit (state_after settings (start settings.workers most) lines)
-  pub done : (queue : ℕ) → urls_of queue (done_in settings lines (start settings.workers most)).rows ≡ done_urls queue (asked settings (start settings.workers most) lines)
+  pub done : (queue : ℕ) → urls_of queue (done_in settings lines (start settings.workers most)).rows ≡ done_urls queue (line_answers settings (start settings.workers most) lines)
 
 pub read_lines : (settings : Settings) (most : ℕ) (lines : List (List ℕ)) → Read settings most lines
 read_lines settings most lines =
@@ -209,12 +209,12 @@ read_lines settings most lines =
     let both = settled_after_lines settings begun lines sound settled in
     record {
       fit = record { sound = both.0; settled = both.1; owned = owned_after_lines settings begun lines sound settled (starts_owned settings.workers most) };
-      done = λ queue. done_told settings begun lines queue sound settled ∙ ap (λ (o : Option (List ℕ)). busy_before (was_done queue) queue o (asked settings begun lines)) (starts_free settings.workers most queue);
+      done = λ queue. done_answered settings begun lines queue sound settled ∙ ap (λ (o : Option (List ℕ)). busy_before (was_done queue) queue o (line_answers settings begun lines)) (starts_free settings.workers most queue);
     }
 
 done_own : (settings : Settings) (most : ℕ) (lines : List (List ℕ)) → AreOwn settings.workers (done_in settings lines (start settings.workers most)).rows
 done_own settings most lines queue url some =
-    let all = asked settings (start settings.workers most) lines in
+    let all = line_answers settings (start settings.workers most) lines in
     let returns = again_if_put_back settings most lines in
     let is = ap (times url) ((read_lines settings most lines).done queue) in
     let sum = returns.ended queue url in
@@ -228,23 +228,23 @@ below_or queue n url urls some = grind (arith, nat_tests)
 pub busy_own : (settings : Settings) (most : ℕ) (lines : List (List ℕ)) → AreOwn settings.workers (in_progress_below settings.workers (state_after settings (start settings.workers most) lines)).rows
 busy_own settings most lines queue url some =
     let end = state_after settings (start settings.workers most) lines in
-    let is = ap (times url) (busy_told end queue settings.workers).rows in
+    let is = ap (times url) (busy_answered end queue settings.workers).rows in
     let below = below_or queue settings.workers url (option_to_list (busy_of end queue)) (omega (arith, some, is)) in
-    let each = (lists_told settings most lines queue below).each url in
+    let each = (lists_answered settings most lines queue below).each url in
     accepted_own settings most lines queue url (omega (arith, some, each))
 
 pub pending_own : (settings : Settings) (most : ℕ) (lines : List (List ℕ)) → AreOwn settings.workers (pending_below settings.workers (state_after settings (start settings.workers most) lines)).rows
 pending_own settings most lines queue url some =
     let end = state_after settings (start settings.workers most) lines in
-    let is = ap (times url) (pending_told end queue settings.workers (read_lines settings most lines).fit).rows in
+    let is = ap (times url) (pending_answered end queue settings.workers (read_lines settings most lines).fit).rows in
     let below = below_or queue settings.workers url (line_of end queue) (omega (arith, some, is)) in
-    let each = (lists_told settings most lines queue below).each url in
+    let each = (lists_answered settings most lines queue below).each url in
     accepted_own settings most lines queue url (omega (arith, some, each))
 
 -- how often an inventory has a URL
 pub record Has (settings : Settings) (most : ℕ) (lines : List (List ℕ)) (url : List ℕ) : Type 0 where
-  pub done : times url (inventory settings most lines).done ≡ times url (done_urls (subqueue_of url settings.workers) (asked settings (start settings.workers most) lines))
-  pub all : times url (inventory settings most lines).done + (times url (inventory settings most lines).in_progress + times url (by_turns (inventory settings most lines).pending)) ≡ times url (accepted_of (subqueue_of url settings.workers) (asked settings (start settings.workers most) lines))
+  pub done : times url (inventory settings most lines).done ≡ times url (done_urls (subqueue_of url settings.workers) (line_answers settings (start settings.workers most) lines))
+  pub all : times url (inventory settings most lines).done + (times url (inventory settings most lines).in_progress + times url (by_turns (inventory settings most lines).pending)) ≡ times url (accepted_of (subqueue_of url settings.workers) (line_answers settings (start settings.workers most) lines))
 
 pub has : (settings : Settings) (most : ℕ) (lines : List (List ℕ)) (url : List ℕ) → 1 ≤ settings.workers → Has settings most lines url
 has settings most lines url some =
@@ -253,18 +253,18 @@ has settings most lines url some =
     let had = inventory settings most lines in
     let queue = subqueue_of url settings.workers in
     let below : queue < settings.workers = assigned_below settings.workers url queue some refl in
-    let told = lists_told settings most lines queue below in
+    let its_reply = lists_answered settings most lines queue below in
     let ended_rows = (done_in settings lines begun).rows in
     let busy_rows = (in_progress_below settings.workers end).rows in
     let rows = (pending_below settings.workers end).rows in
     let after = done_after settings lines begun in
     let done = ap (times url) (lines_done settings begun empty lines) ∙ whole settings.workers ended_rows (done_own settings most lines) url in
     let busy = ap (λ (s : Frontier). times url (urls_in (in_progress_below settings.workers s).rows)) after ∙ whole settings.workers busy_rows (busy_own settings most lines) url in
-    let same : (in_progress_below settings.workers (done_in settings lines begun).state).state ≡ end = ap (λ (s : Frontier). (in_progress_below settings.workers s).state) after ∙ (busy_told end queue settings.workers).after in
+    let same : (in_progress_below settings.workers (done_in settings lines begun).state).state ≡ end = ap (λ (s : Frontier). (in_progress_below settings.workers s).state) after ∙ (busy_answered end queue settings.workers).after in
     let turns = all_turns url (longest had.pending) had.pending (omega arith) in
     let waits : total url had.pending ≡ times url (urls_of queue rows) = ap (λ (s : Frontier). total url (queues_below settings.workers s).queues) same ∙ queues_total url settings.workers end ∙ whole settings.workers rows (pending_own settings most lines) url in
-    let each = told.each url in
+    let each = its_reply.each url in
     record {
-      done = done ∙ ap (times url) told.done;
+      done = done ∙ ap (times url) its_reply.done;
       all = omega (arith, done, busy, turns, waits, each);
     }

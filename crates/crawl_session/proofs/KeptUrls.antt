@@ -1,5 +1,5 @@
 -- A rebuilt log keeps the URLs.
-use Rattle.crawl_session.proofs.Prelude.{◌≡◌, ℕ, ◌+◌, ◌<◌, ◌^◌, Bool, true, false, if◌then◌else◌, List, [], ◌++◌, refl, ap, ◌∙◌, arith, append-nil, asked, subqueue_of, times, start, Settings}
+use Rattle.crawl_session.proofs.Prelude.{◌≡◌, ℕ, ◌+◌, ◌<◌, ◌^◌, Bool, true, false, if◌then◌else◌, List, [], ◌++◌, refl, ap, ◌∙◌, arith, append-nil, line_answers, subqueue_of, times, start, Settings}
 use Rattle.crawl_session.specs.Rebuilding.{KeepsUrls, by_turns, inventory, kept, rebuilt, unless_left_out, is_left_out}
 use Rattle.crawl_session.specs.Settings.{IsSession}
 use Rattle.crawl_session.proofs.Assigned.{assigned_below}
@@ -20,7 +20,7 @@ left_sum settings url a b c = by_out (is_left_out settings url)
     by_out false = omega arith
 
 pub keeps : (old new : Settings) (most room : ℕ) (lines : List (List ℕ)) (queue : ℕ) → IsSession old → IsSession new → (rebuilt new queue (inventory old most lines) (start new.workers room)).fits ≡ true
-    → KeepsUrls old new (asked old (start old.workers most) lines) (asked new (start new.workers room) (rebuilt new queue (inventory old most lines) (start new.workers room)).lines)
+    → KeepsUrls old new (line_answers old (start old.workers most) lines) (line_answers new (start new.workers room) (rebuilt new queue (inventory old most lines) (start new.workers room)).lines)
 keeps old new most room lines queue is_old is_new fits =
     let had = inventory old most lines in
     let flows = (rebuilt_adds new queue had (start new.workers room) (small_queues new is_new) fits).flows in

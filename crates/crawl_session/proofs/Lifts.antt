@@ -13,9 +13,9 @@ pub same_lifts : {X E : Type 0} (old new : Kept) (deferrals : List Deferrals) (s
 same_lifts old new deferrals senders seen result same = grind arith
 
 -- nothing happened
-pub given_up_at_once : (old new : KeptFrontier) → new ≡ old → GivesUp old new
-given_up_at_once old new same state shows = record {
-  machine = machine_steps.gives_up_at_once old.machine new.machine (ap (λ (k : KeptFrontier). k.machine) same) state.machine shows.machine;
+pub given_up_immediately : (old new : KeptFrontier) → new ≡ old → GivesUp old new
+given_up_immediately old new same state shows = record {
+  machine = machine_steps.gives_up_immediately old.machine new.machine (ap (λ (k : KeptFrontier). k.machine) same) state.machine shows.machine;
   deferrals = ap (λ (k : KeptFrontier). k.deferrals) same ∙ shows.deferrals;
   senders = ap (λ (k : KeptFrontier). k.senders) same ∙ shows.senders;
   seen = ap (λ (k : KeptFrontier). k.seen) same ∙ shows.seen;

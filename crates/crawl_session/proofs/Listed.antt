@@ -1,9 +1,9 @@
 -- The lists of a session agree with the answers that its client received.
-use Rattle.crawl_session.proofs.Prelude.{◌≡◌, ℕ, zero, suc, ◌<◌, Bool, true, false, if◌then◌else◌, nat_eq, nat_lt, List, [], ◌∷◌, ◌++◌, map, Option, Some, None, Result, refl, sym, ap, ◌∙◌, arith, append-nil, eqb-true, cons_option, option_map, option_to_list, nat_tests, common_steps, filter_map-append, start_sound, Sound, Row, Request, Again, RequestError, Asked, asked, busy_after, busy_before, busy_in, done_urls, finishes, joined_of, taken_of, times, exchange, Frontier, start, request_for, answered, line_exchange, state_after, Settings}
+use Rattle.crawl_session.proofs.Prelude.{◌≡◌, ℕ, zero, suc, ◌<◌, Bool, true, false, if◌then◌else◌, nat_eq, nat_lt, List, [], ◌∷◌, ◌++◌, map, Option, Some, None, Result, refl, sym, ap, ◌∙◌, arith, append-nil, eqb-true, cons_option, option_map, option_to_list, nat_tests, common_steps, filter_map-append, start_sound, Sound, Row, Request, Again, RequestError, LineAnswer, line_answers, busy_after, busy_before, busy_in, done_urls, finishes, joined_of, taken_of, times, exchange, Frontier, start, request_for, answered, line_exchange, state_after, Settings}
 use Rattle.crawl_session.specs.declared.list.Kind.{Kind}
 use Rattle.crawl_session.specs.declared.list.Kind.TheVariants as kinds
 use Rattle.crawl_session.specs.declared.list.Row.TheVariants as variant
-use Rattle.crawl_session.specs.Listing.{AreTold, Listed, done_by, done_in, done_of, in_progress_below, pending_at, pending_below, url_of_queue, url_row, urls_of}
+use Rattle.crawl_session.specs.Listing.{AreReported, Listed, done_by, done_in, done_of, in_progress_below, pending_at, pending_below, url_of_queue, url_row, urls_of}
 use Rattle.crawl_session.proofs.Conserved.{line_of, line_sound, put_on, settled_after_lines, starts_free, starts_settled}
 use Rattle.crawl_session.proofs.Drained.{Fit, pends}
 use Rattle.crawl_session.proofs.Emptied.{owned_after_lines}
@@ -34,30 +34,30 @@ urls_one queue kind named url = grind arith
 
 -- ---- done
 
-record ToldBy (state : Frontier) (queue : ℕ) (r : Result Request RequestError) (x : Listed) : Type 0 where
+record AnsweredBy (state : Frontier) (queue : ℕ) (r : Result Request RequestError) (x : Listed) : Type 0 where
   rows : urls_of queue x.rows ≡ option_to_list (if finishes queue r (answered state r).answer then busy_of state queue else None)
   after : x.state ≡ (answered state r).state
 
-line_told : (state : Frontier) (queue : ℕ) (r : Result Request RequestError) → ToldBy state queue r (done_of r state)
-line_told state queue r = grind arith
+line_answered : (state : Frontier) (queue : ℕ) (r : Result Request RequestError) → AnsweredBy state queue r (done_of r state)
+line_answered state queue r = grind arith
 
-abbrev pub was_done : ℕ → Asked → Bool
+abbrev pub was_done : ℕ → LineAnswer → Bool
 was_done queue x = finishes queue x.request x.answer
 
-pub done_told : (settings : Settings) (state : Frontier) (lines : List (List ℕ)) (queue : ℕ) → Sound state.machine → Settled state → urls_of queue (done_in settings lines state).rows ≡ busy_before (was_done queue) queue (busy_of state queue) (asked settings state lines)
-done_told settings state [] queue sound settled = refl
-done_told settings state (line ∷ more) queue sound settled =
+pub done_answered : (settings : Settings) (state : Frontier) (lines : List (List ℕ)) (queue : ℕ) → Sound state.machine → Settled state → urls_of queue (done_in settings lines state).rows ≡ busy_before (was_done queue) queue (busy_of state queue) (line_answers settings state lines)
+done_answered settings state [] queue sound settled = refl
+done_answered settings state (line ∷ more) queue sound settled =
     let r = request_for settings line in
     let here = line_exchange settings state line in
-    let x : Asked = record { request = r; answer = here.answer } in
-    let one = line_told state queue r in
+    let x : LineAnswer = record { request = r; answer = here.answer } in
+    let one = line_answered state queue r in
     let passes = answered_passes state r sound settled in
-    let rest = asked settings here.state more in
+    let rest = line_answers settings here.state more in
     let ended_url : Option (List ℕ) = if finishes queue r here.answer then busy_of state queue else None in
     filter_map-append (url_of_queue queue) (done_by settings line state).rows (done_in settings more (done_by settings line state).state).rows
     ∙ ap (λ urls. urls ++ urls_of queue (done_in settings more (done_by settings line state).state).rows) one.rows
     ∙ ap (λ (s : Frontier). option_to_list ended_url ++ urls_of queue (done_in settings more s).rows) one.after
-    ∙ ap (λ urls. option_to_list ended_url ++ urls) (done_told settings here.state more queue (line_sound settings state line sound) passes.settled)
+    ∙ ap (λ urls. option_to_list ended_url ++ urls) (done_answered settings here.state more queue (line_sound settings state line sound) passes.settled)
     ∙ ap (λ (busy : Option (List ℕ)). option_to_list ended_url ++ busy_before (was_done queue) queue busy rest) (passes.flow queue).busy
     ∙ sym (put_on ended_url (busy_before (was_done queue) queue (busy_after queue (busy_of state queue) x) rest))
 
@@ -86,10 +86,10 @@ pub record Busy (state : Frontier) (queue n : ℕ) (x : Listed) : Type 0 where
 own_list : (state : Frontier) (queue n : ℕ) → option_to_list (own queue n (busy_of state n)) ≡ (if nat_eq n queue then option_to_list (busy_of state queue) else [])
 own_list state queue n = grind arith
 
-pub busy_told : (state : Frontier) (queue n : ℕ) → Busy state queue n (in_progress_below n state)
-busy_told state queue zero = record { rows = none_below queue (option_to_list (busy_of state queue)); after = refl }
-busy_told state queue (suc n) =
-    let before = busy_told state queue n in
+pub busy_answered : (state : Frontier) (queue n : ℕ) → Busy state queue n (in_progress_below n state)
+busy_answered state queue zero = record { rows = none_below queue (option_to_list (busy_of state queue)); after = refl }
+busy_answered state queue (suc n) =
+    let before = busy_answered state queue n in
     let mid = (in_progress_below n state).state in
     record {
       rows =
@@ -122,10 +122,10 @@ pub record Left (state : Frontier) (queue n : ℕ) (x : Listed) : Type 0 where
   pub rows : urls_of queue x.rows ≡ (if nat_lt queue n then line_of state queue else [])
   pub left : nat_lt queue n ≡ false → line_of x.state queue ≡ line_of state queue
 
-pub pending_told : (state : Frontier) (queue n : ℕ) → Fit state → Left state queue n (pending_below n state)
-pending_told state queue zero fit = grind (arith, line_of)
-pending_told state queue (suc n) fit =
-    let before = pending_told state queue n fit in
+pub pending_answered : (state : Frontier) (queue n : ℕ) → Fit state → Left state queue n (pending_below n state)
+pending_answered state queue zero fit = grind (arith, line_of)
+pending_answered state queue (suc n) fit =
+    let before = pending_answered state queue n fit in
     let mid = (pending_below n state).state in
     let here = pends mid n before.fit in
     record {
@@ -153,12 +153,12 @@ pending_told state queue (suc n) fit =
 pub is_below : (queue n : ℕ) → queue < n → nat_lt queue n ≡ true
 is_below queue n below = grind (arith, nat_tests, below)
 
-pub lists_told : (settings : Settings) (max : ℕ) (lines : List (List ℕ)) (queue : ℕ) → queue < settings.workers
-    → AreTold (asked settings (start settings.workers max) lines) queue (done_in settings lines (start settings.workers max)).rows (in_progress_below settings.workers (state_after settings (start settings.workers max) lines)).rows
+pub lists_answered : (settings : Settings) (max : ℕ) (lines : List (List ℕ)) (queue : ℕ) → queue < settings.workers
+    → AreReported (line_answers settings (start settings.workers max) lines) queue (done_in settings lines (start settings.workers max)).rows (in_progress_below settings.workers (state_after settings (start settings.workers max) lines)).rows
     (pending_below settings.workers (state_after settings (start settings.workers max) lines)).rows
-lists_told settings max lines queue below =
+lists_answered settings max lines queue below =
     let begun = start settings.workers max in
-    let all = asked settings begun lines in
+    let all = line_answers settings begun lines in
     let end = state_after settings begun lines in
     let sound = start_sound settings.workers max in
     let settled = starts_settled settings.workers max in
@@ -166,12 +166,12 @@ lists_told settings max lines queue below =
     let fit : Fit end = record { sound = both.0; settled = both.1; owned = owned_after_lines settings begun lines sound settled (starts_owned settings.workers max) } in
     let free = starts_free settings.workers max queue in
     let here = is_below queue settings.workers below in
-    let done : urls_of queue (done_in settings lines begun).rows ≡ done_urls queue all = done_told settings begun lines queue sound settled ∙ ap (λ (o : Option (List ℕ)). busy_before (was_done queue) queue o all) free in
+    let done : urls_of queue (done_in settings lines begun).rows ≡ done_urls queue all = done_answered settings begun lines queue sound settled ∙ ap (λ (o : Option (List ℕ)). busy_before (was_done queue) queue o all) free in
     let busy : urls_of queue (in_progress_below settings.workers end).rows ≡ option_to_list (busy_in queue all) =
-    (busy_told end queue settings.workers).rows
+    (busy_answered end queue settings.workers).rows
     ∙ ap (λ b. if b then option_to_list (busy_of end queue) else []) here
     ∙ ap option_to_list (sym (busy_is settings begun lines queue None sound settled (sym free))) in
-    let pending : urls_of queue (pending_below settings.workers end).rows ≡ line_of end queue = (pending_told end queue settings.workers fit).rows ∙ ap (λ b. if b then line_of end queue else []) here in
+    let pending : urls_of queue (pending_below settings.workers end).rows ≡ line_of end queue = (pending_answered end queue settings.workers fit).rows ∙ ap (λ b. if b then line_of end queue else []) here in
     let joined : joined_of queue all ≡ taken_of queue all ++ urls_of queue (pending_below settings.workers end).rows = joined_is settings max lines queue ∙ ap (λ urls. taken_of queue all ++ urls) (sym pending) in
     record {
       done = done;

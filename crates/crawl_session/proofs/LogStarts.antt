@@ -29,12 +29,12 @@ small n fits = number_printed 32 n (omega (arith, fits)) fits
 
 part_some : (i k : ℕ) (more : List ℕ) → i < 2 ^ 32 → k < 2 ^ 32 → part_in (part_text (Some (i, k)) ++ more) ≡ Some (i, (k, more))
 part_some i k more first second =
-    let behind = codes "of" ++ 32 ∷ (decimal k ++ 32 ∷ more) in
-    let one : value_of (codes "part") (codes "part" ++ 32 ∷ (decimal i ++ 32 ∷ behind)) ≡ Some (decimal i, behind) =
-    ap (option_and_then (value_in (codes "part"))) (at_space-joined (codes "part" ++ 32 ∷ (decimal i ++ 32 ∷ behind)) (codes "part") (decimal i ++ 32 ∷ behind) refl refl)
-    ∙ at_space-number (decimal i ++ 32 ∷ behind) (decimal i) behind (small i first).digits refl in
-    let two : value_of (codes "of") behind ≡ Some (decimal k, more) =
-    ap (option_and_then (value_in (codes "of"))) (at_space-joined behind (codes "of") (decimal k ++ 32 ∷ more) refl refl)
+    let following = codes "of" ++ 32 ∷ (decimal k ++ 32 ∷ more) in
+    let one : value_of (codes "part") (codes "part" ++ 32 ∷ (decimal i ++ 32 ∷ following)) ≡ Some (decimal i, following) =
+    ap (option_and_then (value_in (codes "part"))) (at_space-joined (codes "part" ++ 32 ∷ (decimal i ++ 32 ∷ following)) (codes "part") (decimal i ++ 32 ∷ following) refl refl)
+    ∙ at_space-number (decimal i ++ 32 ∷ following) (decimal i) following (small i first).digits refl in
+    let two : value_of (codes "of") following ≡ Some (decimal k, more) =
+    ap (option_and_then (value_in (codes "of"))) (at_space-joined following (codes "of") (decimal k ++ 32 ∷ more) refl refl)
     ∙ at_space-number (decimal k ++ 32 ∷ more) (decimal k) more (small k second).digits refl in
     ap part_in (part_form i k more)
     ∙ ap (option_and_then (λ (a : List ℕ × List ℕ). option_and_then (λ (b : List ℕ × List ℕ). option_and_then (λ number. option_map (λ parts. (number, (parts, b.1))) (number_of 32 b.0)) (number_of 32 a.0)) (value_of (codes "of") a.1))) one

@@ -4,7 +4,7 @@ use Rattle.std.proofs.lemmas.Fmt.{decimal_is_IsNumeral, length-decimal-le}
 use Rattle.std.proofs.lemmas.Str.Parse.{digit_at}
 use Rattle.crawl_keys.specs.HostFilter.{is_good, is_suffix_byte}
 use Rattle.crawl_replay.specs.declared.script.header.Header.{Header}
-use Rattle.crawl_replay.proofs.HeaderWords.{header_said}
+use Rattle.crawl_replay.proofs.HeaderFields.{header_said}
 
 -- ---- the first line
 
@@ -37,9 +37,9 @@ from_word : (p : List ℕ × List ℕ) (b : Bool) (found : List ℕ × List ℕ)
 from_word p b found is e = grind arith
 
 -- the text begins with `within`, a space, the suffix that is cut from it, and a space
-next_stands : (text suffix more : List ℕ) (p : Option (List ℕ × List ℕ)) → at_space text ≡ p → option_and_then suffix_from p ≡ Some (suffix, more) → text ≡ codes "within " ++ (suffix ++ (codes " " ++ more))
-next_stands text suffix more None cut e = absurd (cc)
-next_stands text suffix more (Some p) cut e =
+next_holds : (text suffix more : List ℕ) (p : Option (List ℕ × List ℕ)) → at_space text ≡ p → option_and_then suffix_from p ≡ Some (suffix, more) → text ≡ codes "within " ++ (suffix ++ (codes " " ++ more))
+next_holds text suffix more None cut e = absurd (cc)
+next_holds text suffix more (Some p) cut e =
     let both = from_word p (bytes_eq p.0 (codes "within")) (suffix, more) refl e in
     let word = (bytes_eq-Decides p.0 (codes "within")).0 both.0 in
     joined-at_space text p cut ∙ ap (λ w. w ++ 32 ∷ p.1) word ∙ ap (λ r. codes "within " ++ r) (joined-at_space p.1 (suffix, more) both.1)
@@ -60,7 +60,7 @@ step_back workers max suffixes so_far (b ∷ bs) rest suffix more next are good 
 pub reads_more : (line : List ℕ) (so_far : List (List ℕ)) (rest suffix more : List ℕ) → Reads line so_far rest → next_suffix rest ≡ Some (suffix, more) → Reads line (so_far ++ suffix ∷ []) more
 reads_more line so_far rest suffix more reads next = record {
   written =
-      reads.written ∙ ap (λ r. within_text so_far ++ r) (next_stands rest suffix more (at_space rest) refl next ∙ sym (front_of suffix [] more))
+      reads.written ∙ ap (λ r. within_text so_far ++ r) (next_holds rest suffix more (at_space rest) refl next ∙ sym (front_of suffix [] more))
       ∙ sym (append_assoc (within_text so_far) (within_text (suffix ∷ [])) more)
       ∙ ap (λ t. t ++ more) (sym (flat_map-append (λ (s : List ℕ). codes "within " ++ s ++ codes " ") so_far (suffix ∷ [])));
   follows = λ workers max suffixes good is.

@@ -1,7 +1,7 @@
 -- Nothing but `stats` depends on the numbers of `seen`, and only offers and `seen` change them.
 use Rattle.crawl_session.proofs.Prelude.{◌≡◌, ℕ, suc, Bool, true, false, if◌then◌else◌, List, [], ◌∷◌, slice_get, Option, Some, None, Result, Ok, Err, refl, ap, in_fetch, can_hand_over, turn, Answer, Deferred, Request, Offer, Next, Again, Later, Done, EndSeeds, Seen, Stats, RequestError, Outcome, by_machine, deferring, deferring_taken, exchange, finishing, handing, is_count, is_due, put_back, replies, retaking, taking, taking_again, taking_next, Frontier, deferrals_at, with_deferrals, answered}
 use Rattle.crawl_core.specs.declared.event.Event.TheVariants as event
-use Rattle.crawl_core.specs.declared.reply.Reply.TheVariants as told
+use Rattle.crawl_core.specs.declared.reply.Reply.TheVariants as says
 use Rattle.crawl_core.specs.declared.reply.Refusal.TheVariants as why
 use Rattle.crawl_session.specs.Seen.{add_seen, seen_with}
 
@@ -55,7 +55,7 @@ taken_but state seen named (Some None) = refl
 taken_but state seen named (Some (Some url)) =
     let sender = suc state.senders in
     let hands : Frontier → Outcome = λ s. by_machine (record (put_back s named url sender) { senders = sender }) (handing state.machine named sender) in
-    but_if (can_hand_over state.machine named sender) seen (hands (with_seen state seen)) (replies (told.Refused why.Nothing) (with_seen state seen)) (hands state) (replies (told.Refused why.Nothing) state) refl refl
+    but_if (can_hand_over state.machine named sender) seen (hands (with_seen state seen)) (replies (says.Refused why.Nothing) (with_seen state seen)) (hands state) (replies (says.Refused why.Nothing) state) refl refl
 
 deferring_but : (state : Frontier) (seen : List ℕ) (named : ℕ) (fetched : Option Deferred) → But seen (deferring (with_seen state seen) named fetched).state (deferring state named fetched).state
 deferring_but state seen named None = taken_but state seen named (in_fetch state.machine named)

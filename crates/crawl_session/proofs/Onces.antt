@@ -1,5 +1,5 @@
 -- According to the answers, each URL is handed out once, in order, by the queue of its host.
-use Rattle.crawl_session.proofs.Prelude.{◌≡◌, ◌≤◌, ℕ, zero, suc, Bool, if◌then◌else◌, is_some, List, [], ◌∷◌, ◌++◌, slice_get, Option, Some, None, refl, sym, ap, subst, ◌∙◌, arith, cons_option, one_if, accepted_urls, AcceptsOnce, start_sound, Asked, asked, accepted_of, accepts, busy_after, joined_from, joined_of, put_back_of, taken_of, EachOnceInOrder, start, history_of, state_after, Settings}
+use Rattle.crawl_session.proofs.Prelude.{◌≡◌, ◌≤◌, ℕ, zero, suc, Bool, if◌then◌else◌, is_some, List, [], ◌∷◌, ◌++◌, slice_get, Option, Some, None, refl, sym, ap, subst, ◌∙◌, arith, cons_option, one_if, accepted_urls, AcceptsOnce, start_sound, LineAnswer, line_answers, accepted_of, accepts, busy_after, joined_from, joined_of, put_back_of, taken_of, EachOnceInOrder, start, history_of, state_after, Settings}
 use Rattle.crawl_core.proofs.QueueHistory.{accepts_once}
 use Rattle.crawl_session.proofs.Assigned.{accepted_as_assigned}
 use Rattle.crawl_session.proofs.Conserved.{conserved, counted_takes, line_of, starts_empty, starts_free, starts_settled}
@@ -14,16 +14,16 @@ got_of_front (z ∷ zs) ys zero x at = at
 got_of_front (z ∷ zs) ys (suc k) x at = got_of_front zs ys k x at
 
 -- what joined a queue is what was taken from it, followed by what waits
-pub joined_is : (settings : Settings) (max : ℕ) (lines : List (List ℕ)) (queue : ℕ) → joined_of queue (asked settings (start settings.workers max) lines) ≡ taken_of queue (asked settings (start settings.workers max) lines) ++ line_of (state_after settings (start settings.workers max) lines) queue
+pub joined_is : (settings : Settings) (max : ℕ) (lines : List (List ℕ)) (queue : ℕ) → joined_of queue (line_answers settings (start settings.workers max) lines) ≡ taken_of queue (line_answers settings (start settings.workers max) lines) ++ line_of (state_after settings (start settings.workers max) lines) queue
 joined_is settings max lines queue =
     let begun = start settings.workers max in
-    let all = asked settings begun lines in
+    let all = line_answers settings begun lines in
     ap (λ (o : Option (List ℕ)). joined_from queue o all) (sym (starts_free settings.workers max queue))
     ∙ ap (λ (l : List (List ℕ)). l ++ joined_from queue (busy_of begun queue) all) (sym (starts_empty settings.workers max queue))
     ∙ conserved settings begun lines queue (start_sound settings.workers max) (starts_settled settings.workers max)
 
 -- if no URL was put back, the URLs that joined are those that were accepted
-plain_joins : (queue : ℕ) (busy : Option (List ℕ)) (all : List Asked) → put_back_of queue all ≡ 0 → joined_from queue busy all ≡ accepted_of queue all
+plain_joins : (queue : ℕ) (busy : Option (List ℕ)) (all : List LineAnswer) → put_back_of queue all ≡ 0 → joined_from queue busy all ≡ accepted_of queue all
 plain_joins queue busy [] none = refl
 plain_joins queue busy (x ∷ more) none =
     let quiet = quiet_first queue x more none in
@@ -34,10 +34,10 @@ plain_joins queue busy (x ∷ more) none =
 flag_small : (b : Bool) → one_if b ≤ 1
 flag_small b = grind arith
 
-pub each_once : (settings : Settings) (max : ℕ) (lines : List (List ℕ)) → EachOnceInOrder settings.workers (asked settings (start settings.workers max) lines)
+pub each_once : (settings : Settings) (max : ℕ) (lines : List (List ℕ)) → EachOnceInOrder settings.workers (line_answers settings (start settings.workers max) lines)
 each_once settings max lines =
     let begun = start settings.workers max in
-    let all = asked settings begun lines in
+    let all = line_answers settings begun lines in
     let end = state_after settings begun lines in
     let history = history_of settings begun lines in
     let run = as_run settings.workers max history end.machine (session_runs settings begun lines) in

@@ -1,5 +1,5 @@
 -- The URLs of a host wait in a rebuilt session in the order in which they waited in the old one.
-use Rattle.crawl_session.proofs.Prelude.{◌≡◌, ℕ, zero, suc, ◌+◌, ◌≤◌, ◌<◌, Bool, true, false, not, cond, if◌then◌else◌, nat_eq, nat_lt, List, [], ◌∷◌, ◌++◌, length, take, drop, map, Option, Some, None, inl, inr, refl, sym, ap, ◌∙◌, true≢false, arith, append-nil, nat_tests, cons_option, option_to_list, bytes_eq, bytes_eq-Decides, sum_by-cons, slice_get, filter_map-append, same_text, eqb_same, eqb-true, take_all, subqueue_of, Row, asked, busy_in, done_in, joined_of, taken_of, times, Frontier, start, state_after, pending_at, Settings}
+use Rattle.crawl_session.proofs.Prelude.{◌≡◌, ℕ, zero, suc, ◌+◌, ◌≤◌, ◌<◌, Bool, true, false, not, cond, if◌then◌else◌, nat_eq, nat_lt, List, [], ◌∷◌, ◌++◌, length, take, drop, map, Option, Some, None, inl, inr, refl, sym, ap, ◌∙◌, true≢false, arith, append-nil, nat_tests, cons_option, option_to_list, bytes_eq, bytes_eq-Decides, sum_by-cons, slice_get, filter_map-append, same_text, eqb_same, eqb-true, take_all, subqueue_of, Row, line_answers, busy_in, done_in, joined_of, taken_of, times, Frontier, start, state_after, pending_at, Settings}
 use Rattle.std.specs.List.{filter}
 use Rattle.std.proofs.lemmas.List.{drop_at}
 use Rattle.std.proofs.lemmas.Bool.{cases_lt}
@@ -14,7 +14,7 @@ use Rattle.crawl_session.specs.Rebuilding.{by_turns, in_queue, inventory, is_lef
 use Rattle.crawl_session.proofs.Conserved.{line_of}
 use Rattle.crawl_session.proofs.Drained.{Fit, pends}
 use Rattle.crawl_session.proofs.Inventories.{AreOwn, busy_own, one, pending_own, queues_state, read_lines, take_next, turns_none}
-use Rattle.crawl_session.proofs.Listed.{busy_told, done_after, is_below, lists_told, pending_told}
+use Rattle.crawl_session.proofs.Listed.{busy_answered, done_after, is_below, lists_answered, pending_answered}
 use Rattle.crawl_session.proofs.Onces.{each_once, joined_is}
 use Rattle.crawl_session.proofs.Rebuilt.{Flows, all_kept, done_kept, filter_on}
 use Rattle.crawl_session.proofs.Returns.{times_in, times_on}
@@ -176,7 +176,7 @@ Own state host there limit = (queue : ℕ) → queue < limit → nat_eq queue th
 
 pending_line : (state : Frontier) (n : ℕ) → Fit state → urls_in (pending_at (queues_below n state).state n).rows ≡ line_of state n
 pending_line state n fit =
-    let before = pending_told state n n fit in
+    let before = pending_answered state n n fit in
     let mid = (pending_below n state).state in
     ap (λ (s : Frontier). urls_in (pending_at s n).rows) (queues_state n state)
     ∙ ap urls_in (pends mid n before.fit).rows
@@ -262,7 +262,7 @@ line_own settings most lines host queue below apart =
     by_host : (url : List ℕ) → 1 ≤ times url (line_of (state_after settings (start settings.workers most) lines) queue) → (b : Bool) → is_of host url ≡ b → b ≡ false
     by_host url some false is = refl
     by_host url some true is =
-        let rows = (pending_told (state_after settings (start settings.workers most) lines) queue settings.workers (read_lines settings most lines).fit).rows in
+        let rows = (pending_answered (state_after settings (start settings.workers most) lines) queue settings.workers (read_lines settings most lines).fit).rows in
         let in_rows = ap (λ (b : Bool). times url (if b then line_of (state_after settings (start settings.workers most) lines) queue else [])) (is_below queue settings.workers below) in
         let all = ap (times url) rows in
         let own = pending_own settings most lines queue url (omega (arith, all, in_rows, some)) in
@@ -270,22 +270,22 @@ line_own settings most lines host queue below apart =
         absurd (true≢false (sym (eqb_same (assign host settings.workers)) ∙ ap (λ q. nat_eq q (assign host settings.workers)) (sym same) ∙ apart))
 
 waited : (settings : Settings) (most : ℕ) (lines : List (List ℕ)) (host : List ℕ) → 1 ≤ settings.workers → of_host host ((inventory settings most lines).in_progress ++ by_turns (inventory settings most lines).pending)
-    ≡ of_host host (option_to_list (busy_in (assign host settings.workers) (asked settings (start settings.workers most) lines)) ++ waits_of (assign host settings.workers) (asked settings (start settings.workers most) lines))
+    ≡ of_host host (option_to_list (busy_in (assign host settings.workers) (line_answers settings (start settings.workers most) lines)) ++ waits_of (assign host settings.workers) (line_answers settings (start settings.workers most) lines))
 waited settings most lines host some =
     let begun = start settings.workers most in
     let end = state_after settings begun lines in
-    let all = asked settings begun lines in
+    let all = line_answers settings begun lines in
     let had = inventory settings most lines in
     let there = assign host settings.workers in
     let below : there < settings.workers = omega (arith, some) in
-    let told = lists_told settings most lines there below in
+    let its_reply = lists_answered settings most lines there below in
     let busy_rows = (in_progress_below settings.workers end).rows in
     let after = done_after settings lines begun in
-    let same : (in_progress_below settings.workers (done_in settings lines begun).state).state ≡ end = ap (λ (s : Frontier). (in_progress_below settings.workers s).state) after ∙ (busy_told end there settings.workers).after in
+    let same : (in_progress_below settings.workers (done_in settings lines begun).state).state ≡ end = ap (λ (s : Frontier). (in_progress_below settings.workers s).state) after ∙ (busy_answered end there settings.workers).after in
     let busy =
     ap (λ (s : Frontier). of_host host (urls_in (in_progress_below settings.workers s).rows)) after
     ∙ host_rows settings.workers host busy_rows (busy_own settings most lines)
-    ∙ ap (of_host host) told.in_progress in
+    ∙ ap (of_host host) its_reply.in_progress in
     let line : waits_of there all ≡ line_of end there = ap (drop (length (taken_of there all))) (joined_is settings most lines there) ∙ drop_at (taken_of there all) (line_of end there) (length (taken_of there all)) refl in
     let waits =
     ap (λ (s : Frontier). of_host host (by_turns (queues_below settings.workers s).queues)) same
@@ -297,12 +297,12 @@ waited settings most lines host some =
 
 -- ---- the new session
 
-pub in_order : (old new : Settings) (most room : ℕ) (lines rebuilt_lines : List (List ℕ)) (host : List ℕ) → 1 ≤ old.workers → Flows new.workers (asked new (start new.workers room) rebuilt_lines) (all_kept new (inventory old most lines)) (done_kept new (inventory old most lines))
-    → of_host host (waits_of (assign host new.workers) (asked new (start new.workers room) rebuilt_lines))
-    ≡ of_host host (kept new (option_to_list (busy_in (assign host old.workers) (asked old (start old.workers most) lines)) ++ waits_of (assign host old.workers) (asked old (start old.workers most) lines)))
+pub in_order : (old new : Settings) (most room : ℕ) (lines rebuilt_lines : List (List ℕ)) (host : List ℕ) → 1 ≤ old.workers → Flows new.workers (line_answers new (start new.workers room) rebuilt_lines) (all_kept new (inventory old most lines)) (done_kept new (inventory old most lines))
+    → of_host host (waits_of (assign host new.workers) (line_answers new (start new.workers room) rebuilt_lines))
+    ≡ of_host host (kept new (option_to_list (busy_in (assign host old.workers) (line_answers old (start old.workers most) lines)) ++ waits_of (assign host old.workers) (line_answers old (start old.workers most) lines)))
 in_order old new most room lines rebuilt_lines host some flows =
     let had = inventory old most lines in
-    let after = asked new (start new.workers room) rebuilt_lines in
+    let after = line_answers new (start new.workers room) rebuilt_lines in
     let queue = assign host new.workers in
     let own = in_queue new.workers queue in
     let done = kept new had.done in
@@ -319,4 +319,4 @@ in_order old new most room lines rebuilt_lines host some flows =
     ∙ ap (of_host host) (sym (filter-append (λ u. not (is_left_out new u)) had.in_progress (by_turns had.pending)))
     ∙ host_kept new host (had.in_progress ++ by_turns had.pending)
     ∙ ap (kept new) (waited old most lines host some)
-    ∙ sym (host_kept new host (option_to_list (busy_in (assign host old.workers) (asked old (start old.workers most) lines)) ++ waits_of (assign host old.workers) (asked old (start old.workers most) lines)))
+    ∙ sym (host_kept new host (option_to_list (busy_in (assign host old.workers) (line_answers old (start old.workers most) lines)) ++ waits_of (assign host old.workers) (line_answers old (start old.workers most) lines)))

@@ -1,7 +1,7 @@
 -- A URL that was put back has its sender's unit until it is done.
 use Rattle.crawl_session.proofs.Prelude.{common_steps, ◌≡◌, ℕ, zero, suc, ◌+◌, ◌≤◌, Bool, true, false, cond, ◌&&◌, ◌||◌, if◌then◌else◌, nat_eq, List, ◌∷◌, replicate, slice_get, slice_set, Option, Some, None, Result, Ok, Err, refl, sym, ap, subst, ◌∙◌, arith, eqb-true, ne_eqb, nat_tests, sum_by, nat_cmp, is_at, nat_cmp_total, sum_by-cons, sum_by-set, sum_by_push, slice_get_within, Reply, fetch_of, in_fetch, one_if, GateTurn, gave_back, holds, let_go, turned_away, can_hand_over, handed_over, has_room, is_fetching, lets_in, holds_after, State, count_of, unfinished_in, turn, with_subqueue, Subqueue, after_finishing, unfinished, there, holds_less, sum_at, eqb_same, cond_both, list_any-insert_key, Sound, gate_effect, Deferred, Request, Offer, Next, Again, Later, Done, EndSeeds, Seen, Stats, RequestError, Exchange, Outcome, accepted_at, admitting, by_machine, client, deferring, deferring_taken, ends, exchange, finishing, handing, is_count, is_due, is_entered, offering, put_back, replies, retaking, seeds_ended, taking, taking_again, taking_next, Deferrals, Frontier, deferrals_at, no_deferrals, start, waits_again, with_deferrals, answered}
 use Rattle.crawl_core.specs.declared.event.Event.TheVariants as event
-use Rattle.crawl_core.specs.declared.reply.Reply.TheVariants as told
+use Rattle.crawl_core.specs.declared.reply.Reply.TheVariants as says
 use Rattle.crawl_core.specs.declared.reply.Refusal.TheVariants as why
 use Rattle.crawl_core.proofs.GateHistory as gate_history
 use Rattle.crawl_core.proofs.Handing.{handed_is, is_free}
@@ -193,7 +193,7 @@ taken_owned state named (Some None) is none sound settled owned = owned
 taken_owned state named (Some (Some url)) is none sound settled owned =
     let sender = suc state.senders in
     let here = there fetch_of (queue_at state named) (Some url) is in
-    cond_both (λ (x : Outcome). Owned x.state) (can_hand_over state.machine named sender) (by_machine (record (put_back state named url sender) { senders = sender }) (handing state.machine named sender)) (replies (told.Refused why.Nothing) state)
+    cond_both (λ (x : Outcome). Owned x.state) (can_hand_over state.machine named sender) (by_machine (record (put_back state named url sender) { senders = sender }) (handing state.machine named sender)) (replies (says.Refused why.Nothing) state)
     (λ can. defer_owned state named url here.0 here.1 here.2 none sound settled owned can) (λ _. owned)
 
 deferring_owned : (state : Frontier) (named : ℕ) (fetched : Option Deferred) → (deferrals_at state named).fetched ≡ fetched → Sound state.machine → Settled state → Owned state → Owned (deferring state named fetched).state

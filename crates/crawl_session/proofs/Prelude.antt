@@ -28,21 +28,21 @@ pub use Rattle.crawl_limits.specs.Limits.{AreLimits, line_limit}
 pub use Rattle.crawl_replay.proofs.NumberText.{at_space-joined, at_space-number, joined-at_space, number_of_is}
 pub use Rattle.crawl_replay.specs.Script.{header_of}
 pub use Rattle.crawl_replay.specs.ScriptLines.{IsNumber}
-pub use Rattle.crawl_session.specs.Clients.{AgainIfPutBack, AllDone, Asked, EachOnceInOrder, IsTold, NonePutBack, accepted_of, accepts, asked, busy_after, busy_before, busy_from, busy_in, done_of, done_urls, elsewhere_of, finishes, first_of_each, joined_from, joined_of, joins, put_back_of, put_back_urls, puts_back, seen_by, seen_of, taken_of, takes, times, told_elsewhere}
-pub use Rattle.crawl_session.specs.Compacting.{Had, asks_again, changes, compacted, had_none, having, is_needed, log_line, log_text, needed, says_closed, with_told}
+pub use Rattle.crawl_session.specs.Clients.{AgainIfPutBack, AllDone, LineAnswer, EachOnceInOrder, IsReported, NonePutBack, accepted_of, accepts, line_answers, busy_after, busy_before, busy_from, busy_in, done_of, done_urls, elsewhere_of, finishes, first_of_each, joined_from, joined_of, joins, put_back_of, put_back_urls, puts_back, seen_by, seen_of, taken_of, takes, times, elsewhere_url}
+pub use Rattle.crawl_session.specs.Compacting.{Had, asks_again, changes, compacted, had_none, having, is_needed, log_line, log_text, needed, says_closed, with_elsewhere}
 pub use Rattle.crawl_session.specs.Exchanges.{Exchange, Outcome, accepted_at, admitting, after, by_machine, client, counting, deferring, deferring_taken, ends, entering, exchange, finishing, handing, is_count, is_due, is_empty, is_entered, is_seen, noted, offering, put_back, replies, retaking, seeds_ended, seen_reply, stats_answer, taking, taking_again, taking_next}
 pub use Rattle.crawl_session.specs.Frontiers.{Deferrals, Frontier, KeptFrontier, NoneDeferred, deferrals_at, no_deferrals, start, waits_again, with_deferrals}
 pub use Rattle.crawl_session.specs.Input.{AnswersWhole, AreWhole, Ends, Holds, IsUnfinished, ServesInput, Turns, held_limit}
 pub use Rattle.crawl_session.specs.Listing.{Listed, Lists, done_by, done_in, each_below, pending_at, row_line, stats_at, stats_below, stats_in, taken_each, then_list, url_row}
 pub use Rattle.crawl_session.specs.Logs.{next_suffix, numbers_text, settings_line, suffix_from, within_text}
-pub use Rattle.crawl_session.specs.Parts.{asked_by, asked_of, part_with, placed, placed_if, request_for}
+pub use Rattle.crawl_session.specs.Parts.{part_request, own_request, part_with, placed, placed_if, request_for}
 pub use Rattle.crawl_session.specs.Requests.{plain_request, request_in, request_of}
 pub use Rattle.crawl_session.specs.Serving.{GivesUp, ServesAll, with_words}
 pub use Rattle.crawl_session.specs.Sessions.{answered, answers, history_of, line_exchange, state_after}
 pub use Rattle.crawl_session.specs.Settings.{SessionView, Settings}
 pub use Rattle.crawl_session.specs.Stats.{stats_for, stats_of, waiting_at, waiting_of}
 pub use Rattle.crawl_session.specs.declared.answer.Answer.{Answer}
-pub use Rattle.crawl_session.specs.declared.answer.Answer.TheVariants.{Counted, Told, Unasked}
+pub use Rattle.crawl_session.specs.declared.answer.Answer.TheVariants.{Counted, Replied, Unasked}
 pub use Rattle.crawl_session.specs.declared.deferrals.Deferred.{Deferred}
 pub use Rattle.crawl_session.specs.declared.list.Row.{Row}
 pub use Rattle.crawl_session.specs.declared.part.Part.{Part}

@@ -1,5 +1,5 @@
 -- What each request does to each queue: a URL joins its end, one is taken, or a fetch ends.
-use Rattle.crawl_session.proofs.Prelude.{◌≡◌, ℕ, Bool, true, false, ◌||◌, nat_eq, List, length, slice_get, slice_set, Option, Some, None, Result, refl, sym, ap, subst, ◌∙◌, arith, eqb-false, get_or-set_same, get_or-set_other, slice_get_within, Reply, State, Subqueue, get_set_same, get_set_other, length-slice_set, Answer, Told, Request, RequestError, Asked, finishes, joins, puts_back, takes, Exchange, Outcome, by_machine, replies, Deferrals, Frontier, deferrals_at, with_deferrals}
+use Rattle.crawl_session.proofs.Prelude.{◌≡◌, ℕ, Bool, true, false, ◌||◌, nat_eq, List, length, slice_get, slice_set, Option, Some, None, Result, refl, sym, ap, subst, ◌∙◌, arith, eqb-false, get_or-set_same, get_or-set_other, slice_get_within, Reply, State, Subqueue, get_set_same, get_set_other, length-slice_set, Answer, Replied, Request, RequestError, LineAnswer, finishes, joins, puts_back, takes, Exchange, Outcome, by_machine, replies, Deferrals, Frontier, deferrals_at, with_deferrals}
 use Rattle.crawl_session.proofs.Joined.{Fine, Flow, busy_at, flow_still}
 
 -- ---- all queues
@@ -16,22 +16,22 @@ pub record Settled (state : Frontier) : Type 0 where
   pub shape : length state.deferrals ≡ length state.machine.subqueues
   pub fine : (queue : ℕ) → Fine (queue_at state queue) (deferrals_at state queue)
 
-abbrev pub as_told : Result Request RequestError → Answer → Asked
-as_told r answer = record { request = r; answer = answer }
+abbrev pub as_answered : Result Request RequestError → Answer → LineAnswer
+as_answered r answer = record { request = r; answer = answer }
 
 -- the outcome of a request: what happens in each queue is what the answer says
 pub record Passes (state : Frontier) (r : Result Request RequestError) (x : Outcome) : Type 0 where
   pub settled : Settled x.state
-  pub flow : (queue : ℕ) → Flow (queue_at state queue) (deferrals_at state queue) (joins queue (busy_of state queue) (as_told r x.answer)) (takes queue r x.answer) (finishes queue r x.answer || puts_back queue r x.answer) (queue_at x.state queue) (deferrals_at x.state queue)
+  pub flow : (queue : ℕ) → Flow (queue_at state queue) (deferrals_at state queue) (joins queue (busy_of state queue) (as_answered r x.answer)) (takes queue r x.answer) (finishes queue r x.answer || puts_back queue r x.answer) (queue_at x.state queue) (deferrals_at x.state queue)
 
 -- nothing happens in any queue
 abbrev pub Quietly : Result Request RequestError → Answer → Type 0
-Quietly r answer = (queue : ℕ) (busy : Option (List ℕ)) → (joins queue busy (as_told r answer) ≡ None) × ((takes queue r answer ≡ None) × ((finishes queue r answer || puts_back queue r answer) ≡ false))
+Quietly r answer = (queue : ℕ) (busy : Option (List ℕ)) → (joins queue busy (as_answered r answer) ≡ None) × ((takes queue r answer ≡ None) × ((finishes queue r answer || puts_back queue r answer) ≡ false))
 
 still_as : (queue : Option Subqueue) (deferrals : Deferrals) (j t : Option (List ℕ)) (e : Bool) → j ≡ None → t ≡ None → e ≡ false → Flow queue deferrals j t e queue deferrals
 still_as queue deferrals j t e no_join no_take no_end = grind (arith, flow_still)
 
-pub passes_still : (state : Frontier) (r : Result Request RequestError) (reply : Reply) → Settled state → Quietly r (Told reply) → Passes state r (replies reply state)
+pub passes_still : (state : Frontier) (r : Result Request RequestError) (reply : Reply) → Settled state → Quietly r (Replied reply) → Passes state r (replies reply state)
 passes_still state r reply settled quiet = record {
   settled = settled;
   flow = λ queue. let said = quiet queue (busy_of state queue) in still_as (queue_at state queue) (deferrals_at state queue) _ _ _ said.0 said.1.0 said.1.1;
@@ -48,7 +48,7 @@ passes_gate state r x settled same quiet =
       };
       flow = λ queue.
           let said = quiet queue (busy_of state queue) in
-          subst (λ (o : Option Subqueue). Flow (queue_at state queue) (deferrals_at state queue) (joins queue (busy_of state queue) (as_told r x.answer)) (takes queue r x.answer) (finishes queue r x.answer || puts_back queue r x.answer) o (deferrals_at state queue)) (sym (at queue))
+          subst (λ (o : Option Subqueue). Flow (queue_at state queue) (deferrals_at state queue) (joins queue (busy_of state queue) (as_answered r x.answer)) (takes queue r x.answer) (finishes queue r x.answer || puts_back queue r x.answer) o (deferrals_at state queue)) (sym (at queue))
           (still_as (queue_at state queue) (deferrals_at state queue) _ _ _ said.0 said.1.0 said.1.1);
     }
 

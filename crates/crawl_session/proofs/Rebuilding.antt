@@ -7,7 +7,7 @@ use Rattle.crawl_session.specs.declared.rebuild.RebuildError.{RebuildError}
 use Rattle.crawl_session.specs.declared.request.RequestError.TheVariants as wrong
 use Rattle.crawl_session.specs.Frontiers.{Shows}
 use Rattle.crawl_session.specs.Listing.{Gives, is_count}
-use Rattle.crawl_session.specs.Rebuilding.{Collects, CollectsQueues, Given, Inventory, IsFull, IsRefused, Offers, ReadsLine, ReadsLines, Tells, Writes, by_turns, closing, done_line, done_url, each_url, end_line, ended_urls, finish_url, is_accepted, leaves_out, line_if, lines_text, longest, next_line, no_line, none_left_out, offer_line, offered, offered_by, offered_to, one_line, other_by, other_url, plus, queues_below, rebuilt, row_url, takes_url, then_give, turn, turns_below, unfinished_urls, unless_empty, urls_in, waiting_url, with_line, with_lines}
+use Rattle.crawl_session.specs.Rebuilding.{Collects, CollectsQueues, Given, Inventory, IsFull, IsRefused, Offers, ReadsLine, ReadsLines, Copies, Writes, by_turns, closing, done_line, done_url, each_url, end_line, ended_urls, finish_url, is_accepted, leaves_out, line_if, lines_text, longest, next_line, no_line, none_left_out, offer_line, offered, offered_by, offered_to, one_line, other_by, other_url, plus, queues_below, rebuilt, row_url, takes_url, then_give, turn, turns_below, unfinished_urls, unless_empty, urls_in, waiting_url, with_line, with_lines}
 
 -- ---- lines that are read
 
@@ -155,13 +155,13 @@ turn_more one position front queue old mid new out_old out_mid out_new a b befor
 
 -- ---- one line
 
-pub told_line : (test : Answer → Bool) (line : List ℕ) (old : SessionView) (out_old out_new : Option (List ℕ)) (answer : Answer) (new : SessionView) → Tells old line out_old out_new answer new → test answer ≡ true → Writes (one_line old.settings line test) old out_old out_new none_left_out new
-told_line test line old out_old out_new answer new told passes = record {
+pub answered_line : (test : Answer → Bool) (line : List ℕ) (old : SessionView) (out_old out_new : Option (List ℕ)) (answer : Answer) (new : SessionView) → Copies old line out_old out_new answer new → test answer ≡ true → Writes (one_line old.settings line test) old out_old out_new none_left_out new
+answered_line test line old out_old out_new answer new its_reply passes = record {
   text = line ++ 10 ∷ [];
-  written = told.written;
-  settings = told.serves.settings;
+  written = its_reply.written;
+  settings = its_reply.serves.settings;
   comes = λ state shown.
-      let came = told.serves.comes state shown in
+      let came = its_reply.serves.comes state shown in
       (ap test came.0 ∙ passes, (sym (append-nil (line ++ 10 ∷ [])), (refl, came.1)));
 }
 

@@ -1,9 +1,9 @@
 -- The answers of a new session to the lines of a rebuilt log.
-use Rattle.crawl_session.proofs.Prelude.{◌≡◌, ℕ, ◌+◌, Bool, true, false, cond, not, ◌&&◌, ◌||◌, if◌then◌else◌, nat_eq, List, [], ◌∷◌, ◌++◌, codes, Option, Some, None, Result, Ok, Err, refl, sym, ap, subst, ◌∙◌, arith, and_parts, common_steps, cons_option, filter_map-append, sum_by-append, bytes_eq, subqueue_of, same_text, slice_get, at_space-joined, at_space, decimal, number_of_is, IsNumber, Answer, Told, Request, Offer, Next, Again, Later, Done, EndSeeds, Seen, Stats, Reply, RequestError, IfOk, option_map, option_or, request_of, eqb_same, inl, inr, ◌⊎◌, ◌<◌, ◌^◌, Asked, accepted_of, accepts, asked, busy_after, busy_before, busy_from, busy_in, done_urls, finishes, put_back_of, puts_back, taken_of, takes, exchange, Frontier, request_for, answered, line_exchange, state_after, says_closed, Settings}
+use Rattle.crawl_session.proofs.Prelude.{◌≡◌, ℕ, ◌+◌, Bool, true, false, cond, not, ◌&&◌, ◌||◌, if◌then◌else◌, nat_eq, List, [], ◌∷◌, ◌++◌, codes, Option, Some, None, Result, Ok, Err, refl, sym, ap, subst, ◌∙◌, arith, and_parts, common_steps, cons_option, filter_map-append, sum_by-append, bytes_eq, subqueue_of, same_text, slice_get, at_space-joined, at_space, decimal, number_of_is, IsNumber, Answer, Replied, Request, Offer, Next, Again, Later, Done, EndSeeds, Seen, Stats, Reply, RequestError, IfOk, option_map, option_or, request_of, eqb_same, inl, inr, ◌⊎◌, ◌<◌, ◌^◌, LineAnswer, accepted_of, accepts, line_answers, busy_after, busy_before, busy_from, busy_in, done_urls, finishes, put_back_of, puts_back, taken_of, takes, exchange, Frontier, request_for, answered, line_exchange, state_after, says_closed, Settings}
 use Rattle.std.specs.List.{filter}
 use Rattle.std.specs.Option.{ok_or}
 use Rattle.std.proofs.lemmas.List.Elements.{filter-append}
-use Rattle.crawl_core.specs.declared.reply.Reply.TheVariants as told
+use Rattle.crawl_core.specs.declared.reply.Reply.TheVariants as says
 use Rattle.crawl_session.specs.declared.request.RequestError.TheVariants as wrong
 use Rattle.crawl_session.specs.Listing.{is_count}
 use Rattle.crawl_session.specs.declared.rebuild.LeftOut.{LeftOut}
@@ -19,17 +19,17 @@ filter_on p u urls = grind (arith, common_steps)
 
 -- ---- lines, one after another
 
-asked-append : (settings : Settings) (state : Frontier) (front back : List (List ℕ)) → asked settings state (front ++ back) ≡ asked settings state front ++ asked settings (state_after settings state front) back
-asked-append settings state [] back = refl
-asked-append settings state (line ∷ more) back =
+line_answers-append : (settings : Settings) (state : Frontier) (front back : List (List ℕ)) → line_answers settings state (front ++ back) ≡ line_answers settings state front ++ line_answers settings (state_after settings state front) back
+line_answers-append settings state [] back = refl
+line_answers-append settings state (line ∷ more) back =
     let here = line_exchange settings state line in
-    ap (λ (l : List Asked). record { request = request_for settings line; answer = here.answer } ∷ l) (asked-append settings here.state more back)
+    ap (λ (l : List LineAnswer). record { request = request_for settings line; answer = here.answer } ∷ l) (line_answers-append settings here.state more back)
 
-busy_from-append : (queue : ℕ) (busy : Option (List ℕ)) (front back : List Asked) → busy_from queue busy (front ++ back) ≡ busy_from queue (busy_from queue busy front) back
+busy_from-append : (queue : ℕ) (busy : Option (List ℕ)) (front back : List LineAnswer) → busy_from queue busy (front ++ back) ≡ busy_from queue (busy_from queue busy front) back
 busy_from-append queue busy [] back = refl
 busy_from-append queue busy (x ∷ more) back = busy_from-append queue (busy_after queue busy x) more back
 
-busy_before-append : (test : Asked → Bool) (queue : ℕ) (busy : Option (List ℕ)) (front back : List Asked) → busy_before test queue busy (front ++ back) ≡ busy_before test queue busy front ++ busy_before test queue (busy_from queue busy front) back
+busy_before-append : (test : LineAnswer → Bool) (queue : ℕ) (busy : Option (List ℕ)) (front back : List LineAnswer) → busy_before test queue busy (front ++ back) ≡ busy_before test queue busy front ++ busy_before test queue (busy_from queue busy front) back
 busy_before-append test queue busy [] back = refl
 busy_before-append test queue busy (x ∷ more) back = on_first (if test x then busy else None) _ _ _ (busy_before-append test queue (busy_after queue busy x) more back)
   where
@@ -38,23 +38,23 @@ busy_before-append test queue busy (x ∷ more) back = on_first (if test x then 
     on_first (Some u) all front rest same = ap (λ l. u ∷ l) same
 
 -- what the answers say of each queue: these URLs were accepted, the others of them taken and done, and none is in progress
-pub record Flows (workers : ℕ) (asks : List Asked) (urls ended : List (List ℕ)) : Type 0 where
+pub record Flows (workers : ℕ) (asks : List LineAnswer) (urls ended : List (List ℕ)) : Type 0 where
   pub accepted : (queue : ℕ) → accepted_of queue asks ≡ in_queue workers queue urls
   pub taken : (queue : ℕ) → taken_of queue asks ≡ in_queue workers queue ended
   pub done : (queue : ℕ) → done_urls queue asks ≡ in_queue workers queue ended
   pub back : (queue : ℕ) → put_back_of queue asks ≡ 0
   pub free : (queue : ℕ) → busy_in queue asks ≡ None
 
-abbrev was_done : ℕ → Asked → Bool
+abbrev was_done : ℕ → LineAnswer → Bool
 was_done queue x = finishes queue x.request x.answer
 
-put_back_append : (queue : ℕ) (front back : List Asked) → put_back_of queue (front ++ back) ≡ put_back_of queue front + put_back_of queue back
-put_back_append queue front back = sum_by-append (λ (x : Asked). cond (puts_back queue x.request x.answer) 1 0) front back
+put_back_append : (queue : ℕ) (front back : List LineAnswer) → put_back_of queue (front ++ back) ≡ put_back_of queue front + put_back_of queue back
+put_back_append queue front back = sum_by-append (λ (x : LineAnswer). cond (puts_back queue x.request x.answer) 1 0) front back
 
-flows_both : (workers : ℕ) (front back : List Asked) (a u b v : List (List ℕ)) → Flows workers front a u → Flows workers back b v → Flows workers (front ++ back) (a ++ b) (u ++ v)
+flows_both : (workers : ℕ) (front back : List LineAnswer) (a u b v : List (List ℕ)) → Flows workers front a u → Flows workers back b v → Flows workers (front ++ back) (a ++ b) (u ++ v)
 flows_both workers front back a u b v one two = record {
-  accepted = λ queue. filter_map-append (λ (x : Asked). accepts queue x.request x.answer) front back ∙ (λ i. one.accepted queue i ++ two.accepted queue i) ∙ sym (filter-append (λ url. nat_eq (subqueue_of url workers) queue) a b);
-  taken = λ queue. filter_map-append (λ (x : Asked). takes queue x.request x.answer) front back ∙ (λ i. one.taken queue i ++ two.taken queue i) ∙ sym (filter-append (λ url. nat_eq (subqueue_of url workers) queue) u v);
+  accepted = λ queue. filter_map-append (λ (x : LineAnswer). accepts queue x.request x.answer) front back ∙ (λ i. one.accepted queue i ++ two.accepted queue i) ∙ sym (filter-append (λ url. nat_eq (subqueue_of url workers) queue) a b);
+  taken = λ queue. filter_map-append (λ (x : LineAnswer). takes queue x.request x.answer) front back ∙ (λ i. one.taken queue i ++ two.taken queue i) ∙ sym (filter-append (λ url. nat_eq (subqueue_of url workers) queue) u v);
   done = λ queue.
       busy_before-append (was_done queue) queue None front back
       ∙ ap (λ (o : Option (List ℕ)). done_urls queue front ++ busy_before (was_done queue) queue o back) (one.free queue)
@@ -67,7 +67,7 @@ flows_both workers front back a u b v one two = record {
 -- what given lines add
 pub record Adds (settings : Settings) (state : Frontier) (given : Given) (urls ended : List (List ℕ)) : Type 0 where
   pub after : given.state ≡ state_after settings state given.lines
-  pub flows : Flows settings.workers (asked settings state given.lines) urls ended
+  pub flows : Flows settings.workers (line_answers settings state given.lines) urls ended
 
 adds_both : (settings : Settings) (state : Frontier) (first : Given) (second : Frontier → Given) (a u b v : List (List ℕ)) → Adds settings state first a u → Adds settings first.state (second first.state) b v → Adds settings state (then_give first second) (a ++ b) (u ++ v)
 adds_both settings state first second a u b v one two =
@@ -75,9 +75,9 @@ adds_both settings state first second a u b v one two =
     record {
       after = two.after ∙ ap (λ (s : Frontier). state_after settings s back.lines) one.after ∙ sym (state_after-append settings state first.lines back.lines);
       flows =
-          subst (λ (asks : List Asked). Flows settings.workers asks (a ++ b) (u ++ v)) (sym (asked-append settings state first.lines back.lines))
-          (flows_both settings.workers (asked settings state first.lines) (asked settings (state_after settings state first.lines) back.lines) a u b v one.flows
-          (subst (λ (s : Frontier). Flows settings.workers (asked settings s back.lines) b v) one.after two.flows));
+          subst (λ (asks : List LineAnswer). Flows settings.workers asks (a ++ b) (u ++ v)) (sym (line_answers-append settings state first.lines back.lines))
+          (flows_both settings.workers (line_answers settings state first.lines) (line_answers settings (state_after settings state first.lines) back.lines) a u b v one.flows
+          (subst (λ (s : Frontier). Flows settings.workers (line_answers settings s back.lines) b v) one.after two.flows));
     }
 
 flows_none : (workers : ℕ) → Flows workers [] [] []
@@ -89,10 +89,10 @@ adds_none settings state = record { after = refl; flows = flows_none settings.wo
 -- ---- one line
 
 -- nothing is said of a URL by a line that asks something else
-abbrev Quiet : Asked → Type 0
+abbrev Quiet : LineAnswer → Type 0
 Quiet x = (queue : ℕ) → (accepts queue x.request x.answer ≡ None) × ((takes queue x.request x.answer ≡ None) × ((finishes queue x.request x.answer ≡ false) × (puts_back queue x.request x.answer ≡ false)))
 
-flows_quiet : (workers : ℕ) (x : Asked) → Quiet x → Flows workers (x ∷ []) [] []
+flows_quiet : (workers : ℕ) (x : LineAnswer) → Quiet x → Flows workers (x ∷ []) [] []
 flows_quiet workers x quiet = record {
   accepted = λ queue. ap (λ (o : Option (List ℕ)). cons_option o []) (quiet queue).0;
   taken = λ queue. ap (λ (o : Option (List ℕ)). cons_option o []) (quiet queue).1.0;
@@ -150,7 +150,7 @@ others_quietly state why queue = grind arith
 
 -- ---- the offer of a URL
 
-offer_flows : (workers : ℕ) (url : List ℕ) (named there number : ℕ) → there ≡ subqueue_of url workers → Flows workers (record { request = Ok (Offer url named); answer = Told (told.Accepted there number) } ∷ []) (url ∷ []) []
+offer_flows : (workers : ℕ) (url : List ℕ) (named there number : ℕ) → there ≡ subqueue_of url workers → Flows workers (record { request = Ok (Offer url named); answer = Replied (says.Accepted there number) } ∷ []) (url ∷ []) []
 offer_flows workers url named there number is = record {
   accepted = λ queue. ap (λ q. cons_option (if nat_eq q queue then Some url else None) []) is ∙ sym (filter_on (λ u. nat_eq (subqueue_of u workers) queue) url []);
   taken = λ queue. refl;
@@ -160,31 +160,31 @@ offer_flows workers url named there number is = record {
 }
 
 abbrev queue_in : Answer → ℕ
-queue_in (Told (told.Accepted there number)) = there
+queue_in (Replied (says.Accepted there number)) = there
 queue_in _ = 0
 
 abbrev number_in : Answer → ℕ
-number_in (Told (told.Accepted there number)) = number
+number_in (Replied (says.Accepted there number)) = number
 number_in _ = 0
 
-accepted_is : (answer : Answer) → is_accepted answer ≡ true → answer ≡ Told (told.Accepted (queue_in answer) (number_in answer))
+accepted_is : (answer : Answer) → is_accepted answer ≡ true → answer ≡ Replied (says.Accepted (queue_in answer) (number_in answer))
 accepted_is answer accepted = grind arith
 
 accepted_flows : (settings : Settings) (state : Frontier) (url : List ℕ) (named : ℕ) → request_for settings (offer_line url) ≡ Ok (Offer url named) → is_accepted (exchange state (Offer url named)).answer ≡ true
-    → Flows settings.workers (asked settings state (offer_line url ∷ [])) (url ∷ []) []
+    → Flows settings.workers (line_answers settings state (offer_line url ∷ [])) (url ∷ []) []
 accepted_flows settings state url named asks accepted =
     let answer = (exchange state (Offer url named)).answer in
     let there = queue_in answer in
-    let x : Asked = record { request = Ok (Offer url named); answer = Told (told.Accepted there (number_in answer)) } in
-    let is : (line_exchange settings state (offer_line url)).answer ≡ Told (told.Accepted there (number_in answer)) = ap (λ (r : Result Request RequestError). (answered state r).answer) asks ∙ accepted_is answer accepted in
-    let same : asked settings state (offer_line url ∷ []) ≡ x ∷ [] = (λ i. record { request = asks i; answer = is i } ∷ []) in
+    let x : LineAnswer = record { request = Ok (Offer url named); answer = Replied (says.Accepted there (number_in answer)) } in
+    let is : (line_exchange settings state (offer_line url)).answer ≡ Replied (says.Accepted there (number_in answer)) = ap (λ (r : Result Request RequestError). (answered state r).answer) asks ∙ accepted_is answer accepted in
+    let same : line_answers settings state (offer_line url ∷ []) ≡ x ∷ [] = (λ i. record { request = asks i; answer = is i } ∷ []) in
     let own : accepted_of there (x ∷ []) ≡ url ∷ [] = ap (λ (b : Bool). cons_option (if b then Some url else None) []) (eqb_same there) in
-    let at : slice_get (accepted_of there (asked settings state (offer_line url ∷ []))) 0 ≡ Some url = ap (λ (asks : List Asked). slice_get (accepted_of there asks) 0) same ∙ ap (λ (l : List (List ℕ)). slice_get l 0) own in
-    subst (λ (asks : List Asked). Flows settings.workers asks (url ∷ []) []) (sym same) (offer_flows settings.workers url named there (number_in answer) (accepted_as_assigned settings state (offer_line url ∷ []) there 0 url at))
+    let at : slice_get (accepted_of there (line_answers settings state (offer_line url ∷ []))) 0 ≡ Some url = ap (λ (asks : List LineAnswer). slice_get (accepted_of there asks) 0) same ∙ ap (λ (l : List (List ℕ)). slice_get l 0) own in
+    subst (λ (asks : List LineAnswer). Flows settings.workers asks (url ∷ []) []) (sym same) (offer_flows settings.workers url named there (number_in answer) (accepted_as_assigned settings state (offer_line url ∷ []) there 0 url at))
 
 -- ---- a URL that is done
 
-finish_flows : (workers : ℕ) (url : List ℕ) (named left : ℕ) → named ≡ subqueue_of url workers → Flows workers (record { request = Ok (Next named); answer = Told (told.Taken url) } ∷ record { request = Ok (Done named); answer = Told (told.Count left) } ∷ []) [] (url ∷ [])
+finish_flows : (workers : ℕ) (url : List ℕ) (named left : ℕ) → named ≡ subqueue_of url workers → Flows workers (record { request = Ok (Next named); answer = Replied (says.Taken url) } ∷ record { request = Ok (Done named); answer = Replied (says.Count left) } ∷ []) [] (url ∷ [])
 finish_flows workers url named left is = record {
   accepted = λ queue. refl;
   taken = λ queue. own queue;
@@ -205,24 +205,24 @@ finish_flows workers url named left is = record {
     after false = refl
 
 abbrev left_in : Answer → ℕ
-left_in (Told (told.Count left)) = left
+left_in (Replied (says.Count left)) = left
 left_in _ = 0
 
-counted_is : (answer : Answer) → is_count answer ≡ true → answer ≡ Told (told.Count (left_in answer))
+counted_is : (answer : Answer) → is_count answer ≡ true → answer ≡ Replied (says.Count (left_in answer))
 counted_is answer counted = grind arith
 
 abbrev url_in : Answer → List ℕ
-url_in (Told (told.Taken url)) = url
+url_in (Replied (says.Taken url)) = url
 url_in _ = []
 
-taken_as : (url : List ℕ) (answer : Answer) → takes_url url answer ≡ true → (answer ≡ Told (told.Taken (url_in answer))) × (bytes_eq (url_in answer) url ≡ true)
+taken_as : (url : List ℕ) (answer : Answer) → takes_url url answer ≡ true → (answer ≡ Replied (says.Taken (url_in answer))) × (bytes_eq (url_in answer) url ≡ true)
 taken_as url answer passes = grind arith
 
-taken_is : (url : List ℕ) (answer : Answer) → takes_url url answer ≡ true → answer ≡ Told (told.Taken url)
-taken_is url answer passes = let as_own = taken_as url answer passes in as_own.0 ∙ ap (λ u. Told (told.Taken u)) (same_text (url_in answer) url as_own.1)
+taken_is : (url : List ℕ) (answer : Answer) → takes_url url answer ≡ true → answer ≡ Replied (says.Taken url)
+taken_is url answer passes = let as_own = taken_as url answer passes in as_own.0 ∙ ap (λ u. Replied (says.Taken u)) (same_text (url_in answer) url as_own.1)
 
 -- a line that the frontier answered is the request that it was written as
-request_is : (state : Frontier) (r : Result Request RequestError) (request : Request) (reply : Reply) → IfOk r (IsRequest request) → (answered state r).answer ≡ Told reply → r ≡ Ok request
+request_is : (state : Frontier) (r : Result Request RequestError) (request : Request) (reply : Reply) → IfOk r (IsRequest request) → (answered state r).answer ≡ Replied reply → r ≡ Ok request
 request_is state r request reply holds is = grind arith
 
 finish_adds : (settings : Settings) (state : Frontier) (url : List ℕ) (queue : ℕ) → queue ≡ subqueue_of url settings.workers → queue < 2 ^ 32 → (finish_url settings url queue state).fits ≡ true → Adds settings state (finish_url settings url queue state) [] (url ∷ [])
@@ -235,13 +235,13 @@ finish_adds settings state url queue is fits passes =
     let one = taken_is url taken.answer both.0 in
     let two = counted_is done.answer both.1 in
     let left = left_in done.answer in
-    let next : first ≡ Ok (Next queue) = request_is state first (Next queue) (told.Taken url) (next_asks settings queue fits) one in
-    let end : second ≡ Ok (Done queue) = request_is taken.state second (Done queue) (told.Count left) (done_asks settings queue fits) two in
+    let next : first ≡ Ok (Next queue) = request_is state first (Next queue) (says.Taken url) (next_asks settings queue fits) one in
+    let end : second ≡ Ok (Done queue) = request_is taken.state second (Done queue) (says.Count left) (done_asks settings queue fits) two in
     record {
       after = refl;
       flows =
-          subst (λ (asks : List Asked). Flows settings.workers asks [] (url ∷ []))
-          (λ i. (let x : Asked = record { request = sym next i; answer = sym one i } in let y : Asked = record { request = sym end i; answer = sym two i } in x ∷ y ∷ []))
+          subst (λ (asks : List LineAnswer). Flows settings.workers asks [] (url ∷ []))
+          (λ i. (let x : LineAnswer = record { request = sym next i; answer = sym one i } in let y : LineAnswer = record { request = sym end i; answer = sym two i } in x ∷ y ∷ []))
           (finish_flows settings.workers url queue left is);
     }
 
@@ -281,8 +281,8 @@ offered_adds settings state url queue more b v asks accepted rest =
     record {
       after = rest.after ∙ ap (λ (s : Frontier). state_after settings s back.lines) (sym mid);
       flows =
-          flows_both settings.workers (asked settings state (offer_line url ∷ [])) (asked settings (line_exchange settings state (offer_line url)).state back.lines) (url ∷ []) [] b v (accepted_flows settings state url queue asks accepted)
-          (subst (λ (s : Frontier). Flows settings.workers (asked settings s back.lines) b v) (sym mid) rest.flows);
+          flows_both settings.workers (line_answers settings state (offer_line url ∷ [])) (line_answers settings (line_exchange settings state (offer_line url)).state back.lines) (url ∷ []) [] b v (accepted_flows settings state url queue asks accepted)
+          (subst (λ (s : Frontier). Flows settings.workers (line_answers settings s back.lines) b v) (sym mid) rest.flows);
     }
 
 -- what is kept of a URL, by what its offer asks

@@ -1,5 +1,5 @@
 -- How often a URL is taken, done and put back, according to the answers.
-use Rattle.crawl_session.proofs.Prelude.{common_steps, ◌≡◌, ℕ, zero, suc, ◌+◌, ◌≤◌, Bool, true, false, cond, ◌||◌, if◌then◌else◌, is_some, List, [], ◌∷◌, ◌++◌, slice_get, Option, Some, None, Result, refl, sym, ap, subst, ◌∙◌, arith, All, cons_option, bytes_eq, sum_by-append, sum_by-cons, All-append, All-head, All-nil, All-tail, same_text, start_sound, Sound, subqueue_of, Answer, Request, RequestError, AgainIfPutBack, Asked, accepted_of, accepts, asked, busy_after, busy_before, busy_from, busy_in, done_urls, finishes, joined_from, joined_of, joins, put_back_urls, puts_back, taken_of, takes, times, Frontier, start, request_for, line_exchange, state_after, Settings}
+use Rattle.crawl_session.proofs.Prelude.{common_steps, ◌≡◌, ℕ, zero, suc, ◌+◌, ◌≤◌, Bool, true, false, cond, ◌||◌, if◌then◌else◌, is_some, List, [], ◌∷◌, ◌++◌, slice_get, Option, Some, None, Result, refl, sym, ap, subst, ◌∙◌, arith, All, cons_option, bytes_eq, sum_by-append, sum_by-cons, All-append, All-head, All-nil, All-tail, same_text, start_sound, Sound, subqueue_of, Answer, Request, RequestError, AgainIfPutBack, LineAnswer, accepted_of, accepts, line_answers, busy_after, busy_before, busy_from, busy_in, done_urls, finishes, joined_from, joined_of, joins, put_back_urls, puts_back, taken_of, takes, times, Frontier, start, request_for, line_exchange, state_after, Settings}
 use Rattle.std.specs.Option.{IfSome, option_or, option_to_list}
 use Rattle.crawl_session.proofs.Assigned.{accepted_as_assigned}
 use Rattle.crawl_session.proofs.Conserved.{line_of, line_sound, starts_empty, starts_free, starts_settled}
@@ -54,14 +54,14 @@ join_times : (url : List ℕ) (queue : ℕ) (r : Result Request RequestError) (a
     → times_in url (joins queue busy (record { request = r; answer = answer })) ≡ times_in url (accepts queue r answer) + times_in url (if puts_back queue r answer then busy else None)
 join_times url queue r answer busy = grind arith
 
-abbrev was_put_back : ℕ → Asked → Bool
+abbrev was_put_back : ℕ → LineAnswer → Bool
 was_put_back queue x = puts_back queue x.request x.answer
 
-abbrev was_done : ℕ → Asked → Bool
+abbrev was_done : ℕ → LineAnswer → Bool
 was_done queue x = finishes queue x.request x.answer
 
-pub joined_times : (url : List ℕ) (queue : ℕ) (busy : Option (List ℕ)) (asked : List Asked)
-    → times url (joined_from queue busy asked) ≡ times url (accepted_of queue asked) + times url (busy_before (was_put_back queue) queue busy asked)
+pub joined_times : (url : List ℕ) (queue : ℕ) (busy : Option (List ℕ)) (line_answers : List LineAnswer)
+    → times url (joined_from queue busy line_answers) ≡ times url (accepted_of queue line_answers) + times url (busy_before (was_put_back queue) queue busy line_answers)
 joined_times url queue busy [] = refl
 joined_times url queue busy (x ∷ more) =
     let next = busy_after queue busy x in
@@ -83,14 +83,14 @@ line_times : (url : List ℕ) (queue : ℕ) (r : Result Request RequestError) (a
 line_times url queue r answer busy next is free = grind arith
 
 taken_times : (url : List ℕ) (settings : Settings) (state : Frontier) (lines : List (List ℕ)) (queue : ℕ) (busy : Option (List ℕ)) → Sound state.machine → Settled state → busy ≡ busy_of state queue
-    → times url (taken_of queue (asked settings state lines)) + times_in url busy
-    ≡ (times url (busy_before (was_done queue) queue busy (asked settings state lines)) + times url (busy_before (was_put_back queue) queue busy (asked settings state lines))) + times_in url (busy_from queue busy (asked settings state lines))
+    → times url (taken_of queue (line_answers settings state lines)) + times_in url busy
+    ≡ (times url (busy_before (was_done queue) queue busy (line_answers settings state lines)) + times url (busy_before (was_put_back queue) queue busy (line_answers settings state lines))) + times_in url (busy_from queue busy (line_answers settings state lines))
 taken_times url settings state [] queue busy sound settled is = refl
 taken_times url settings state (line ∷ more) queue busy sound settled is =
     let r = request_for settings line in
     let here = line_exchange settings state line in
-    let rest = asked settings here.state more in
-    let x : Asked = record { request = r; answer = here.answer } in
+    let rest = line_answers settings here.state more in
+    let x : LineAnswer = record { request = r; answer = here.answer } in
     let passes = answered_passes state r sound settled in
     let flow = passes.flow queue in
     let next = busy_after queue busy x in
@@ -103,12 +103,12 @@ taken_times url settings state (line ∷ more) queue busy sound settled is =
     omega (arith, later, first, taken, done, put)
 
 -- the URL that a queue is busy with according to the answers is the one that it is busy with
-pub busy_is : (settings : Settings) (state : Frontier) (lines : List (List ℕ)) (queue : ℕ) (busy : Option (List ℕ)) → Sound state.machine → Settled state → busy ≡ busy_of state queue → busy_from queue busy (asked settings state lines) ≡ busy_of (state_after settings state lines) queue
+pub busy_is : (settings : Settings) (state : Frontier) (lines : List (List ℕ)) (queue : ℕ) (busy : Option (List ℕ)) → Sound state.machine → Settled state → busy ≡ busy_of state queue → busy_from queue busy (line_answers settings state lines) ≡ busy_of (state_after settings state lines) queue
 busy_is settings state [] queue busy sound settled is = is
 busy_is settings state (line ∷ more) queue busy sound settled is =
     let r = request_for settings line in
     let here = line_exchange settings state line in
-    let x : Asked = record { request = r; answer = here.answer } in
+    let x : LineAnswer = record { request = r; answer = here.answer } in
     let passes = answered_passes state r sound settled in
     busy_is settings here.state more queue (busy_after queue busy x) (line_sound settings state line sound) passes.settled (ap (λ o. busy_after queue o x) is ∙ sym (passes.flow queue).busy)
 
@@ -117,9 +117,9 @@ busy_is settings state (line ∷ more) queue busy sound settled is =
 some_all : (P : List ℕ → Type 0) (o : Option (List ℕ)) → IfSome o P → All P (option_to_list o)
 some_all P o holds = grind arith
 
-all_behind : (P : List ℕ → Type 0) (o : Option (List ℕ)) (urls : List (List ℕ)) → All P (option_to_list o ++ urls) → IfSome o P × All P urls
-all_behind P None urls all = (tt, all)
-all_behind P (Some url) urls all = (All-head P url urls all, All-tail P url urls all)
+all_after : (P : List ℕ → Type 0) (o : Option (List ℕ)) (urls : List (List ℕ)) → All P (option_to_list o ++ urls) → IfSome o P × All P urls
+all_after P None urls all = (tt, all)
+all_after P (Some url) urls all = (All-head P url urls all, All-tail P url urls all)
 
 joins_hold : (P : List ℕ → Type 0) (b : Bool) (busy accepted : Option (List ℕ)) → IfSome busy P → IfSome accepted P → IfSome (if b then busy else accepted) P
 joins_hold P b busy accepted first second = grind arith
@@ -135,20 +135,20 @@ if_some P o each = grind arith
 
 taken_where : (P : List ℕ → Type 0) (settings : Settings) (queue : ℕ) → ((state : Frontier) (line url : List ℕ) → accepts queue (request_for settings line) (line_exchange settings state line).answer ≡ Some url → P url)
     → (state : Frontier) (lines : List (List ℕ)) → Sound state.machine → Settled state → All P (line_of state queue) → IfSome (busy_of state queue) P
-    → (k : ℕ) (url : List ℕ) → slice_get (taken_of queue (asked settings state lines)) k ≡ Some url → P url
+    → (k : ℕ) (url : List ℕ) → slice_get (taken_of queue (line_answers settings state lines)) k ≡ Some url → P url
 taken_where P settings queue each state [] sound settled waits busy k url at = absurd (cc)
 taken_where P settings queue each state (line ∷ more) sound settled waits busy k url at =
     let r = request_for settings line in
     let here = line_exchange settings state line in
-    let x : Asked = record { request = r; answer = here.answer } in
+    let x : LineAnswer = record { request = r; answer = here.answer } in
     let passes = answered_passes state r sound settled in
     let flow = passes.flow queue in
     let accepted = if_some P (accepts queue r here.answer) (each state line) in
     let joined = some_all P (joins queue (busy_of state queue) x) (joins_hold P (puts_back queue r here.answer) (busy_of state queue) (accepts queue r here.answer) busy accepted) in
-    let behind = all_behind P (takes queue r here.answer) (line_of here.state queue) (subst (All P) flow.line (All-append P (line_of state queue) (option_to_list (joins queue (busy_of state queue) x)) waits joined)) in
-    let next = subst (λ o. IfSome o P) (sym flow.busy) (busy_holds P (finishes queue r here.answer || puts_back queue r here.answer) (takes queue r here.answer) (busy_of state queue) behind.0 busy) in
-    got P (takes queue r here.answer) (taken_of queue (asked settings here.state more)) behind.0
-    (taken_where P settings queue each here.state more (line_sound settings state line sound) passes.settled behind.1 next) k url at
+    let following = all_after P (takes queue r here.answer) (line_of here.state queue) (subst (All P) flow.line (All-append P (line_of state queue) (option_to_list (joins queue (busy_of state queue) x)) waits joined)) in
+    let next = subst (λ o. IfSome o P) (sym flow.busy) (busy_holds P (finishes queue r here.answer || puts_back queue r here.answer) (takes queue r here.answer) (busy_of state queue) following.0 busy) in
+    got P (takes queue r here.answer) (taken_of queue (line_answers settings here.state more)) following.0
+    (taken_where P settings queue each here.state more (line_sound settings state line sound) passes.settled following.1 next) k url at
 
 accepted_first : (settings : Settings) (queue : ℕ) (state : Frontier) (line url : List ℕ) → accepts queue (request_for settings line) (line_exchange settings state line).answer ≡ Some url → queue ≡ subqueue_of url settings.workers
 accepted_first settings queue state line url is = accepted_as_assigned settings state (line ∷ []) queue zero url (ap (λ (o : Option (List ℕ)). slice_get (cons_option o []) zero) is)
@@ -157,19 +157,19 @@ accepted_first settings queue state line url is = accepted_as_assigned settings 
 
 -- of one queue and URL
 pub record Sums (settings : Settings) (max : ℕ) (lines : List (List ℕ)) (queue : ℕ) (url : List ℕ) : Type 0 where
-  pub joined : times url (joined_of queue (asked settings (start settings.workers max) lines)) ≡ times url (accepted_of queue (asked settings (start settings.workers max) lines)) + times url (put_back_urls queue (asked settings (start settings.workers max) lines))
-  pub ended : times url (taken_of queue (asked settings (start settings.workers max) lines)) ≡ times url (done_urls queue (asked settings (start settings.workers max) lines)) + times url (put_back_urls queue (asked settings (start settings.workers max) lines)) + times_in url (busy_in queue (asked settings (start settings.workers max) lines))
+  pub joined : times url (joined_of queue (line_answers settings (start settings.workers max) lines)) ≡ times url (accepted_of queue (line_answers settings (start settings.workers max) lines)) + times url (put_back_urls queue (line_answers settings (start settings.workers max) lines))
+  pub ended : times url (taken_of queue (line_answers settings (start settings.workers max) lines)) ≡ times url (done_urls queue (line_answers settings (start settings.workers max) lines)) + times url (put_back_urls queue (line_answers settings (start settings.workers max) lines)) + times_in url (busy_in queue (line_answers settings (start settings.workers max) lines))
 
 pub sums : (settings : Settings) (max : ℕ) (lines : List (List ℕ)) (queue : ℕ) (url : List ℕ) → Sums settings max lines queue url
 sums settings max lines queue url =
     let begun = start settings.workers max in
     let taken = taken_times url settings begun lines queue None (start_sound settings.workers max) (starts_settled settings.workers max) (sym (starts_free settings.workers max queue)) in
     record {
-      joined = joined_times url queue None (asked settings begun lines);
+      joined = joined_times url queue None (line_answers settings begun lines);
       ended = omega (arith, taken);
     }
 
-pub again_if_put_back : (settings : Settings) (max : ℕ) (lines : List (List ℕ)) → AgainIfPutBack settings.workers (asked settings (start settings.workers max) lines)
+pub again_if_put_back : (settings : Settings) (max : ℕ) (lines : List (List ℕ)) → AgainIfPutBack settings.workers (line_answers settings (start settings.workers max) lines)
 again_if_put_back settings max lines = record {
   own = λ queue k url at. taken_where (λ u. queue ≡ subqueue_of u settings.workers) settings queue (accepted_first settings queue) begun lines (start_sound settings.workers max) (starts_settled settings.workers max)
       (subst (All (λ u. queue ≡ subqueue_of u settings.workers)) (sym (starts_empty settings.workers max queue)) (All-nil (λ u. queue ≡ subqueue_of u settings.workers)))
@@ -182,9 +182,9 @@ again_if_put_back settings max lines = record {
     begun : Frontier
     begun = start settings.workers max
 
-    few : (queue : ℕ) (url : List ℕ) → times url (taken_of queue (asked settings begun lines)) ≤ suc (times url (put_back_urls queue (asked settings begun lines)))
+    few : (queue : ℕ) (url : List ℕ) → times url (taken_of queue (line_answers settings begun lines)) ≤ suc (times url (put_back_urls queue (line_answers settings begun lines)))
     few queue url =
-        let all = asked settings begun lines in
+        let all = line_answers settings begun lines in
         let joined = (sums settings max lines queue url).joined in
         let split = ap (times url) (joined_is settings max lines queue) ∙ times_append url (taken_of queue all) (line_of (state_after settings begun lines) queue) in
         let once = one_place url (accepted_of queue all) (λ i j. (each_once settings max lines).once queue i j url) in

@@ -1,5 +1,5 @@
 -- A busy queue can put its URL back.
-use Rattle.crawl_session.proofs.Prelude.{◌≡◌, ℕ, suc, ◌≤◌, Bool, true, false, not, ◌&&◌, is_some, List, Option, Some, None, Ok, refl, sym, ap, ◌∙◌, arith, option_map, fetch_of, one_if, can_hand_over, HasRoom, count_of, Subqueue, gate_invariant, eqb_same, start_sound, Sound, none_unfinished, Deferred, Later, asked, busy_in, puts_back, Outcome, deferring, deferring_taken, Frontier, deferrals_at, start, request_for, answered, history_of, line_exchange, state_after, Settings}
+use Rattle.crawl_session.proofs.Prelude.{◌≡◌, ℕ, suc, ◌≤◌, Bool, true, false, not, ◌&&◌, is_some, List, Option, Some, None, Ok, refl, sym, ap, ◌∙◌, arith, option_map, fetch_of, one_if, can_hand_over, HasRoom, count_of, Subqueue, gate_invariant, eqb_same, start_sound, Sound, none_unfinished, Deferred, Later, line_answers, busy_in, puts_back, Outcome, deferring, deferring_taken, Frontier, deferrals_at, start, request_for, answered, history_of, line_exchange, state_after, Settings}
 use Rattle.crawl_session.proofs.Conserved.{settled_after_lines, starts_free, starts_settled}
 use Rattle.crawl_session.proofs.Emptied.{owned_after_lines}
 use Rattle.crawl_session.proofs.Flows.{fetches_busy}
@@ -42,7 +42,7 @@ deferring_back : (state : Frontier) (named : ℕ) (fetched : Option Deferred) �
 deferring_back state named fetched sound owned within = grind (arith, taken_back, queue_at, eqb_same)
 
 pub later_if_busy : (settings : Settings) (max : ℕ) (front : List (List ℕ)) (line : List ℕ) (queue : ℕ) → HasRoom max → request_for settings line ≡ Ok (Later queue)
-    → puts_back queue (Ok (Later queue)) (line_exchange settings (state_after settings (start settings.workers max) front) line).answer ≡ is_some (busy_in queue (asked settings (start settings.workers max) front))
+    → puts_back queue (Ok (Later queue)) (line_exchange settings (state_after settings (start settings.workers max) front) line).answer ≡ is_some (busy_in queue (line_answers settings (start settings.workers max) front))
 later_if_busy settings max front line queue room asks =
     let begun = start settings.workers max in
     let state = state_after settings begun front in

@@ -26,8 +26,8 @@ exchange_runs frontier (Stats queue) = refl
 exchange_runs frontier (Seen queue count) = refl
 exchange_runs frontier EndSeeds = grind arith
 
-pub answered_runs : (frontier : Frontier) (asked : Result Request RequestError) → RunsTo frontier (answered frontier asked)
-answered_runs frontier asked = grind (arith, exchange_runs)
+pub answered_runs : (frontier : Frontier) (line_answers : Result Request RequestError) → RunsTo frontier (answered frontier line_answers)
+answered_runs frontier line_answers = grind (arith, exchange_runs)
 
 -- a run, and another from where it ended
 pub run_join : (old : State) (front : List (Event × Reply)) (mid : State) (back : List (Event × Reply)) (new : State) → Run old front mid → Run mid back new → Run old (front ++ back) new
@@ -52,7 +52,7 @@ as_long history = grind (arith, common_steps)
 
 pub as_run : (workers max : ℕ) (history : List (Event × Reply)) (end : State) → Run (start workers max) history end → IsRun workers max (map (λ x. x.0) history) (map (λ x. x.1) history)
 as_run workers max history end run = record {
-  as_many = as_long history;
+  right_length = as_long history;
   end = end;
   run = subst (λ h. Run (start workers max) h end) (sym (zipped history)) run;
 }

@@ -1,5 +1,5 @@
 -- The numbers of `seen` are those of the answers.
-use Rattle.crawl_session.proofs.Prelude.{◌≡◌, ℕ, ◌+◌, ◌-◌, ◌<◌, ◌≤◌, ◌^◌, Bool, true, false, if◌then◌else◌, nat_eq, List, [], ◌∷◌, length, get_or, slice_get, Option, Some, None, Result, Ok, Err, refl, sym, ap, subst, ◌∙◌, arith, replicate, length-replicate, sum_by-cons, eqb-false, eqb-true, get_or-set_other, get_or-set_same, length-slice_set, slice_get-get_or, Answer, Told, Request, Offer, Next, Again, Later, Done, EndSeeds, Seen, Stats, RequestError, Asked, asked, seen_by, seen_of, Frontier, start, answered, exchange, seen_reply, request_for, line_exchange, state_after, Settings}
+use Rattle.crawl_session.proofs.Prelude.{◌≡◌, ℕ, ◌+◌, ◌-◌, ◌<◌, ◌≤◌, ◌^◌, Bool, true, false, if◌then◌else◌, nat_eq, List, [], ◌∷◌, length, get_or, slice_get, Option, Some, None, Result, Ok, Err, refl, sym, ap, subst, ◌∙◌, arith, replicate, length-replicate, sum_by-cons, eqb-false, eqb-true, get_or-set_other, get_or-set_same, length-slice_set, slice_get-get_or, Answer, Replied, Request, Offer, Next, Again, Later, Done, EndSeeds, Seen, Stats, RequestError, LineAnswer, line_answers, seen_by, seen_of, Frontier, start, answered, exchange, seen_reply, request_for, line_exchange, state_after, Settings}
 use Rattle.std.proofs.lemmas.List.{get_or-replicate}
 use Rattle.std.specs.Prelude.{min}
 use Rattle.crawl_session.specs.Seen.{add_seen, none_seen, seen_with, sum_of}
@@ -31,7 +31,7 @@ offer_counts : (seen : List ℕ) (url : List ℕ) (named queue : ℕ) (answer : 
 offer_counts seen url named queue answer inside small = grind (arith, add_counts, none_more)
 
 -- a queue that there is not counts nothing
-count_counts : (seen : List ℕ) (named queue count : ℕ) (before : Option ℕ) → slice_get seen named ≡ before → queue < length seen → Small (get_or seen queue 0) → get_or (add_seen named count seen) queue 0 ≡ sum_of (get_or seen queue 0) (seen_by queue (Ok (Seen named count)) (Told (seen_reply before)))
+count_counts : (seen : List ℕ) (named queue count : ℕ) (before : Option ℕ) → slice_get seen named ≡ before → queue < length seen → Small (get_or seen queue 0) → get_or (add_seen named count seen) queue 0 ≡ sum_of (get_or seen queue 0) (seen_by queue (Ok (Seen named count)) (Replied (seen_reply before)))
 count_counts seen named queue count (Some n) is inside small = add_counts seen named queue count inside small
 count_counts seen named queue count None is inside small =
     add_counts seen named queue count inside small ∙ ap (λ b. sum_of (get_or seen queue 0) (if b then count else 0)) (apart (nat_eq named queue) refl)
@@ -75,19 +75,19 @@ sum_small a b = omega arith
 sums_both : (a b c : ℕ) → sum_of (sum_of a b) c ≡ sum_of a (b + c)
 sums_both a b c = omega arith
 
-pub counted : (settings : Settings) (state : Frontier) (lines : List (List ℕ)) (queue : ℕ) → queue < length state.seen → Small (seen_at state queue) → seen_at (state_after settings state lines) queue ≡ sum_of (seen_at state queue) (seen_of queue (asked settings state lines))
+pub counted : (settings : Settings) (state : Frontier) (lines : List (List ℕ)) (queue : ℕ) → queue < length state.seen → Small (seen_at state queue) → seen_at (state_after settings state lines) queue ≡ sum_of (seen_at state queue) (seen_of queue (line_answers settings state lines))
 counted settings state [] queue inside small = none_more (seen_at state queue) small
 counted settings state (line ∷ more) queue inside small =
     let r = request_for settings line in
     let here = line_exchange settings state line in
-    let x : Asked = record { request = r; answer = here.answer } in
-    let rest = asked settings here.state more in
+    let x : LineAnswer = record { request = r; answer = here.answer } in
+    let rest = line_answers settings here.state more in
     let one = answer_counts state r queue inside small in
     let long : length here.state.seen ≡ length state.seen = ap length (answered_seen state r) ∙ next_long r here.answer state.seen in
     counted settings here.state more queue (subst (λ n. queue < n) (sym long) inside) (subst Small (sym one) (sum_small (seen_at state queue) (seen_by queue r here.answer)))
     ∙ ap (λ n. sum_of n (seen_of queue rest)) one
     ∙ sums_both (seen_at state queue) (seen_by queue r here.answer) (seen_of queue rest)
-    ∙ ap (sum_of (seen_at state queue)) (sym (sum_by-cons (λ (y : Asked). seen_by queue y.request y.answer) x rest))
+    ∙ ap (sum_of (seen_at state queue)) (sym (sum_by-cons (λ (y : LineAnswer). seen_by queue y.request y.answer) x rest))
 
 -- the numbers of a new session: all its queues have one if their number has 32 bits
 pub none_of_all : (queues : ℕ) → queues < 2 ^ 32 → replicate queues 0 ≡ none_seen queues
@@ -96,7 +96,7 @@ none_of_all queues fits = let all : queues ≡ min queues (2 ^ 32) = omega (arit
 starts_long : (workers max : ℕ) → length (start workers max).seen ≡ min workers (2 ^ 32)
 starts_long workers max = length-replicate (min workers (2 ^ 32)) 0
 
-pub counted_from_none : (settings : Settings) (max : ℕ) (lines : List (List ℕ)) (queue : ℕ) → queue < min settings.workers (2 ^ 32) → seen_at (state_after settings (start settings.workers max) lines) queue ≡ min (seen_of queue (asked settings (start settings.workers max) lines)) (2 ^ 64 - 1)
+pub counted_from_none : (settings : Settings) (max : ℕ) (lines : List (List ℕ)) (queue : ℕ) → queue < min settings.workers (2 ^ 32) → seen_at (state_after settings (start settings.workers max) lines) queue ≡ min (seen_of queue (line_answers settings (start settings.workers max) lines)) (2 ^ 64 - 1)
 counted_from_none settings max lines queue inside =
     let begun = start settings.workers max in
     let zero : seen_at begun queue ≡ 0 = get_or-replicate (min settings.workers (2 ^ 32)) queue 0 0 inside in

@@ -1,5 +1,5 @@
 -- The lines of a compacted log that keep the numbers of `seen` bring them back.
-use Rattle.crawl_session.proofs.Prelude.{◌≡◌, ℕ, suc, ◌+◌, ◌-◌, ◌<◌, ◌≤◌, ◌^◌, ◌==◌, Bool, true, false, not, if◌then◌else◌, nat_lt, List, [], ◌∷◌, ◌++◌, length, get_or, replicate, slice_set, take, Option, Some, None, option_map, option_and_then, Result, Ok, Err, refl, sym, ap, subst, ◌∙◌, arith, and_parts, nat_tests, append_assoc, codes, decimal, length-append, eqb-true, line_limit, at_space, at_space-joined, at_space-number, number_of_is, IsNumber, All, All-append, All-cons, All-nil, list_all, IsUnfinished, Appends, Appends-trans, flat_map-append, length-take-le, log_line, log_text, Part, Request, Seen, RequestError, Frontier, start, answered, request_for, request_in, request_of, asked_of, placed_if, state_after, Settings}
+use Rattle.crawl_session.proofs.Prelude.{◌≡◌, ℕ, suc, ◌+◌, ◌-◌, ◌<◌, ◌≤◌, ◌^◌, ◌==◌, Bool, true, false, not, if◌then◌else◌, nat_lt, List, [], ◌∷◌, ◌++◌, length, get_or, replicate, slice_set, take, Option, Some, None, option_map, option_and_then, Result, Ok, Err, refl, sym, ap, subst, ◌∙◌, arith, and_parts, nat_tests, append_assoc, codes, decimal, length-append, eqb-true, line_limit, at_space, at_space-joined, at_space-number, number_of_is, IsNumber, All, All-append, All-cons, All-nil, list_all, IsUnfinished, Appends, Appends-trans, flat_map-append, length-take-le, log_line, log_text, Part, Request, Seen, RequestError, Frontier, start, answered, request_for, request_in, request_of, own_request, placed_if, state_after, Settings}
 use Rattle.std.proofs.Math.Seq.{get_or-append_seam, set-append_seam}
 use Rattle.std.proofs.lemmas.List.{take_more}
 use Rattle.std.proofs.lemmas.Fmt.{IsAscii-decimal, length-decimal-le}
@@ -111,7 +111,7 @@ line_asks settings queue count fits =
 counts_for : (settings : Settings) (queue count : ℕ) → Fits queue count → request_for settings (seen_line queue count) ≡ Ok (Seen queue count)
 counts_for settings queue count fits = by_part settings.part (line_asks settings queue count fits)
   where
-    by_part : (part : Option Part) → request_of settings.workers settings.suffixes (seen_line queue count) ≡ Ok (Seen queue count) → asked_of part (seen_line queue count) (request_of settings.workers settings.suffixes (seen_line queue count)) ≡ Ok (Seen queue count)
+    by_part : (part : Option Part) → request_of settings.workers settings.suffixes (seen_line queue count) ≡ Ok (Seen queue count) → own_request part (seen_line queue count) (request_of settings.workers settings.suffixes (seen_line queue count)) ≡ Ok (Seen queue count)
     by_part None asks = asks
     by_part (Some part) asks = ap (placed_if part) asks
 

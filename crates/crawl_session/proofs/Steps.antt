@@ -23,8 +23,8 @@ pub gave_back : (old : Kept) (result : Result Reply AllocError) (new : Kept) →
 gave_back old result new makes ok = grind arith
 
 -- nothing happened
-pub gives_up_at_once : (old new : Kept) → new ≡ old → GivesUp old new
-gives_up_at_once old new same state shown = record {
+pub gives_up_immediately : (old new : Kept) → new ≡ old → GivesUp old new
+gives_up_immediately old new same state shown = record {
   history = [];
   next = state;
   run = refl;
@@ -35,8 +35,8 @@ gives_up_at_once old new same state shown = record {
 }
 
 -- the client has not entered, or its unit went back
-pub goes_back_at_once : (old new : Kept) → new ≡ old → GoesBack old new
-goes_back_at_once old new same state shown = inl (subst (λ (kept : Kept). Shows kept state) (sym same) shown)
+pub goes_back_immediately : (old new : Kept) → new ≡ old → GoesBack old new
+goes_back_immediately old new same state shown = inl (subst (λ (kept : Kept). Shows kept state) (sym same) shown)
 
 -- an entry that is granted
 record Granted (gate : GateSide) (messages : ℕ) (done : GateTurn) : Type 0 where
@@ -51,18 +51,18 @@ back_out [] free = refl
 back_out (x ∷ xs) free = grind (arith, nat_tests, back_out xs, true≢false)
 
 -- the gate after an entry and the return
-pub returned_gate : (gate : GateSide) (before behind : ℕ) → is_entered (enter gate before client).reply ≡ true
-    → (back (enter gate before client).gate behind client).gate ≡ record gate { remembered = remove_entry (is_at (nat_cmp client)) gate.remembered }
-returned_gate gate before behind = by_hold (holds gate client) refl
+pub returned_gate : (gate : GateSide) (before following : ℕ) → is_entered (enter gate before client).reply ≡ true
+    → (back (enter gate before client).gate following client).gate ≡ record gate { remembered = remove_entry (is_at (nat_cmp client)) gate.remembered }
+returned_gate gate before following = by_hold (holds gate client) refl
   where
     by_hold : (b : Bool) → holds gate client ≡ b → is_entered (if b then turned_away gate why.Busy else enter_with gate before client (remembers gate client)).reply ≡ true
-        → (back (if b then turned_away gate why.Busy else enter_with gate before client (remembers gate client)).gate behind client).gate ≡ record gate { remembered = remove_entry (is_at (nat_cmp client)) gate.remembered }
+        → (back (if b then turned_away gate why.Busy else enter_with gate before client (remembers gate client)).gate following client).gate ≡ record gate { remembered = remove_entry (is_at (nat_cmp client)) gate.remembered }
     by_hold true is entered = absurd (true≢false (sym entered))
     by_hold false free entered =
         let inside = (grant gate before client).gate in
         let held : holds inside client ≡ true = list_any-insert_key nat_cmp_total client client gate.holders in
-        ap (λ (g : GateSide). (back g behind client).gate) ((granted gate before (remembers gate client)).same entered)
-        ∙ ap (λ b. (if b then gate_side.gave_back (let_go inside client) behind else turned_away inside why.Nothing).gate) held
+        ap (λ (g : GateSide). (back g following client).gate) ((granted gate before (remembers gate client)).same entered)
+        ∙ ap (λ b. (if b then gate_side.gave_back (let_go inside client) following else turned_away inside why.Nothing).gate) held
         ∙ ap (λ (hs : List ℕ). record inside { holders = hs }) (back_out gate.holders free)
 
 -- of an offer there was a look, and an entry and the return, or no entry

@@ -11,14 +11,14 @@ use Rattle.text_lines.specs.Fields.{at_space, is_space}
 use Rattle.text_lines.specs.declared.lines.LineError.TheVariants.{TooLong, NotText}
 use Rattle.crawl_session.specs.Frontiers.{Frontier}
 use Rattle.crawl_session.specs.Input.{IsUnfinished}
-use Rattle.crawl_session.specs.Parts.{asked_of, placed_if}
+use Rattle.crawl_session.specs.Parts.{own_request, placed_if}
 use Rattle.crawl_session.specs.Requests.{request_from, request_in}
 use Rattle.crawl_session.specs.Sessions.{answered, line_exchange, state_after}
 use Rattle.crawl_session.specs.Settings.{Settings}
 use Rattle.crawl_session.specs.Sums.{digit, kept, kept_byte, sum_after, summed_each, unfinished_after}
 use Rattle.crawl_session.specs.declared.part.Part.{Part}
 use Rattle.crawl_session.specs.declared.request.RequestError.TheVariants as wrong
-use Rattle.crawl_session.proofs.Cuts.{line_before, lines_behind, one_line}
+use Rattle.crawl_session.proofs.Cuts.{line_before, lines_after, one_line}
 use Rattle.crawl_session.proofs.Lines.{state_after-append}
 use Rattle.crawl_session.proofs.SumLaws.{Cut, cut, kept-unfinished, kept_end, kept_lf, length-kept, sum_front, sum_front_unfinished, unfinished_more, unfinished_text, whole_more, whole_text}
 use Rattle.crawl_session.proofs.SumLines.{IsOther}
@@ -52,7 +52,7 @@ unasked : (m : Bool) (settings : Settings) (state : Frontier) (rest : List ℕ) 
 unasked m settings state rest = by_part m settings.part (nat_lt line_limit (length (mark m ∷ rest))) (is_utf8 (mark m ∷ rest)) (unasked_text m settings.workers settings.suffixes rest)
   where
     by_part : (m : Bool) (part : Option Part) (long text : Bool) → request_from settings.workers settings.suffixes (mark m ∷ rest) (at_space (mark m ∷ rest)) ≡ Err wrong.BadLine
-        → (answered state (asked_of part (mark m ∷ rest) (request_in settings.workers settings.suffixes (if long then Err (TooLong 1) else if text then Ok (mark m ∷ rest) else Err (NotText 1))))).state ≡ state
+        → (answered state (own_request part (mark m ∷ rest) (request_in settings.workers settings.suffixes (if long then Err (TooLong 1) else if text then Ok (mark m ∷ rest) else Err (NotText 1))))).state ≡ state
     by_part m None true text bad = refl
     by_part m None false true bad = ap (λ r. (answered state r).state) bad
     by_part m None false false bad = refl
@@ -107,10 +107,10 @@ begins_alike (byte ∷ more) is = by_mark (byte == 35) refl
     by_mark true at = inr (record { rest = more; spaced = ap (λ l. 32 ∷ l) later; marked = ap (λ b. b ∷ more) (eqb-true byte 35 at) })
     by_mark false at = inl (ap (λ l. byte ∷ l) later)
 
-goes_on_alike : (line other bytes : List ℕ) → IsUnfinished bytes → Alike line other → Alike (line ++ kept (length line == 0) bytes) (other ++ bytes)
-goes_on_alike [] other bytes is (inl same) = subst (λ o. Alike (kept true bytes) (o ++ bytes)) same (begins_alike bytes is)
-goes_on_alike [] other bytes is (inr m) = absurd (omega (arith, ap (λ l. length l) m.spaced))
-goes_on_alike (byte ∷ line) other bytes is alike = by_case alike
+continues_alike : (line other bytes : List ℕ) → IsUnfinished bytes → Alike line other → Alike (line ++ kept (length line == 0) bytes) (other ++ bytes)
+continues_alike [] other bytes is (inl same) = subst (λ o. Alike (kept true bytes) (o ++ bytes)) same (begins_alike bytes is)
+continues_alike [] other bytes is (inr m) = absurd (omega (arith, ap (λ l. length l) m.spaced))
+continues_alike (byte ∷ line) other bytes is alike = by_case alike
   where
     later : (byte ∷ line) ++ kept (length (byte ∷ line) == 0) bytes ≡ (byte ∷ line) ++ bytes
     later = ap (λ b. (byte ∷ line) ++ kept b bytes) (ne_eqb (length (byte ∷ line)) 0 (λ e. absurd (omega (arith, e)))) ∙ ap (λ l. (byte ∷ line) ++ l) (kept_later bytes is)
@@ -153,7 +153,7 @@ module _ (settings : Settings) where
           let later : (length longer == 0) ≡ false = ne_eqb (length longer) 0 (λ e. absurd (omega (arith, e, length-append line (kept_byte start byte ∷ [])))) in
           ap (after state) (sym (append_assoc line (kept_byte start byte ∷ []) (kept false (front ++ 10 ∷ []))))
           ∙ ap (λ b. after state (longer ++ kept b (front ++ 10 ∷ []))) (sym later)
-          ∙ more longer (other ++ byte ∷ []) state (All-append IsOther line (kept_byte start byte ∷ []) is (kept-unfinished start (byte ∷ []) one)) (All-append IsOther other (byte ∷ []) are one) (goes_on_alike line other (byte ∷ []) one alike)
+          ∙ more longer (other ++ byte ∷ []) state (All-append IsOther line (kept_byte start byte ∷ []) is (kept-unfinished start (byte ∷ []) one)) (All-append IsOther other (byte ∷ []) are one) (continues_alike line other (byte ∷ []) one alike)
           ∙ ap (after state) (append_assoc other (byte ∷ []) (front ++ 10 ∷ []))
 
   -- a checksum line changes nothing
@@ -181,11 +181,11 @@ module _ (settings : Settings) where
       ap (λ t. after state (line ++ (t ++ summed_each (write hash t) (unfinished_after (length line) bytes) more))) (unfinished_text hash (length line == 0) bytes unfinished)
       ∙ ap (λ n. after state (line ++ (text ++ summed_each (write hash text) n more))) len
       ∙ ap (after state) (sym (append_assoc line text (summed_each (write hash text) (length (line ++ text)) more)))
-      ∙ rest (write hash text) (line ++ text) (other ++ bytes) state (All-append IsOther line text is (kept-unfinished (length line == 0) bytes unfinished)) (All-append IsOther other bytes are unfinished) (goes_on_alike line other bytes unfinished alike)
+      ∙ rest (write hash text) (line ++ text) (other ++ bytes) state (All-append IsOther line text is (kept-unfinished (length line == 0) bytes unfinished)) (All-append IsOther other bytes are unfinished) (continues_alike line other bytes unfinished alike)
       ∙ ap (after state) (append_assoc other bytes (concat more))
 
   after_whole : (state : Frontier) (front rest : List ℕ) → after state ((front ++ 10 ∷ []) ++ rest) ≡ after (after state (front ++ 10 ∷ [])) rest
-  after_whole state front rest = ap (state_after settings state) (lines_behind (front ++ 10 ∷ []) rest (inr (front, refl))) ∙ state_after-append settings state (lines (front ++ 10 ∷ [])) (lines rest)
+  after_whole state front rest = ap (state_after settings state) (lines_after (front ++ 10 ∷ []) rest (inr (front, refl))) ∙ state_after-append settings state (lines (front ++ 10 ∷ [])) (lines rest)
 
   whole_replays : (front left : List ℕ) (more : List (List ℕ)) → IsUnfinished left → Replays more → Replays ((front ++ 10 ∷ left) ∷ more)
   whole_replays front left more unfinished later hash line other state is are alike =

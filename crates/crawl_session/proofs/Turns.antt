@@ -1,6 +1,6 @@
 -- What is read, after an unfinished line, and what is answered of it.
 use Rattle.crawl_session.proofs.Prelude.{◌≡◌, ℕ, inl, inr, List, [], ◌∷◌, ◌++◌, take, drop, Option, refl, sym, ap, subst, ◌∙◌, append_assoc, append-nil, take-append-drop, Appends, Consumes, lines, Consumes-trans, Consumes-all, Appends-trans, held_limit, IsUnfinished, AreWhole, Holds, AnswersWhole, Turns, Ends, ServesInput, ServesAll, SessionView}
-use Rattle.crawl_session.proofs.Cuts.{lines_behind, whole-append, tail_asks, front_asks, take_cut, unfinished-append}
+use Rattle.crawl_session.proofs.Cuts.{lines_after, whole-append, tail_asks, front_asks, take_cut, unfinished-append}
 use Rattle.crawl_session.proofs.Lines.{serves_none, serves_more, serves_alike}
 
 -- no line ends in what was read
@@ -68,7 +68,7 @@ served_more begun input_old input_mid input_new out_old out_mid out_new held new
       whole = whole-append so_far.front in_it.front so_far.whole in_it.whole;
       holds = in_it.holds;
       serves =
-          subst (λ ls. ServesAll begun ls (so_far.text ++ turns.text) new) (sym (lines_behind so_far.front in_it.front so_far.whole))
+          subst (λ ls. ServesAll begun ls (so_far.text ++ turns.text) new) (sym (lines_after so_far.front in_it.front so_far.whole))
           (serves_more begun (lines so_far.front) so_far.text mid (lines in_it.front) turns.text new so_far.serves in_it.serves);
       written = Appends-trans out_old out_mid out_new so_far.text turns.text so_far.written turns.written;
     }
@@ -82,7 +82,7 @@ served_whole begun input_old input_mid input_new out_old out_mid out_new held mi
       text = so_far.text ++ ends.text;
       read = Consumes-all input_old input_new bytes [] bytes (subst (Consumes input_old input_new) (append-nil bytes) (Consumes-trans input_old input_mid input_new bytes [] so_far.read ends.at_end.0)) ends.at_end.1 refl;
       serves =
-          subst (λ ls. ServesAll begun ls (so_far.text ++ ends.text) new) (sym (lines_behind so_far.front so_far.tail so_far.whole))
+          subst (λ ls. ServesAll begun ls (so_far.text ++ ends.text) new) (sym (lines_after so_far.front so_far.tail so_far.whole))
           (serves_more begun (lines so_far.front) so_far.text mid (lines so_far.tail) ends.text new so_far.serves ends.serves);
       written = Appends-trans out_old out_mid out_new so_far.text ends.text so_far.written ends.written;
     }

@@ -1,7 +1,7 @@
 -- No answer depends on the words that senders remember from before.
-use Rattle.crawl_session.proofs.Prelude.{◌≡◌, ℕ, suc, Bool, true, cond, if◌then◌else◌, List, [], ◌∷◌, slice_get, Option, Some, None, Result, Ok, Err, refl, sym, ap, ◌∙◌, arith, nat_tests, is_at, insert_entry, lookup, nat_cmp, nat_cmp_total, Event, Reply, Word, GateSide, GateTurn, back, close, end_seeds, enter, enter_with, holds, remembers, shown_word, Message, in_fetch, can_hand_over, State, count_of, unfinished_in, Turn, turn, admit_to, by_gate, done_with, take_from, take_oldest, Subqueue, oldest, lookup-insert_entry, Answer, Request, Offer, Next, Again, Later, Done, EndSeeds, Seen, Stats, RequestError, Told, Deferred, Exchange, Outcome, by_machine, client, after, deferring, deferring_taken, ends, admitting, entering, exchange, finishing, handing, is_count, is_due, is_entered, is_seen, is_empty, noted, offering, put_back, replies, retaking, seeds_ended, stats_answer, taking, taking_again, taking_next, request_for, Frontier, deferrals_at, with_deferrals, answered, answers, line_exchange, Settings, stats_for}
+use Rattle.crawl_session.proofs.Prelude.{◌≡◌, ℕ, suc, Bool, true, cond, if◌then◌else◌, List, [], ◌∷◌, slice_get, Option, Some, None, Result, Ok, Err, refl, sym, ap, ◌∙◌, arith, nat_tests, is_at, insert_entry, lookup, nat_cmp, nat_cmp_total, Event, Reply, Word, GateSide, GateTurn, back, close, end_seeds, enter, enter_with, holds, remembers, shown_word, Message, in_fetch, can_hand_over, State, count_of, unfinished_in, Turn, turn, admit_to, by_gate, done_with, take_from, take_oldest, Subqueue, oldest, lookup-insert_entry, Answer, Request, Offer, Next, Again, Later, Done, EndSeeds, Seen, Stats, RequestError, Replied, Deferred, Exchange, Outcome, by_machine, client, after, deferring, deferring_taken, ends, admitting, entering, exchange, finishing, handing, is_count, is_due, is_entered, is_seen, is_empty, noted, offering, put_back, replies, retaking, seeds_ended, stats_answer, taking, taking_again, taking_next, request_for, Frontier, deferrals_at, with_deferrals, answered, answers, line_exchange, Settings, stats_for}
 use Rattle.crawl_core.specs.declared.event.Event.TheVariants as event
-use Rattle.crawl_core.specs.declared.reply.Reply.TheVariants as told
+use Rattle.crawl_core.specs.declared.reply.Reply.TheVariants as says
 use Rattle.crawl_core.specs.declared.reply.Refusal.TheVariants as why
 use Rattle.crawl_session.specs.Exchanges as exchanges
 use Rattle.crawl_session.specs.Seen.{seen_with}
@@ -102,9 +102,9 @@ admitting_alike state words url named =
     let same = admit_alike state words url named (slice_get state.subqueues named) in
     let done = turn state admit in
     let leaving = gate_turn done.state same.words _ _ (back_alike done.state.gate same.words (unfinished_in done.state) client) in
-    alike_after (with_words state words) state admit (λ reply admitted. if is_seen reply then after admitted (event.Back client) (λ _ left. ends told.Seen left) else ends reply admitted) same
+    alike_after (with_words state words) state admit (λ reply admitted. if is_seen reply then after admitted (event.Back client) (λ _ left. ends says.Seen left) else ends reply admitted) same
     (alike_if (is_seen done.reply) _ _ _ _
-    (alike_after (with_words done.state same.words) done.state (event.Back client) (λ _ left. ends told.Seen left) leaving (alike_end told.Seen (turn done.state (event.Back client)).state leaving.words))
+    (alike_after (with_words done.state same.words) done.state (event.Back client) (λ _ left. ends says.Seen left) leaving (alike_end says.Seen (turn done.state (event.Back client)).state leaving.words))
     (alike_end done.reply done.state same.words))
 
 entering_alike : (state : State) (words : Words) (url : List ℕ) (named : ℕ) → remembers (with_gate state.gate words) client ≡ remembers state.gate client → Alike (entering (with_words state words) url named) (entering state url named)
@@ -158,7 +158,7 @@ read_alike sender word words others =
 
 handing_alike : (state : State) (words : Words) (named sender : ℕ) → Alike (handing (with_words state words) named sender) (handing state named sender)
 handing_alike state words named sender =
-    let count = told.Count (count_of state) in
+    let count = says.Count (count_of state) in
     let same = done_alike state words named (slice_get state.subqueues named) in
     let done = turn state (event.Done named) in
     let word = shown_word done.state.gate (unfinished_in done.state) in
@@ -199,18 +199,18 @@ still_alike : (reply : Reply) (frontier : Frontier) (words : Words) → AlikeOut
 still_alike reply frontier words = record { answer = refl; words = words; state = refl }
 
 retaking_alike : (frontier : Frontier) (words : Words) (named : ℕ) (waiting : List Deferred) → AlikeOutcome (retaking (with_words_of frontier words) named waiting) (retaking frontier named waiting)
-retaking_alike frontier words named [] = still_alike (told.Refused why.Busy) frontier words
+retaking_alike frontier words named [] = still_alike (says.Refused why.Busy) frontier words
 retaking_alike frontier words named (first ∷ more) = record { answer = refl; words = words; state = refl }
 
 next_alike : (frontier : Frontier) (words : Words) (named : ℕ) (waiting : List Deferred) (fetched : Option Deferred) → AlikeOutcome (taking_next (with_words_of frontier words) named waiting fetched) (taking_next frontier named waiting fetched)
-next_alike frontier words named waiting (Some url) = still_alike (told.Refused why.Busy) frontier words
+next_alike frontier words named waiting (Some url) = still_alike (says.Refused why.Busy) frontier words
 next_alike frontier words named waiting None =
     outcome_if (is_due (slice_get frontier.machine.subqueues named) waiting) _ _ _ _ (retaking_alike frontier words named waiting)
     (machine_alike frontier words (taking (with_words frontier.machine words) named) (taking frontier.machine named) (taking_alike frontier.machine words named))
 
 again_alike : (frontier : Frontier) (words : Words) (named : ℕ) (fetched : Option Deferred) → AlikeOutcome (taking_again (with_words_of frontier words) named fetched) (taking_again frontier named fetched)
 again_alike frontier words named None = record { answer = refl; words = words; state = refl }
-again_alike frontier words named (Some url) = still_alike (told.Taken url.url) frontier words
+again_alike frontier words named (Some url) = still_alike (says.Taken url.url) frontier words
 
 -- the state once the sender's unit came back, or did not
 freed : Frontier → ℕ → Reply → State → Frontier
@@ -230,20 +230,20 @@ finishing_alike frontier words named (Some url) =
     let done = turn frontier.machine (event.Back url.sender) in
     let other = turn (with_words frontier.machine words) (event.Back url.sender) in
     record {
-      answer = ap Told same.reply;
+      answer = ap Replied same.reply;
       words = same.words;
       state = ap (λ r. freed frontier named r other.state) same.reply ∙ ap (freed frontier named done.reply) same.state ∙ freed_alike frontier named done.reply done.state same.words;
     }
 
 taken_alike : (frontier : Frontier) (words : Words) (named : ℕ) (found : Option (Option (List ℕ))) → AlikeOutcome (deferring_taken (with_words_of frontier words) named found) (deferring_taken frontier named found)
-taken_alike frontier words named None = still_alike (told.Refused why.NoSuch) frontier words
-taken_alike frontier words named (Some None) = still_alike (told.Refused why.Nothing) frontier words
+taken_alike frontier words named None = still_alike (says.Refused why.NoSuch) frontier words
+taken_alike frontier words named (Some None) = still_alike (says.Refused why.Nothing) frontier words
 taken_alike frontier words named (Some (Some url)) =
     let sender = suc frontier.senders in
     let put : Frontier = record (put_back frontier named url sender) { senders = sender } in
     outcome_if (can_hand_over frontier.machine named sender) _ _ _ _
     (machine_alike put words (handing (with_words frontier.machine words) named sender) (handing frontier.machine named sender) (handing_alike frontier.machine words named sender))
-    (still_alike (told.Refused why.Nothing) frontier words)
+    (still_alike (says.Refused why.Nothing) frontier words)
 
 deferring_alike : (frontier : Frontier) (words : Words) (named : ℕ) (fetched : Option Deferred) → AlikeOutcome (deferring (with_words_of frontier words) named fetched) (deferring frontier named fetched)
 deferring_alike frontier words named None = taken_alike frontier words named (in_fetch frontier.machine named)
@@ -266,7 +266,7 @@ exchange_alike frontier words EndSeeds = machine_alike frontier words (seeds_end
 
 -- ---- lines
 
-pub answered_alike : (frontier : Frontier) (words : Words) (asked : Result Request RequestError) → AlikeOutcome (answered (with_words_of frontier words) asked) (answered frontier asked)
+pub answered_alike : (frontier : Frontier) (words : Words) (line_answers : Result Request RequestError) → AlikeOutcome (answered (with_words_of frontier words) line_answers) (answered frontier line_answers)
 answered_alike frontier words (Ok request) = exchange_alike frontier words request
 answered_alike frontier words (Err why) = record { answer = refl; words = words; state = refl }
 

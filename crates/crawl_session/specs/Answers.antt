@@ -2,7 +2,7 @@
 use Rattle.std.specs.Prelude.{ℕ, List, [], ◌∷◌, ◌++◌, codes, decimal, flat_map}
 use Rattle.crawl_replay.specs.Replies.{reply_text}
 use Rattle.crawl_session.specs.declared.answer.Answer.{Answer}
-use Rattle.crawl_session.specs.declared.answer.Answer.TheVariants.{Told, Counted, Unasked}
+use Rattle.crawl_session.specs.declared.answer.Answer.TheVariants.{Replied, Counted, Unasked}
 use Rattle.crawl_session.specs.Stats.{stats_text}
 use Rattle.crawl_session.specs.declared.request.RequestError.{RequestError}
 use Rattle.crawl_session.specs.declared.request.RequestError.TheVariants as wrong
@@ -23,7 +23,7 @@ error_text wrong.NoMemory = codes "out of memory"
 
 -- a reply has the text that a replay gives it
 abbrev pub answer_text : Answer → List ℕ
-answer_text (Told reply) = reply_text reply
+answer_text (Replied reply) = reply_text reply
 answer_text (Counted stats) = stats_text stats
 answer_text (Unasked why) = error_text why
 

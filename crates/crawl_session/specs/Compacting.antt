@@ -2,10 +2,10 @@
 -- same URLs elsewhere.
 use Rattle.std.specs.Prelude.{◌≡◌, ℕ, ◌-◌, Bool, true, false, not, ◌&&◌, ◌||◌, List, [], ◌∷◌, ◌++◌, ◌==◌, length, slice_index, if◌then◌else◌, Result, Ok, flat_map}
 use Rattle.crawl_core.specs.declared.reply.Reply.{Reply}
-use Rattle.crawl_core.specs.declared.reply.Reply.TheVariants as told
+use Rattle.crawl_core.specs.declared.reply.Reply.TheVariants as says
 use Rattle.crawl_core.specs.Kept.{has_text}
 use Rattle.crawl_session.specs.declared.answer.Answer.{Answer}
-use Rattle.crawl_session.specs.declared.answer.Answer.TheVariants.{Told, Unasked}
+use Rattle.crawl_session.specs.declared.answer.Answer.TheVariants.{Replied, Unasked}
 use Rattle.crawl_session.specs.declared.request.Request.{Request}
 use Rattle.crawl_session.specs.declared.request.Request.TheVariants.{Again}
 use Rattle.crawl_session.specs.declared.request.RequestError.{RequestError}
@@ -26,7 +26,7 @@ abbrev pub had_none : Had
 had_none = record { closed = false; elsewhere = [] }
 
 abbrev pub says_closed : Answer → Bool
-says_closed (Told told.Closed) = true
+says_closed (Replied says.Closed) = true
 says_closed _ = false
 
 -- the texts, and this one if it is new
@@ -34,20 +34,20 @@ abbrev pub with_text : List (List ℕ) → List ℕ → List (List ℕ)
 with_text texts text = if has_text texts text then texts else texts ++ text ∷ []
 
 -- and a URL that is answered `elsewhere`
-abbrev pub with_told : List (List ℕ) → Answer → List (List ℕ)
-with_told texts (Unasked (wrong.Elsewhere part url)) = with_text texts url
-with_told texts _ = texts
+abbrev pub with_elsewhere : List (List ℕ) → Answer → List (List ℕ)
+with_elsewhere texts (Unasked (wrong.Elsewhere part url)) = with_text texts url
+with_elsewhere texts _ = texts
 
 -- what is known with this answer more
 abbrev pub having : Had → Answer → Had
-having had answer = record { closed = says_closed answer || had.closed; elsewhere = with_told had.elsewhere answer }
+having had answer = record { closed = says_closed answer || had.closed; elsewhere = with_elsewhere had.elsewhere answer }
 
 -- a URL was accepted or taken, a unit was given back, or the gate was closed, which it is once
 abbrev pub changes : Had → Reply → Bool
-changes had (told.Accepted queue number) = true
-changes had (told.Taken url) = true
-changes had (told.Count left) = true
-changes had told.Closed = not had.closed
+changes had (says.Accepted queue number) = true
+changes had (says.Taken url) = true
+changes had (says.Count left) = true
+changes had says.Closed = not had.closed
 changes had _ = false
 
 -- an `elsewhere` that is repeated changes nothing
@@ -57,7 +57,7 @@ asks_again _ = false
 
 -- whether a line is needed that requests this, and was answered so: of those that are answered `elsewhere`, the first with its URL
 abbrev pub is_needed : Had → Result Request RequestError → Answer → Bool
-is_needed had (Ok request) (Told reply) = not (asks_again request) && changes had reply
+is_needed had (Ok request) (Replied reply) = not (asks_again request) && changes had reply
 is_needed had _ (Unasked (wrong.Elsewhere part url)) = not (has_text had.elsewhere url)
 is_needed had _ _ = false
 

@@ -3,7 +3,7 @@ use Rattle.std.specs.Prelude.{ℕ, suc, Bool, true, false, not, ◌&&◌, List, 
 use Rattle.crawl_core.specs.declared.event.Event.{Event}
 use Rattle.crawl_core.specs.declared.event.Event.TheVariants as event
 use Rattle.crawl_core.specs.declared.reply.Reply.{Reply}
-use Rattle.crawl_core.specs.declared.reply.Reply.TheVariants as told
+use Rattle.crawl_core.specs.declared.reply.Reply.TheVariants as says
 use Rattle.crawl_core.specs.declared.reply.Refusal.TheVariants as why
 use Rattle.crawl_core.specs.Fetching.{in_fetch}
 use Rattle.crawl_core.specs.Handing.{can_hand_over}
@@ -11,7 +11,7 @@ use Rattle.crawl_core.specs.State.{State, count_of}
 use Rattle.crawl_core.specs.Step.{turn}
 use Rattle.crawl_core.specs.Subqueue.{Subqueue}
 use Rattle.crawl_session.specs.declared.answer.Answer.{Answer}
-use Rattle.crawl_session.specs.declared.answer.Answer.TheVariants.{Told, Counted}
+use Rattle.crawl_session.specs.declared.answer.Answer.TheVariants.{Replied, Counted}
 use Rattle.crawl_session.specs.declared.request.Request.{Request}
 use Rattle.crawl_session.specs.declared.request.Request.TheVariants.{Offer, Next, Again, Later, Done, EndSeeds, Stats, Seen}
 use Rattle.crawl_session.specs.declared.deferrals.Deferred.{Deferred}
@@ -33,7 +33,7 @@ pub record Exchange : Type 0 where
 
 -- no event more: this reply is the answer
 abbrev pub ends : Reply → State → Exchange
-ends reply state = record { history = []; answer = Told reply; state = state }
+ends reply state = record { history = []; answer = Replied reply; state = state }
 
 -- an event, and then what comes by its reply
 abbrev pub after : State → Event → (Reply → State → Exchange) → Exchange
@@ -43,26 +43,26 @@ after state event more =
     record rest { history = (event, done.reply) ∷ rest.history }
 
 abbrev pub is_entered : Reply → Bool
-is_entered (told.Entered count) = true
+is_entered (says.Entered count) = true
 is_entered _ = false
 
 abbrev pub is_seen : Reply → Bool
-is_seen told.Seen = true
+is_seen says.Seen = true
 is_seen _ = false
 
 abbrev pub is_count : Reply → Bool
-is_count (told.Count left) = true
+is_count (says.Count left) = true
 is_count _ = false
 
 abbrev pub is_empty : Reply → Bool
-is_empty told.Empty = true
+is_empty says.Empty = true
 is_empty _ = false
 
 -- the client holds a unit: it goes with the URL, or back if the URL was seen
 abbrev pub admitting : State → List ℕ → ℕ → Exchange
 admitting state url queue =
     after state (event.Admit client url queue) (λ reply admitted.
-    if is_seen reply then after admitted (event.Back client) (λ _ left. ends told.Seen left) else ends reply admitted)
+    if is_seen reply then after admitted (event.Back client) (λ _ left. ends says.Seen left) else ends reply admitted)
 
 abbrev pub entering : State → List ℕ → ℕ → Exchange
 entering state url queue =
@@ -77,13 +77,13 @@ taking state queue =
     after state (event.Take queue) (λ reply taken. if is_empty reply then after taken event.Close ends else ends reply taken)
 
 -- no event: the URL that the subqueue is busy with
-abbrev pub told_again : Option (Option (List ℕ)) → Reply
-told_again None = told.Refused why.NoSuch
-told_again (Some None) = told.Refused why.Nothing
-told_again (Some (Some url)) = told.Taken url
+abbrev pub taken_again : Option (Option (List ℕ)) → Reply
+taken_again None = says.Refused why.NoSuch
+taken_again (Some None) = says.Refused why.Nothing
+taken_again (Some (Some url)) = says.Taken url
 
 abbrev pub again : State → ℕ → Exchange
-again state queue = ends (told_again (in_fetch state queue)) state
+again state queue = ends (taken_again (in_fetch state queue)) state
 
 -- a fetch is done, and the seeds end
 abbrev pub done_with : State → ℕ → Exchange
@@ -104,7 +104,7 @@ by_machine frontier x = record { history = x.history; answer = x.answer; state =
 
 -- no event
 abbrev pub replies : Reply → Frontier → Outcome
-replies reply frontier = record { history = []; answer = Told reply; state = frontier }
+replies reply frontier = record { history = []; answer = Replied reply; state = frontier }
 
 -- ---- `offer`
 
@@ -121,8 +121,8 @@ is_due _ _ = false
 
 -- a URL that was put back is taken again: no event
 abbrev pub retaking : Frontier → ℕ → List Deferred → Outcome
-retaking frontier queue [] = replies (told.Refused why.Busy) frontier
-retaking frontier queue (first ∷ more) = replies (told.Taken first.url) (with_deferrals frontier queue (record { waiting = more; fetched = Some first }))
+retaking frontier queue [] = replies (says.Refused why.Busy) frontier
+retaking frontier queue (first ∷ more) = replies (says.Taken first.url) (with_deferrals frontier queue (record { waiting = more; fetched = Some first }))
 
 -- the first of those that were put back, if it is due; else the first of those that are waiting
 abbrev pub taking_first : Frontier → ℕ → List Deferred → Outcome
@@ -132,13 +132,13 @@ taking_first frontier queue waiting =
 
 abbrev pub taking_next : Frontier → ℕ → List Deferred → Option Deferred → Outcome
 taking_next frontier queue waiting None = taking_first frontier queue waiting
-taking_next frontier queue waiting (Some url) = replies (told.Refused why.Busy) frontier
+taking_next frontier queue waiting (Some url) = replies (says.Refused why.Busy) frontier
 
 -- ---- `again`, `done`
 
 abbrev pub taking_again : Frontier → ℕ → Option Deferred → Outcome
 taking_again frontier queue None = by_machine frontier (again frontier.machine queue)
-taking_again frontier queue (Some url) = replies (told.Taken url.url) frontier
+taking_again frontier queue (Some url) = replies (says.Taken url.url) frontier
 
 -- a URL that was put back gives its sender's unit back
 abbrev pub finishing_again : Frontier → ℕ → ℕ → Outcome
@@ -147,7 +147,7 @@ finishing_again frontier queue sender =
     let left : Frontier = record frontier { machine = done.state } in
     record {
       history = (event.Back sender, done.reply) ∷ [];
-      answer = Told done.reply;
+      answer = Replied done.reply;
       state = if is_count done.reply then with_deferrals left queue (record { waiting = (deferrals_at frontier queue).waiting; fetched = None }) else left;
     }
 
@@ -172,29 +172,29 @@ put_back frontier queue url sender =
 -- the unit of the URL that the queue is busy with goes to this sender
 abbrev pub handing : State → ℕ → ℕ → Exchange
 handing state queue sender =
-    after state (event.Done queue) (λ _ freed. after freed (event.Look sender) (λ _ looked. after looked (event.Enter sender) (λ _ entered. ends (told.Count (count_of state)) entered)))
+    after state (event.Done queue) (λ _ freed. after freed (event.Look sender) (λ _ looked. after looked (event.Enter sender) (λ _ entered. ends (says.Count (count_of state)) entered)))
 
 -- a URL that was not put back before gets a sender of its own
 abbrev pub deferring_first : Frontier → ℕ → List ℕ → Outcome
 deferring_first frontier queue url =
     let sender = suc frontier.senders in
     if can_hand_over frontier.machine queue sender then by_machine (record (put_back frontier queue url sender) { senders = sender }) (handing frontier.machine queue sender)
-    else replies (told.Refused why.Nothing) frontier
+    else replies (says.Refused why.Nothing) frontier
 
 abbrev pub deferring_taken : Frontier → ℕ → Option (Option (List ℕ)) → Outcome
-deferring_taken frontier queue None = replies (told.Refused why.NoSuch) frontier
-deferring_taken frontier queue (Some None) = replies (told.Refused why.Nothing) frontier
+deferring_taken frontier queue None = replies (says.Refused why.NoSuch) frontier
+deferring_taken frontier queue (Some None) = replies (says.Refused why.Nothing) frontier
 deferring_taken frontier queue (Some (Some url)) = deferring_first frontier queue url
 
 -- one that was keeps its sender: no event
 abbrev pub deferring : Frontier → ℕ → Option Deferred → Outcome
 deferring frontier queue None = deferring_taken frontier queue (in_fetch frontier.machine queue)
-deferring frontier queue (Some url) = replies (told.Count (count_of frontier.machine)) (put_back frontier queue url.url url.sender)
+deferring frontier queue (Some url) = replies (says.Count (count_of frontier.machine)) (put_back frontier queue url.url url.sender)
 
 -- ---- `stats`: no event
 
 abbrev pub stats_answer : Option counts.Stats → Answer
-stats_answer None = Told (told.Refused why.NoSuch)
+stats_answer None = Replied (says.Refused why.NoSuch)
 stats_answer (Some stats) = Counted stats
 
 abbrev pub counting : Frontier → Option ℕ → Outcome
@@ -203,13 +203,13 @@ counting frontier queue = record { history = []; answer = stats_answer (stats_fo
 -- ---- `seen`: no event
 
 abbrev pub seen_reply : Option ℕ → Reply
-seen_reply None = told.Refused why.NoSuch
-seen_reply (Some before) = told.Seen
+seen_reply None = says.Refused why.NoSuch
+seen_reply (Some before) = says.Seen
 
 -- this many offers to the queue were answered `seen` before
 abbrev pub counting_seen : Frontier → ℕ → ℕ → Outcome
 counting_seen frontier queue count =
-    record { history = []; answer = Told (seen_reply (slice_get frontier.seen queue)); state = record frontier { seen = add_seen queue count frontier.seen } }
+    record { history = []; answer = Replied (seen_reply (slice_get frontier.seen queue)); state = record frontier { seen = add_seen queue count frontier.seen } }
 
 -- what comes of a request
 abbrev pub exchange : Frontier → Request → Outcome

@@ -4,9 +4,9 @@ use Rattle.std.specs.Io.KnownBytes.{Appends}
 use Rattle.json.specs.Json.{Json, null, number, string, object, Members, member, no_members}
 use Rattle.json.specs.Print.{print}
 use Rattle.json.specs.Tree.{json_tokens}
-use Rattle.crawl_core.specs.declared.reply.Reply.TheVariants as told
+use Rattle.crawl_core.specs.declared.reply.Reply.TheVariants as says
 use Rattle.crawl_session.specs.declared.answer.Answer.{Answer}
-use Rattle.crawl_session.specs.declared.answer.Answer.TheVariants.{Told, Counted}
+use Rattle.crawl_session.specs.declared.answer.Answer.TheVariants.{Replied, Counted}
 use Rattle.crawl_session.specs.declared.list.Kind.{Kind}
 use Rattle.crawl_session.specs.declared.list.Kind.TheVariants as kinds
 use Rattle.crawl_session.specs.declared.list.ListForm.{ListForm}
@@ -17,7 +17,7 @@ use Rattle.crawl_session.specs.declared.request.Request.{Request}
 use Rattle.crawl_session.specs.declared.request.Request.TheVariants.{Next, Again, Done, Stats}
 use Rattle.crawl_session.specs.declared.request.RequestError.{RequestError}
 use Rattle.crawl_session.specs.declared.stats.Stats as counts
-use Rattle.crawl_session.specs.Clients.{Asked, accepted_of, busy_in, done_urls, joined_of, taken_of, times}
+use Rattle.crawl_session.specs.Clients.{LineAnswer, accepted_of, busy_in, done_urls, joined_of, taken_of, times}
 use Rattle.crawl_session.specs.Exchanges.{exchange}
 use Rattle.crawl_session.specs.Frontiers.{Frontier, Shows}
 use Rattle.crawl_session.specs.Parts.{request_for}
@@ -42,12 +42,12 @@ each_below one (suc n) state = then_list (each_below one n state) (λ mid. one m
 
 -- the URL in an answer to `next` or `again`
 abbrev pub url_row : Kind → ℕ → Answer → Option Row
-url_row kind queue (Told (told.Taken url)) = Some (variant.Url kind queue url)
+url_row kind queue (Replied (says.Taken url)) = Some (variant.Url kind queue url)
 url_row kind queue _ = None
 
 -- the answer to a `done` that ends a URL
 abbrev pub is_count : Answer → Bool
-is_count (Told (told.Count left)) = true
+is_count (Replied (says.Count left)) = true
 is_count _ = false
 
 -- ---- done
@@ -215,8 +215,8 @@ urls_of queue listed = filter_map (url_of_queue queue) listed
 
 -- the lists of a queue after these requests: the URLs that are done, in order; the one that it is busy with; and those that joined
 -- it and that no answer named since, in order. Each URL that it accepted is in exactly one of them, and once
-pub record AreTold (asked : List Asked) (queue : ℕ) (ended busy waits : List Row) : Type 0 where
-  pub done : urls_of queue ended ≡ done_urls queue asked
-  pub in_progress : urls_of queue busy ≡ option_to_list (busy_in queue asked)
-  pub pending : joined_of queue asked ≡ taken_of queue asked ++ urls_of queue waits
-  pub each : (url : List ℕ) → times url (accepted_of queue asked) ≡ times url (urls_of queue ended) + times url (urls_of queue busy) + times url (urls_of queue waits)
+pub record AreReported (line_answers : List LineAnswer) (queue : ℕ) (ended busy waits : List Row) : Type 0 where
+  pub done : urls_of queue ended ≡ done_urls queue line_answers
+  pub in_progress : urls_of queue busy ≡ option_to_list (busy_in queue line_answers)
+  pub pending : joined_of queue line_answers ≡ taken_of queue line_answers ++ urls_of queue waits
+  pub each : (url : List ℕ) → times url (accepted_of queue line_answers) ≡ times url (urls_of queue ended) + times url (urls_of queue busy) + times url (urls_of queue waits)

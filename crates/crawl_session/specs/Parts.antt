@@ -33,16 +33,16 @@ placed_if part (Ok request) = placed part request
 placed_if part (Err why) = Err why
 
 -- `sync` and `identity` ask nothing of the frontier
-abbrev pub asked_by : Part → List ℕ → Result Request RequestError → Result Request RequestError
-asked_by part line asked =
+abbrev pub part_request : Part → List ℕ → Result Request RequestError → Result Request RequestError
+part_request part line requested =
     if bytes_eq line (codes "sync") then Err wrong.Sync
     else if bytes_eq line (codes "identity") then Err (wrong.Identity part.identity)
-    else placed_if part asked
+    else placed_if part requested
 
 -- without a part, what a line asks is what it asks
-abbrev pub asked_of : Option Part → List ℕ → Result Request RequestError → Result Request RequestError
-asked_of None line asked = asked
-asked_of (Some part) line asked = asked_by part line asked
+abbrev pub own_request : Option Part → List ℕ → Result Request RequestError → Result Request RequestError
+own_request None line requested = requested
+own_request (Some part) line requested = part_request part line requested
 
 abbrev pub request_for : Settings → List ℕ → Result Request RequestError
-request_for settings line = asked_of settings.part line (request_of settings.workers settings.suffixes line)
+request_for settings line = own_request settings.part line (request_of settings.workers settings.suffixes line)

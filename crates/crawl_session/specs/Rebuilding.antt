@@ -5,9 +5,9 @@ use Rattle.std.specs.Io.KnownBytes.{Appends}
 use Rattle.crawl_keys.specs.Assignment.{assign, subqueue_of}
 use Rattle.crawl_keys.specs.HostKey.{host_key}
 use Rattle.crawl_core.specs.declared.reply.Refusal.TheVariants as refusal
-use Rattle.crawl_core.specs.declared.reply.Reply.TheVariants as told
+use Rattle.crawl_core.specs.declared.reply.Reply.TheVariants as says
 use Rattle.crawl_session.specs.declared.answer.Answer.{Answer}
-use Rattle.crawl_session.specs.declared.answer.Answer.TheVariants.{Told}
+use Rattle.crawl_session.specs.declared.answer.Answer.TheVariants.{Replied}
 use Rattle.crawl_session.specs.declared.list.Row.{Row}
 use Rattle.crawl_session.specs.declared.list.Row.TheVariants as variant
 use Rattle.crawl_session.specs.declared.rebuild.LeftOut.{LeftOut}
@@ -15,7 +15,7 @@ use Rattle.crawl_session.specs.declared.request.Request.{Request}
 use Rattle.crawl_session.specs.declared.request.Request.TheVariants.{Next, Offer, EndSeeds}
 use Rattle.crawl_session.specs.declared.request.RequestError.{RequestError}
 use Rattle.crawl_session.specs.declared.request.RequestError.TheVariants as wrong
-use Rattle.crawl_session.specs.Clients.{Asked, accepted_of, busy_in, done_urls, joined_of, put_back_of, taken_of, times}
+use Rattle.crawl_session.specs.Clients.{LineAnswer, accepted_of, busy_in, done_urls, joined_of, put_back_of, taken_of, times}
 use Rattle.crawl_session.specs.Compacting.{says_closed, with_text}
 use Rattle.crawl_session.specs.Exchanges.{exchange}
 use Rattle.crawl_session.specs.Frontiers.{Frontier, Shows, start}
@@ -66,13 +66,13 @@ with_request state had request = record had {
 }
 
 -- and after a line, which may request nothing
-abbrev pub with_asked : Frontier → Inventory → Result Request RequestError → Inventory
-with_asked state had (Ok request) = with_request state had request
-with_asked state had (Err (wrong.Elsewhere part url)) = record had { elsewhere = with_text had.elsewhere url }
-with_asked state had (Err _) = had
+abbrev pub with_requested : Frontier → Inventory → Result Request RequestError → Inventory
+with_requested state had (Ok request) = with_request state had request
+with_requested state had (Err (wrong.Elsewhere part url)) = record had { elsewhere = with_text had.elsewhere url }
+with_requested state had (Err _) = had
 
 abbrev pub with_line : Settings → Frontier → Inventory → List ℕ → Inventory
-with_line settings state had line = with_asked state had (request_for settings line)
+with_line settings state had line = with_requested state had (request_for settings line)
 
 abbrev pub with_lines : Settings → Frontier → Inventory → List (List ℕ) → Inventory
 with_lines settings state had [] = had
@@ -172,16 +172,16 @@ abbrev pub end_line : List ℕ
 end_line = codes "endseeds"
 
 abbrev pub takes_url : List ℕ → Answer → Bool
-takes_url url (Told (told.Taken named)) = bytes_eq named url
+takes_url url (Replied (says.Taken named)) = bytes_eq named url
 takes_url url _ = false
 
 abbrev pub is_accepted : Answer → Bool
-is_accepted (Told (told.Accepted queue number)) = true
+is_accepted (Replied (says.Accepted queue number)) = true
 is_accepted _ = false
 
 -- refused, because there is no room
 abbrev pub is_full : Answer → Bool
-is_full (Told (told.Refused refusal.Full)) = true
+is_full (Replied (says.Refused refusal.Full)) = true
 is_full _ = false
 
 -- after the offer of a URL, which has to ask for this very URL and to be accepted: what follows is given the number of its queue
@@ -291,7 +291,7 @@ pub record ReadsUnfinished (had : Inventory) (old : SessionView) (next : Invento
   pub comes : (state : Frontier) → Shows old.core state → next ≡ with_unfinished old.settings.workers state had
 
 -- a line was given, and the writer gained its text
-pub record Tells (old : SessionView) (line : List ℕ) (out_old out_new : Option (List ℕ)) (answer : Answer) (new : SessionView) : Type 0 where
+pub record Copies (old : SessionView) (line : List ℕ) (out_old out_new : Option (List ℕ)) (answer : Answer) (new : SessionView) : Type 0 where
   pub written : Appends out_old out_new (line ++ 10 ∷ [])
   pub serves : Serves old line answer new
 
@@ -354,13 +354,13 @@ abbrev pub of_host : List ℕ → List (List ℕ) → List (List ℕ)
 of_host host urls = filter (λ url. bytes_eq (host_key url) host) urls
 
 -- the URLs that joined a subqueue and that no answer named since, in order
-abbrev pub waits_of : ℕ → List Asked → List (List ℕ)
-waits_of queue asked = drop (length (taken_of queue asked)) (joined_of queue asked)
+abbrev pub waits_of : ℕ → List LineAnswer → List (List ℕ)
+waits_of queue line_answers = drop (length (taken_of queue line_answers)) (joined_of queue line_answers)
 
 -- the new session accepted the URLs that the old one accepted, but for those that are left out, and has the same ones done, by the
 -- answers of both. Of each host, the URLs that wait are the one that was in progress, and those that waited, in order. None is in
 -- progress, and none was put back
-pub record KeepsUrls (old new : Settings) (before after : List Asked) : Type 0 where
+pub record KeepsUrls (old new : Settings) (before after : List LineAnswer) : Type 0 where
   pub accepted : (url : List ℕ) → times url (accepted_of (subqueue_of url new.workers) after) ≡ unless_left_out new url (times url (accepted_of (subqueue_of url old.workers) before))
   pub done : (url : List ℕ) → times url (done_urls (subqueue_of url new.workers) after) ≡ unless_left_out new url (times url (done_urls (subqueue_of url old.workers) before))
   pub order : (host : List ℕ) → of_host host (waits_of (assign host new.workers) after) ≡ of_host host (kept new (option_to_list (busy_in (assign host old.workers) before) ++ waits_of (assign host old.workers) before))

@@ -81,7 +81,7 @@ request_from workers suffixes text (Some p) =
 
 abbrev pub request_in : ℕ → List (List ℕ) → Result (List ℕ) LineError → Result Request RequestError
 request_in workers suffixes (Ok text) = request_from workers suffixes text (at_space text)
-request_in workers suffixes (Err fault) = Err (of_line fault)
+request_in workers suffixes (Err line_error) = Err (of_line line_error)
 
 -- what a line requests of a frontier with this number of workers whose filter has these suffixes, or why it requests nothing
 abbrev pub request_of : ℕ → List (List ℕ) → List ℕ → Result Request RequestError

@@ -1,8 +1,8 @@
 -- How many offers to each queue were answered `seen`, and the lines by which a log keeps these numbers.
 use Rattle.std.specs.Prelude.{ℕ, suc, ◌+◌, ◌-◌, ◌^◌, List, [], ◌∷◌, ◌++◌, ◌==◌, codes, get_or, if◌then◌else◌, min, replicate, slice_set, decimal}
-use Rattle.crawl_core.specs.declared.reply.Reply.TheVariants as told
+use Rattle.crawl_core.specs.declared.reply.Reply.TheVariants as says
 use Rattle.crawl_session.specs.declared.answer.Answer.{Answer}
-use Rattle.crawl_session.specs.declared.answer.Answer.TheVariants.{Told}
+use Rattle.crawl_session.specs.declared.answer.Answer.TheVariants.{Replied}
 
 -- the numbers of a new session, each 0: those of the queues that a request can name
 abbrev pub none_seen : ℕ → List ℕ
@@ -18,7 +18,7 @@ add_seen queue count seen = slice_set seen queue (sum_of (get_or seen queue 0) c
 
 -- after the answer to an offer to a queue
 abbrev pub seen_with : ℕ → Answer → List ℕ → List ℕ
-seen_with queue (Told told.Seen) seen = add_seen queue 1 seen
+seen_with queue (Replied says.Seen) seen = add_seen queue 1 seen
 seen_with queue _ seen = seen
 
 -- `seen Q COUNT`

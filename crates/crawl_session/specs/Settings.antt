@@ -11,8 +11,8 @@ pub record Settings : Type 0 where
   pub part : Option Part
 
 -- of a frontier that is no part
-abbrev pub alone : ℕ → List (List ℕ) → Settings
-alone workers suffixes = record { workers = workers; suffixes = suffixes; part = None }
+abbrev pub whole : ℕ → List (List ℕ) → Settings
+whole workers suffixes = record { workers = workers; suffixes = suffixes; part = None }
 
 -- settings, and what it keeps of its state
 pub record SessionView : Type 0 where

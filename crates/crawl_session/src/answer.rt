@@ -12,7 +12,7 @@ use std::fmt;
 #[derive(Debug, Drop)]
 pub enum Answer {
     /// The frontier's reply to its request.
-    Told(Reply),
+    Replied(Reply),
     /// The numbers of the URLs of a queue, or of all queues.
     Counted(Stats),
     /// The line is no request to the frontier.
@@ -24,7 +24,7 @@ impl fmt::Display for Answer {
 
     fn fmt<W: fmt::Write>(&self, f: &mut fmt::Formatter<W>) -> fmt::Result {
         match self {
-            Answer::Told(reply) => {
+            Answer::Replied(reply) => {
                 let text = ReplyText(reply);
                 write!(f, "{text}")
             }

@@ -5,7 +5,7 @@ ghost use Rattle.std.specs.Str.Lines.{lines};
 ghost use Rattle.crawl_session.specs.Compacting as spec;
 ghost use Rattle.crawl_session.specs.Compacting.{Compacts, Gives, GivesRequest};
 ghost use Rattle.crawl_session.specs.Seen.{seen_line, seen_lines};
-ghost use Rattle.crawl_session.specs.declared.answer.Answer.TheVariants.{Told};
+ghost use Rattle.crawl_session.specs.declared.answer.Answer.TheVariants.{Replied};
 
 use crate::answer::Answer;
 use crate::request::{Request, RequestError};
@@ -87,7 +87,7 @@ impl Compactor {
         ensures { IfOk result (λ is. GivesRequest self.old session.old request is self.new session.new) }
     {
         let again = asks_again(&request);
-        let Answer::Told(reply) = session.frontier.exchange(request)? else {
+        let Answer::Replied(reply) = session.frontier.exchange(request)? else {
             return Ok(false);
         };
         let changes = self.changes(&reply);
@@ -117,7 +117,7 @@ fn asks_again(request: &Request) -> bool
 
 /// Whether the reply is `closed`.
 fn is_closed(reply: &Reply) -> bool
-    ensures { result ≡ spec.says_closed (Told reply.now) }
+    ensures { result ≡ spec.says_closed (Replied reply.now) }
 {
     matches!(reply, Reply::Closed)
 }

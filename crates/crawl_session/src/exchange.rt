@@ -15,9 +15,9 @@ const CLIENT: u64 = 0;
 ///
 /// # Errors
 /// Out of memory. The frontier is then as before, but for the word that its client remembers.
-#[tactic(auto, using(crate::proofs::Steps::gives_up_at_once))]
+#[tactic(auto, using(crate::proofs::Steps::gives_up_immediately))]
 pub fn offer(core: &mut Core, url: Text, queue: u32) -> Result<Reply, NoMemory>
-    ensures comes { IfOk result (λ reply. Comes (λ state. spec.offering state url queue) core.old (Answer.Told reply) core.new) }
+    ensures comes { IfOk result (λ reply. Comes (λ state. spec.offering state url queue) core.old (Answer.Replied reply) core.new) }
     ensures err { OnErr result (GivesUp core.old core.new) }
 {
     let _word = core.step(&Event::Look { sender: CLIENT })?;
@@ -25,9 +25,9 @@ pub fn offer(core: &mut Core, url: Text, queue: u32) -> Result<Reply, NoMemory>
 }
 
 /// Enters the client at the gate, and admits the URL by the client's new unit. A reply other than `entered` ends the offer.
-#[tactic(auto, using(crate::proofs::Steps::goes_back_at_once))]
+#[tactic(auto, using(crate::proofs::Steps::goes_back_immediately))]
 fn enter(core: &mut Core, url: Text, queue: u32) -> Result<Reply, NoMemory>
-    ensures comes { IfOk result (λ reply. Comes (λ state. spec.entering state url queue) core.old (Answer.Told reply) core.new) }
+    ensures comes { IfOk result (λ reply. Comes (λ state. spec.entering state url queue) core.old (Answer.Replied reply) core.new) }
     ensures err { OnErr result (GoesBack core.old core.new) }
 {
     let reply = core.step(&Event::Enter { sender: CLIENT })?;
@@ -39,7 +39,7 @@ fn enter(core: &mut Core, url: Text, queue: u32) -> Result<Reply, NoMemory>
 
 /// Admits the URL by the client's unit, which is given back if it does not go with the URL.
 fn admit(core: &mut Core, url: Text, queue: u32) -> Result<Reply, NoMemory>
-    ensures comes { IfOk result (λ reply. Comes (λ state. spec.admitting state url queue) core.old (Answer.Told reply) core.new) }
+    ensures comes { IfOk result (λ reply. Comes (λ state. spec.admitting state url queue) core.old (Answer.Replied reply) core.new) }
     ensures err { OnErr result (Leads core.old (Event.Back spec.client) core.new) }
 {
     let sender = CLIENT;
@@ -54,7 +54,7 @@ fn admit(core: &mut Core, url: Text, queue: u32) -> Result<Reply, NoMemory>
 
 /// Takes the URL that has waited longest in the queue. If the queue is empty, tries to close the gate.
 pub fn next(core: &mut Core, queue: u32) -> Result<Reply, NoMemory>
-    ensures comes { IfOk result (λ reply. Comes (λ state. spec.taking state queue) core.old (Answer.Told reply) core.new) }
+    ensures comes { IfOk result (λ reply. Comes (λ state. spec.taking state queue) core.old (Answer.Replied reply) core.new) }
     ensures succeeds { IsOk result }
 {
     let reply = core.step(&Event::Take { queue })?;
@@ -66,7 +66,7 @@ pub fn next(core: &mut Core, queue: u32) -> Result<Reply, NoMemory>
 
 /// Reports that the URL that the queue is busy with is done.
 pub fn finish(core: &mut Core, queue: u32) -> Result<Reply, NoMemory>
-    ensures comes { IfOk result (λ reply. Comes (λ state. spec.done_with state queue) core.old (Answer.Told reply) core.new) }
+    ensures comes { IfOk result (λ reply. Comes (λ state. spec.done_with state queue) core.old (Answer.Replied reply) core.new) }
     ensures err { OnErr result (core.new ≡ core.old) }
 {
     core.step(&Event::Done { queue })
@@ -74,7 +74,7 @@ pub fn finish(core: &mut Core, queue: u32) -> Result<Reply, NoMemory>
 
 /// Reports that no more seeds will come, which gives back the opening unit.
 pub fn end_seeds(core: &mut Core) -> Result<Reply, NoMemory>
-    ensures comes { IfOk result (λ reply. Comes spec.seeds_ended core.old (Answer.Told reply) core.new) }
+    ensures comes { IfOk result (λ reply. Comes spec.seeds_ended core.old (Answer.Replied reply) core.new) }
     ensures err { OnErr result (core.new ≡ core.old) }
 {
     core.step(&Event::EndSeeds)
@@ -82,7 +82,7 @@ pub fn end_seeds(core: &mut Core) -> Result<Reply, NoMemory>
 
 /// The URL that the subqueue is busy with, once more.
 pub fn again(core: &Core, queue: u32) -> Result<Reply, NoMemory>
-    ensures { IfOk result (λ reply. Comes (λ state. spec.again state queue) core.now (Answer.Told reply) core.now) }
+    ensures { IfOk result (λ reply. Comes (λ state. spec.again state queue) core.now (Answer.Replied reply) core.now) }
 {
     match core.in_fetch(queue) {
         None => Ok(Reply::Refused(Refusal::NoSuch)),

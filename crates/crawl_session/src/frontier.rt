@@ -59,7 +59,7 @@ impl Frontier {
     ///
     /// # Errors
     /// Out of memory. The frontier is then as before, except for the word that its client remembers.
-    #[tactic(auto, using(crate::proofs::Lifts::given_up_at_once))]
+    #[tactic(auto, using(crate::proofs::Lifts::given_up_immediately))]
     pub fn exchange(&mut self, request: Request) -> Result<Answer, NoMemory>
         ensures comes { IfOk result (λ answer. Comes (λ state. spec.exchange state request) self.old answer self.new) }
         ensures err { OnErr result (GivesUp self.old self.new) }
@@ -74,12 +74,12 @@ impl Frontier {
             Request::Seen { queue, count } => self.count_seen(queue, count),
             Request::Stats { queue } => return self.stats(queue),
         };
-        Ok(Answer::Told(reply))
+        Ok(Answer::Replied(reply))
     }
 
     /// Offers the URL to the queue, and counts the offer if it is answered `seen`.
     fn offer(&mut self, url: Text, queue: u32) -> Result<Reply, NoMemory>
-        ensures comes { IfOk result (λ reply. Comes (λ state. spec.noted queue (spec.by_machine state (spec.offering state.machine url queue))) self.old (Answer.Told reply) self.new) }
+        ensures comes { IfOk result (λ reply. Comes (λ state. spec.noted queue (spec.by_machine state (spec.offering state.machine url queue))) self.old (Answer.Replied reply) self.new) }
         ensures err { OnErr result (GivesUp self.old self.new) }
     {
         let reply = self.offer_url(url, queue)?;
@@ -93,7 +93,7 @@ impl Frontier {
     /// Offers the URL to the machine's queue, for the session's client.
     #[tactic(auto, using(crate::proofs::Lifts::gives_up_lifts))]
     fn offer_url(&mut self, url: Text, queue: u32) -> Result<Reply, NoMemory>
-        ensures comes { IfOk result (λ reply. Comes (λ state. spec.by_machine state (spec.offering state.machine url queue)) self.old (Answer.Told reply) self.new) }
+        ensures comes { IfOk result (λ reply. Comes (λ state. spec.by_machine state (spec.offering state.machine url queue)) self.old (Answer.Replied reply) self.new) }
         ensures err { OnErr result (GivesUp self.old self.new) }
     {
         offer(&mut self.core, url, queue)
@@ -102,7 +102,7 @@ impl Frontier {
     /// Gives back the opening unit: no more seeds will come.
     #[tactic(auto, using(crate::proofs::Lifts::same_lifts))]
     fn end_seeds(&mut self) -> Result<Reply, NoMemory>
-        ensures comes { IfOk result (λ reply. Comes (λ state. spec.by_machine state (spec.seeds_ended state.machine)) self.old (Answer.Told reply) self.new) }
+        ensures comes { IfOk result (λ reply. Comes (λ state. spec.by_machine state (spec.seeds_ended state.machine)) self.old (Answer.Replied reply) self.new) }
         ensures err { OnErr result (self.new ≡ self.old) }
     {
         end_seeds(&mut self.core)
@@ -111,7 +111,7 @@ impl Frontier {
     /// Takes the first URL that was put back, if it is due, or else the first that waits in the machine's queue. It is refused
     /// while the queue is busy with a URL that was put back.
     fn next(&mut self, queue: u32) -> Result<Reply, NoMemory>
-        ensures comes { IfOk result (λ reply. Comes (λ state. spec.taking_next state queue (deferrals_at state queue).waiting (deferrals_at state queue).fetched) self.old (Answer.Told reply) self.new) }
+        ensures comes { IfOk result (λ reply. Comes (λ state. spec.taking_next state queue (deferrals_at state queue).waiting (deferrals_at state queue).fetched) self.old (Answer.Replied reply) self.new) }
         ensures err { OnErr result (self.new ≡ self.old) }
     {
         if self.deferrals.fetched(queue).is_some() {
@@ -138,7 +138,7 @@ impl Frontier {
 
     /// Makes the queue busy with the first URL that was put back, and returns that URL. The machine is not involved.
     fn retake(&mut self, queue: u32) -> Result<Reply, NoMemory>
-        ensures comes { IfOk result (λ reply. Comes (λ state. spec.retaking state queue (deferrals_at state queue).waiting) self.old (Answer.Told reply) self.new) }
+        ensures comes { IfOk result (λ reply. Comes (λ state. spec.retaking state queue (deferrals_at state queue).waiting) self.old (Answer.Replied reply) self.new) }
         ensures err { OnErr result (self.new ≡ self.old) }
     {
         let Some(first) = self.deferrals.first(queue) else {
@@ -152,7 +152,7 @@ impl Frontier {
     /// Takes a URL from the machine's queue. If the queue is empty, tries to close the gate.
     #[tactic(auto, using(crate::proofs::Steps::never_refused))]
     fn take(&mut self, queue: u32) -> Result<Reply, NoMemory>
-        ensures comes { IfOk result (λ reply. Comes (λ state. spec.by_machine state (spec.taking state.machine queue)) self.old (Answer.Told reply) self.new) }
+        ensures comes { IfOk result (λ reply. Comes (λ state. spec.by_machine state (spec.taking state.machine queue)) self.old (Answer.Replied reply) self.new) }
         ensures err { OnErr result (self.new ≡ self.old) }
     {
         next(&mut self.core, queue)
@@ -160,7 +160,7 @@ impl Frontier {
 
     /// Returns the URL that the queue is busy with.
     fn again(&self, queue: u32) -> Result<Reply, NoMemory>
-        ensures { IfOk result (λ reply. Comes (λ state. spec.taking_again state queue (deferrals_at state queue).fetched) self.now (Answer.Told reply) self.now) }
+        ensures { IfOk result (λ reply. Comes (λ state. spec.taking_again state queue (deferrals_at state queue).fetched) self.now (Answer.Replied reply) self.now) }
     {
         match self.deferrals.fetched(queue) {
             Some(url) => Ok(Reply::Taken(url.url.clone()?)),
@@ -170,7 +170,7 @@ impl Frontier {
 
     /// Finishes the URL that the queue is busy with, whether or not it was put back before.
     fn done(&mut self, queue: u32) -> Result<Reply, NoMemory>
-        ensures comes { IfOk result (λ reply. Comes (λ state. spec.finishing state queue (deferrals_at state queue).fetched) self.old (Answer.Told reply) self.new) }
+        ensures comes { IfOk result (λ reply. Comes (λ state. spec.finishing state queue (deferrals_at state queue).fetched) self.old (Answer.Replied reply) self.new) }
         ensures err { OnErr result (self.new ≡ self.old) }
     {
         match self.deferrals.sender(queue) {
@@ -182,7 +182,7 @@ impl Frontier {
     /// Finishes the URL that the machine's queue is busy with, which gives back its unit.
     #[tactic(auto, using(crate::proofs::Lifts::same_lifts))]
     fn finish(&mut self, queue: u32) -> Result<Reply, NoMemory>
-        ensures comes { IfOk result (λ reply. Comes (λ state. spec.by_machine state (spec.done_with state.machine queue)) self.old (Answer.Told reply) self.new) }
+        ensures comes { IfOk result (λ reply. Comes (λ state. spec.by_machine state (spec.done_with state.machine queue)) self.old (Answer.Replied reply) self.new) }
         ensures err { OnErr result (self.new ≡ self.old) }
     {
         finish(&mut self.core, queue)
@@ -190,7 +190,7 @@ impl Frontier {
 
     /// Gives back the unit of a URL that was put back before.
     fn finish_again(&mut self, queue: u32, sender: u64) -> Result<Reply, NoMemory>
-        ensures comes { IfOk result (λ reply. Comes (λ state. spec.finishing_again state queue sender) self.old (Answer.Told reply) self.new) }
+        ensures comes { IfOk result (λ reply. Comes (λ state. spec.finishing_again state queue sender) self.old (Answer.Replied reply) self.new) }
         ensures err { OnErr result (self.new ≡ self.old) }
     {
         let reply = self.core.step(&Event::Back { sender })?;
@@ -202,7 +202,7 @@ impl Frontier {
 
     /// Puts the URL that the queue is busy with back to the end of the queue, whether or not it was put back before.
     fn later(&mut self, queue: u32) -> Result<Reply, NoMemory>
-        ensures comes { IfOk result (λ reply. Comes (λ state. spec.deferring state queue (deferrals_at state queue).fetched) self.old (Answer.Told reply) self.new) }
+        ensures comes { IfOk result (λ reply. Comes (λ state. spec.deferring state queue (deferrals_at state queue).fetched) self.old (Answer.Replied reply) self.new) }
         ensures err { OnErr result (self.new ≡ self.old) }
     {
         if self.deferrals.fetched(queue).is_some() {
@@ -213,7 +213,7 @@ impl Frontier {
 
     /// Puts a URL back that was put back before.
     fn put_back(&mut self, queue: u32) -> Result<Reply, NoMemory>
-        ensures comes { IfOk result (λ reply. (url : Deferred) → (get_or self.old.deferrals queue no_deferrals).fetched ≡ Some url → Comes (λ state. spec.deferring state queue (Some url)) self.old (Answer.Told reply) self.new) }
+        ensures comes { IfOk result (λ reply. (url : Deferred) → (get_or self.old.deferrals queue no_deferrals).fetched ≡ Some url → Comes (λ state. spec.deferring state queue (Some url)) self.old (Answer.Replied reply) self.new) }
         ensures err { OnErr result (self.new ≡ self.old) }
     {
         let after = self.accepted_in(queue);
@@ -233,7 +233,7 @@ impl Frontier {
 
     /// Puts the URL back that the machine's queue is busy with.
     fn defer(&mut self, queue: u32) -> Result<Reply, NoMemory>
-        ensures comes { IfOk result (λ reply. Comes (λ state. spec.deferring state queue None) self.old (Answer.Told reply) self.new) }
+        ensures comes { IfOk result (λ reply. Comes (λ state. spec.deferring state queue None) self.old (Answer.Replied reply) self.new) }
         ensures err { OnErr result (self.new ≡ self.old) }
     {
         let url = match self.core.in_fetch(queue) {
@@ -246,7 +246,7 @@ impl Frontier {
 
     /// Hands the unit of the URL to a sender of its own.
     fn defer_first(&mut self, queue: u32, url: Text) -> Result<Reply, NoMemory>
-        ensures comes { IfOk result (λ reply. Comes (λ state. spec.deferring_first state queue url) self.old (Answer.Told reply) self.new) }
+        ensures comes { IfOk result (λ reply. Comes (λ state. spec.deferring_first state queue url) self.old (Answer.Replied reply) self.new) }
         ensures err { OnErr result (self.new ≡ self.old) }
     {
         let Some(sender) = self.senders.checked_add(1) else {
@@ -265,7 +265,7 @@ impl Frontier {
 
     /// Counts that many more offers to the queue as answered `seen`. It is refused if there is no such queue.
     fn count_seen(&mut self, queue: u32, count: u64) -> Reply
-        ensures { Comes (λ state. spec.counting_seen state queue count) self.old (Answer.Told result) self.new }
+        ensures { Comes (λ state. spec.counting_seen state queue count) self.old (Answer.Replied result) self.new }
     {
         if self.seen.add(queue, count) {
             Reply::Seen
@@ -283,7 +283,7 @@ impl Frontier {
         };
         match self.queue_stats(queue)? {
             Some(stats) => Ok(Answer::Counted(stats)),
-            None => Ok(Answer::Told(Reply::Refused(Refusal::NoSuch))),
+            None => Ok(Answer::Replied(Reply::Refused(Refusal::NoSuch))),
         }
     }
 

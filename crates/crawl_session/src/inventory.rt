@@ -160,7 +160,7 @@ fn ends_seeds(request: &Request) -> bool
 pub(crate) fn is_closed(answer: &Answer) -> bool
     ensures { result ≡ says_closed answer.now }
 {
-    matches!(answer, Answer::Told(Reply::Closed))
+    matches!(answer, Answer::Replied(Reply::Closed))
 }
 
 /// Appends the URL of a row, if there is one.

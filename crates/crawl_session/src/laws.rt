@@ -7,9 +7,9 @@ ghost use Rattle.std.specs.Str.Lines.{lines};
 ghost use Rattle.crawl_core.specs.History.{accepted_urls, taken_urls, done_in};
 ghost use Rattle.crawl_core.specs.Invariants.{HasRoom};
 ghost use Rattle.crawl_core.specs.Run.{Run};
-ghost use Rattle.crawl_core.specs.declared.reply.Reply.TheVariants as told;
+ghost use Rattle.crawl_core.specs.declared.reply.Reply.TheVariants as says;
 ghost use Rattle.crawl_core.specs.declared.word.Word.{Word};
-ghost use Rattle.crawl_session.specs.Clients.{AgainIfPutBack, AllDone, EachOnceInOrder, IsTold, NonePutBack, accepted_of, asked, busy_in, done_of, elsewhere_of, first_of_each, puts_back, taken_of};
+ghost use Rattle.crawl_session.specs.Clients.{AgainIfPutBack, AllDone, EachOnceInOrder, IsReported, NonePutBack, accepted_of, line_answers, busy_in, done_of, elsewhere_of, first_of_each, puts_back, taken_of};
 ghost use Rattle.crawl_session.specs.Compacting.{compacted, log_text};
 ghost use Rattle.crawl_keys.specs.Assignment.{subqueue_of};
 ghost use Rattle.crawl_session.specs.Exchanges.{exchange};
@@ -18,7 +18,7 @@ ghost use Rattle.crawl_session.specs.Parts.{part_with, request_for};
 ghost use Rattle.crawl_session.specs.Rebuilding.{KeepsUrls, inventory, rebuilt};
 ghost use Rattle.crawl_session.specs.Requests.{request_of};
 ghost use Rattle.crawl_session.specs.Listing as lists;
-ghost use Rattle.crawl_session.specs.Listing.{AreTold};
+ghost use Rattle.crawl_session.specs.Listing.{AreReported};
 ghost use Rattle.crawl_session.specs.LogStarts.{read_start, start_text};
 ghost use Rattle.crawl_session.specs.Input.{IsUnfinished};
 ghost use Rattle.crawl_session.specs.Logs.{settings_line};
@@ -30,7 +30,7 @@ ghost use Rattle.crawl_session.specs.Stats.{stats_at};
 ghost use Rattle.crawl_session.specs.Sums.{first_wrong, is_sum, sum_line, summed_each};
 ghost use Rattle.crawl_session.specs.Tables.{CanBeAnswered};
 ghost use Rattle.crawl_session.specs.declared.stats.Stats.{Stats};
-ghost use Rattle.crawl_session.specs.declared.answer.Answer.TheVariants.{Told, Unasked};
+ghost use Rattle.crawl_session.specs.declared.answer.Answer.TheVariants.{Replied, Unasked};
 ghost use Rattle.crawl_session.specs.declared.part.Part.{Part};
 ghost use Rattle.crawl_session.specs.declared.request.Request.TheVariants.{Later, Offer};
 ghost use Rattle.crawl_session.specs.declared.request.RequestError.TheVariants as wrong;
@@ -59,9 +59,9 @@ pub fn a_compacted_log_goes_on()
 
 /// A compacted log has the same answers `elsewhere` as the whole one, one for each URL, in the order in which the URLs came first.
 /// So the URLs of other parts can be sent to them again.
-#[tactic(auto, using(crate::proofs::Elsewheres::compacted_tells))]
+#[tactic(auto, using(crate::proofs::Elsewheres::compacted_elsewhere))]
 pub fn a_compacted_log_tells_elsewhere()
-    ensures { (settings : Settings) (max : ℕ) (bytes : List ℕ) → elsewhere_of (asked settings (start settings.workers max) (lines (log_text (compacted settings (start settings.workers max) (lines bytes))))) ≡ first_of_each [] (elsewhere_of (asked settings (start settings.workers max) (lines bytes))) }
+    ensures { (settings : Settings) (max : ℕ) (bytes : List ℕ) → elsewhere_of (line_answers settings (start settings.workers max) (lines (log_text (compacted settings (start settings.workers max) (lines bytes))))) ≡ first_of_each [] (elsewhere_of (line_answers settings (start settings.workers max) (lines bytes))) }
 {}
 
 /// No answer depends on the words that senders remember. So if a line runs out of memory, each later line is answered as if that
@@ -75,55 +75,55 @@ pub fn words_are_forgotten()
 /// nothing was put back, so are the URLs that were taken from it, and the number of those that are done.
 #[tactic(auto, using(crate::proofs::Sees::sees_accepted, crate::proofs::Sees::sees_taken))]
 pub fn clients_see_the_events()
-    ensures accepted { (settings : Settings) (state : Frontier) (lines : List (List ℕ)) (queue : ℕ) → accepted_urls queue (history_of settings state lines) ≡ accepted_of queue (asked settings state lines) }
-    ensures taken { (settings : Settings) (state : Frontier) (lines : List (List ℕ)) (queue : ℕ) → NoneDeferred state → NonePutBack (asked settings state lines) → taken_urls queue (history_of settings state lines) ≡ taken_of queue (asked settings state lines) }
-    ensures done { (settings : Settings) (state : Frontier) (lines : List (List ℕ)) (queue : ℕ) → NoneDeferred state → NonePutBack (asked settings state lines) → done_in queue (history_of settings state lines) ≡ done_of queue (asked settings state lines) }
+    ensures accepted { (settings : Settings) (state : Frontier) (lines : List (List ℕ)) (queue : ℕ) → accepted_urls queue (history_of settings state lines) ≡ accepted_of queue (line_answers settings state lines) }
+    ensures taken { (settings : Settings) (state : Frontier) (lines : List (List ℕ)) (queue : ℕ) → NoneDeferred state → NonePutBack (line_answers settings state lines) → taken_urls queue (history_of settings state lines) ≡ taken_of queue (line_answers settings state lines) }
+    ensures done { (settings : Settings) (state : Frontier) (lines : List (List ℕ)) (queue : ℕ) → NoneDeferred state → NonePutBack (line_answers settings state lines) → done_in queue (history_of settings state lines) ≡ done_of queue (line_answers settings state lines) }
 {}
 
 /// No URL is accepted twice, and each subqueue gives out its URLs in order: those of its hosts.
 #[tactic(auto, using(crate::proofs::Onces::each_once))]
 pub fn each_once_in_order()
-    ensures { (settings : Settings) (max : ℕ) (lines : List (List ℕ)) → EachOnceInOrder settings.workers (asked settings (start settings.workers max) lines) }
+    ensures { (settings : Settings) (max : ℕ) (lines : List (List ℕ)) → EachOnceInOrder settings.workers (line_answers settings (start settings.workers max) lines) }
 {}
 
 /// A URL is taken again only if it was put back: at most once more than it was put back, only from its host's subqueue, and never
 /// while it is in progress. It is done at most once.
 #[tactic(auto, using(crate::proofs::Returns::again_if_put_back))]
 pub fn taken_again_if_put_back()
-    ensures { (settings : Settings) (max : ℕ) (lines : List (List ℕ)) → AgainIfPutBack settings.workers (asked settings (start settings.workers max) lines) }
+    ensures { (settings : Settings) (max : ℕ) (lines : List (List ℕ)) → AgainIfPutBack settings.workers (line_answers settings (start settings.workers max) lines) }
 {}
 
 /// `later` puts a URL back if and only if its subqueue is busy, by the answers before. So it is then never refused.
 #[tactic(auto, using(crate::proofs::Rooms::later_if_busy))]
 pub fn later_needs_a_busy_queue()
     ensures { (settings : Settings) (max : ℕ) (front : List (List ℕ)) (line : List ℕ) (queue : ℕ) → HasRoom max → request_for settings line ≡ Ok (Later queue)
-        → puts_back queue (Ok (Later queue)) (line_exchange settings (state_after settings (start settings.workers max) front) line).answer ≡ is_some (busy_in queue (asked settings (start settings.workers max) front)) }
+        → puts_back queue (Ok (Later queue)) (line_exchange settings (state_after settings (start settings.workers max) front) line).answer ≡ is_some (busy_in queue (line_answers settings (start settings.workers max) front)) }
 {}
 
 /// The numbers of a subqueue are those of the answers before: how many URLs were accepted and are done, whether the subqueue is
 /// busy, and how many offers were answered `seen`. All others are waiting.
-#[tactic(auto, using(crate::proofs::Counting::stats_told))]
+#[tactic(auto, using(crate::proofs::Counting::stats_answered))]
 pub fn stats_are_what_was_told()
-    ensures { (settings : Settings) (max : ℕ) (lines : List (List ℕ)) (queue : ℕ) (stats : Stats) → stats_at (state_after settings (start settings.workers max) lines) queue ≡ Some stats → IsTold queue (asked settings (start settings.workers max) lines) stats }
+    ensures { (settings : Settings) (max : ℕ) (lines : List (List ℕ)) (queue : ℕ) (stats : Stats) → stats_at (state_after settings (start settings.workers max) lines) queue ≡ Some stats → IsReported queue (line_answers settings (start settings.workers max) lines) stats }
 {}
 
 /// A request has one of the answers that the table has for it. The answer to a line that is no request says why.
 #[tactic(auto, using(crate::proofs::Rests::answers_fit))]
 pub fn answers_are_those_of_the_table()
-    ensures { (settings : Settings) (max : ℕ) (lines : List (List ℕ)) → 1 ≤ settings.workers → All (λ x. CanBeAnswered x.request x.answer) (asked settings (start settings.workers max) lines) }
+    ensures { (settings : Settings) (max : ℕ) (lines : List (List ℕ)) → 1 ≤ settings.workers → All (λ x. CanBeAnswered x.request x.answer) (line_answers settings (start settings.workers max) lines) }
 {}
 
 /// Closed means done, for good: if a line is answered `closed`, every URL that was accepted was taken and is done, and after that
 /// none is accepted or taken, whatever the requests are.
 #[tactic(auto, using(crate::proofs::Emptied::all_is_done))]
 pub fn closed_means_done()
-    ensures done { (settings : Settings) (max : ℕ) (front : List (List ℕ)) (line : List ℕ) → (line_exchange settings (state_after settings (start settings.workers max) front) line).answer ≡ Told told.Closed → AllDone (asked settings (start settings.workers max) (front ++ line ∷ [])) }
-    ensures for_good { (settings : Settings) (max : ℕ) (front : List (List ℕ)) (line : List ℕ) (back : List (List ℕ)) (queue : ℕ) → (line_exchange settings (state_after settings (start settings.workers max) front) line).answer ≡ Told told.Closed
-        → (accepted_of queue (asked settings (state_after settings (start settings.workers max) (front ++ line ∷ [])) back) ≡ []) × (taken_of queue (asked settings (state_after settings (start settings.workers max) (front ++ line ∷ [])) back) ≡ []) }
+    ensures done { (settings : Settings) (max : ℕ) (front : List (List ℕ)) (line : List ℕ) → (line_exchange settings (state_after settings (start settings.workers max) front) line).answer ≡ Replied says.Closed → AllDone (line_answers settings (start settings.workers max) (front ++ line ∷ [])) }
+    ensures for_good { (settings : Settings) (max : ℕ) (front : List (List ℕ)) (line : List ℕ) (back : List (List ℕ)) (queue : ℕ) → (line_exchange settings (state_after settings (start settings.workers max) front) line).answer ≡ Replied says.Closed
+        → (accepted_of queue (line_answers settings (state_after settings (start settings.workers max) (front ++ line ∷ [])) back) ≡ []) × (taken_of queue (line_answers settings (state_after settings (start settings.workers max) (front ++ line ∷ [])) back) ≡ []) }
 {}
 
 /// A frontier that is not a part answers each line as if there were no parts.
-#[tactic(auto, using(crate::proofs::PartLaws::alone_asks))]
+#[tactic(auto, using(crate::proofs::PartLaws::whole_requests))]
 pub fn a_frontier_alone_has_no_parts()
     ensures { (settings : Settings) (state : Frontier) (line : List ℕ) → settings.part ≡ None → line_exchange settings state line ≡ answered state (request_of settings.workers settings.suffixes line) }
 {}
@@ -131,19 +131,19 @@ pub fn a_frontier_alone_has_no_parts()
 /// A part accepts only URLs of its own queues: each URL into the queue, among those of all parts, that its host key is assigned
 /// to.
 pub fn a_part_accepts_its_own()
-    ensures { (settings : Settings) (part : Part) (state : Frontier) (lines : List (List ℕ)) (queue k : ℕ) (url : List ℕ) → settings.part ≡ Some part → slice_get (accepted_of queue (asked settings state lines)) k ≡ Some url → (queue ≡ subqueue_of url settings.workers) × (part_with part queue ≡ part.number) }
+    ensures { (settings : Settings) (part : Part) (state : Frontier) (lines : List (List ℕ)) (queue k : ℕ) (url : List ℕ) → settings.part ≡ Some part → slice_get (accepted_of queue (line_answers settings state lines)) k ≡ Some url → (queue ≡ subqueue_of url settings.workers) × (part_with part queue ≡ part.number) }
 {}
 
 /// No two parts of a crawl accept the same URL.
 #[tactic(auto, using(crate::proofs::PartLaws::shares_no_url))]
 pub fn parts_share_no_url()
     ensures { (first second : Settings) (own other : Part) (old older : Frontier) (lines others : List (List ℕ)) (queue there k l : ℕ) (url : List ℕ) → first.part ≡ Some own → second.part ≡ Some other → first.workers ≡ second.workers → own.queues ≡ other.queues
-        → slice_get (accepted_of queue (asked first old lines)) k ≡ Some url → slice_get (accepted_of there (asked second older others)) l ≡ Some url → (queue ≡ there) × (own.number ≡ other.number) }
+        → slice_get (accepted_of queue (line_answers first old lines)) k ≡ Some url → slice_get (accepted_of there (line_answers second older others)) l ≡ Some url → (queue ≡ there) × (own.number ≡ other.number) }
 {}
 
 /// The answer to an offer is `elsewhere` if and only if the URL's queue belongs to another part. It has that part's number, and
 /// nothing changes. Any other offer is answered as if there were no parts.
-#[tactic(auto, using(crate::proofs::PartLaws::tells_elsewhere, crate::proofs::PartLaws::offers_its_own))]
+#[tactic(auto, using(crate::proofs::PartLaws::answers_elsewhere, crate::proofs::PartLaws::offers_its_own))]
 pub fn others_are_told_elsewhere()
     ensures other { (settings : Settings) (part : Part) (state : Frontier) (line url : List ℕ) (queue : ℕ) → settings.part ≡ Some part → request_of settings.workers settings.suffixes line ≡ Ok (Offer url queue) → part_with part queue ≢ part.number
         → line_exchange settings state line ≡ record { history = []; answer = Unasked (wrong.Elsewhere (part_with part queue) url); state = state } }
@@ -177,7 +177,7 @@ pub fn sums_change_nothing()
 /// those that are pending, in the order in which they will be taken. Each URL that was accepted is in exactly one of them.
 pub fn lists_are_what_was_told()
     ensures { (settings : Settings) (max : ℕ) (lines : List (List ℕ)) (queue : ℕ) → queue < settings.workers
-        → AreTold (asked settings (start settings.workers max) lines) queue (lists.done_in settings lines (start settings.workers max)).rows (lists.in_progress_below settings.workers (state_after settings (start settings.workers max) lines)).rows (lists.pending_below settings.workers (state_after settings (start settings.workers max) lines)).rows }
+        → AreReported (line_answers settings (start settings.workers max) lines) queue (lists.done_in settings lines (start settings.workers max)).rows (lists.in_progress_below settings.workers (state_after settings (start settings.workers max) lines)).rows (lists.pending_below settings.workers (state_after settings (start settings.workers max) lines)).rows }
 {}
 
 /// A rebuilt log keeps the URLs: a new session that is given its lines, and answers each as it has to, accepted the URLs that the old
@@ -186,5 +186,5 @@ pub fn lists_are_what_was_told()
 #[tactic(auto, using(crate::proofs::KeptUrls::keeps))]
 pub fn a_rebuilt_log_keeps_the_urls()
     ensures { (old new : Settings) (most room : ℕ) (lines : List (List ℕ)) (queue : ℕ) → IsSession old → IsSession new → (rebuilt new queue (inventory old most lines) (start new.workers room)).fits ≡ true
-        → KeepsUrls old new (asked old (start old.workers most) lines) (asked new (start new.workers room) (rebuilt new queue (inventory old most lines) (start new.workers room)).lines) }
+        → KeepsUrls old new (line_answers old (start old.workers most) lines) (line_answers new (start new.workers room) (rebuilt new queue (inventory old most lines) (start new.workers room)).lines) }
 {}

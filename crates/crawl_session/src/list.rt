@@ -277,8 +277,8 @@ fn end(session: &mut Session, queue: u32) -> Result<Option<Row>, NoMemory>
     ensures { IfOk result (λ row. Gives (spec.ended queue) session.old row session.new) }
 {
     let busy = session.frontier.exchange(Request::Again { queue })?;
-    let told = session.frontier.exchange(Request::Done { queue })?;
-    if is_count(&told) {
+    let answer = session.frontier.exchange(Request::Done { queue })?;
+    if is_count(&answer) {
         return Ok(url_row(Kind::Done, queue, busy));
     }
     Ok(None)
@@ -297,7 +297,7 @@ pub(crate) fn take(session: &mut Session, queue: u32) -> Result<Option<Row>, NoM
     ensures { IfOk result (λ row. Gives (spec.taken_one queue) session.old row session.new) }
 {
     let answer = session.frontier.exchange(Request::Next { queue })?;
-    let _told = session.frontier.exchange(Request::Done { queue })?;
+    let _ended = session.frontier.exchange(Request::Done { queue })?;
     Ok(url_row(Kind::Pending, queue, answer))
 }
 
@@ -305,7 +305,7 @@ pub(crate) fn take(session: &mut Session, queue: u32) -> Result<Option<Row>, NoM
 pub(crate) fn is_count(answer: &Answer) -> bool
     ensures { result ≡ spec.is_count answer.now }
 {
-    matches!(answer, Answer::Told(Reply::Count(_)))
+    matches!(answer, Answer::Replied(Reply::Count(_)))
 }
 
 /// Returns the row of the URL in an answer.
@@ -313,7 +313,7 @@ fn url_row(kind: Kind, queue: u32, answer: Answer) -> Option<Row>
     ensures { result ≡ spec.url_row kind queue answer }
 {
     match answer {
-        Answer::Told(Reply::Taken(url)) => Some(Row::Url { kind, queue, url }),
+        Answer::Replied(Reply::Taken(url)) => Some(Row::Url { kind, queue, url }),
         _ => None,
     }
 }

@@ -60,7 +60,7 @@ pub fn read_settings(alloc: Global, line: &str) -> Result<Option<(Header, Vec<&s
     ensures back { IfOk result (λ found. (workers max : ℕ) (suffixes : List (List ℕ)) → AreLimits workers max → All (λ suffix. is_good suffix ≡ true) suffixes → line.now ≡ spec.settings_line workers max suffixes → MatchOption found ⊥ (λ x. (x.0.workers ≡ workers) × ((x.0.max ≡ max) × (map (λ suffix. suffix.now) x.1.items ≡ suffixes)))) }
 
     // What is read is in the line, and is within the limits of a frontier.
-    ensures stands { IfOk result (λ found. IfSome found (λ x. (rest : List ℕ) × ((line.now ≡ spec.within_text (map (λ suffix. suffix.now) x.1.items) ++ rest) × (header_of rest ≡ Some x.0)))) }
+    ensures is_in_line { IfOk result (λ found. IfSome found (λ x. (rest : List ℕ) × ((line.now ≡ spec.within_text (map (λ suffix. suffix.now) x.1.items) ++ rest) × (header_of rest ≡ Some x.0)))) }
     ensures limits { IfOk result (λ found. IfSome found (λ x. AreLimits x.0.workers x.0.max)) }
 {
     let mut suffixes = Vec::new(alloc);

@@ -6,7 +6,7 @@ ghost use Rattle.crawl_session.specs.Exchanges.{exchange};
 ghost use Rattle.crawl_session.specs.Frontiers.{Frontier, Shows};
 ghost use Rattle.crawl_session.specs.Listing.{is_count};
 ghost use Rattle.crawl_session.specs.Rebuilding as spec;
-ghost use Rattle.crawl_session.specs.Rebuilding.{IsFull, IsRefused, Offers, Tells, Writes};
+ghost use Rattle.crawl_session.specs.Rebuilding.{IsFull, IsRefused, Offers, Copies, Writes};
 ghost use Rattle.crawl_session.specs.declared.rebuild.RebuildError.TheVariants as wrong;
 ghost use Rattle.crawl_session.specs.declared.request.Request.TheVariants as request;
 ghost use Rattle.crawl_session.specs.declared.request.RequestError.TheVariants as why;
@@ -392,8 +392,8 @@ fn offer<O: Write>(
     ensures full { IfErr result (λ error. error ≡ wrong.Full → IsRefused url.now session.old) }
 {
     let line = offer_line(alloc, url)?;
-    let asked = session.request(line.as_bytes());
-    let Some(queue) = asked_queue(&asked, url)? else {
+    let requested = session.request(line.as_bytes());
+    let Some(queue) = queue_of_offer(&requested, url)? else {
         return Ok(None);
     };
     accept(session, url, queue)?;
@@ -402,14 +402,14 @@ fn offer<O: Write>(
 }
 
 /// Returns the queue that the offer of this URL names, or `None` if the filter does not allow it.
-fn asked_queue(
-    asked: &Result<Request, RequestError>,
+fn queue_of_offer(
+    requested: &Result<Request, RequestError>,
     url: &Text,
 ) -> Result<Option<u32>, RebuildError>
-    ensures asks { IfOk result (λ queue. asked.now ≡ spec.offer_asks url.now queue) }
+    ensures asks { IfOk result (λ queue. requested.now ≡ spec.offer_asks url.now queue) }
     ensures room { IfErr result (λ error. error ≢ wrong.Full) }
 {
-    match asked {
+    match requested {
         Ok(Request::Offer { url: named, queue }) if named == url => Ok(Some(*queue)),
         Err(RequestError::Filtered) => Ok(None),
         Err(RequestError::NoMemory) => Err(RebuildError::NoMemory),
@@ -434,8 +434,8 @@ fn fit_offer(answer: &Answer) -> Result<(), RebuildError>
     ensures full { IfErr result (λ error. error ≡ wrong.Full → spec.is_full answer.now ≡ true) }
 {
     match answer {
-        Answer::Told(Reply::Accepted { .. }) => Ok(()),
-        Answer::Told(Reply::Refused(Refusal::Full)) => Err(RebuildError::Full),
+        Answer::Replied(Reply::Accepted { .. }) => Ok(()),
+        Answer::Replied(Reply::Refused(Refusal::Full)) => Err(RebuildError::Full),
         _ => Err(RebuildError::Unfit),
     }
 }
@@ -470,8 +470,8 @@ fn other_url<O: Write>(
     ensures room { IfErr result (λ error. error ≢ wrong.Full) }
 {
     let line = offer_line(alloc, url)?;
-    let asked = session.request(line.as_bytes());
-    if !is_elsewhere(&asked, url)? {
+    let requested = session.request(line.as_bytes());
+    if !is_elsewhere(&requested, url)? {
         return Ok(LeftOut {
             all: 1,
             unfinished: 0,
@@ -482,12 +482,12 @@ fn other_url<O: Write>(
 }
 
 /// Whether the offer of this URL is for another part. If not, the filter does not allow the URL.
-fn is_elsewhere(asked: &Result<Request, RequestError>, url: &Text) -> Result<bool, RebuildError>
-    ensures other { IfOk result (λ is. is ≡ true → (part : ℕ) × (asked.now ≡ Err (why.Elsewhere part url.now))) }
-    ensures filtered { IfOk result (λ is. is ≡ false → asked.now ≡ Err why.Filtered) }
+fn is_elsewhere(requested: &Result<Request, RequestError>, url: &Text) -> Result<bool, RebuildError>
+    ensures other { IfOk result (λ is. is ≡ true → (part : ℕ) × (requested.now ≡ Err (why.Elsewhere part url.now))) }
+    ensures filtered { IfOk result (λ is. is ≡ false → requested.now ≡ Err why.Filtered) }
     ensures room { IfErr result (λ error. error ≢ wrong.Full) }
 {
-    match asked {
+    match requested {
         Err(RequestError::Elsewhere { url: named, .. }) if named == url => Ok(true),
         Err(RequestError::Filtered) => Ok(false),
         Err(RequestError::NoMemory) => Err(RebuildError::NoMemory),
@@ -512,7 +512,7 @@ fn takes_url(answer: &Answer, url: &Text) -> bool
     ensures { result ≡ spec.takes_url url.now answer.now }
 {
     match answer {
-        Answer::Told(Reply::Taken(named)) => named == url,
+        Answer::Replied(Reply::Taken(named)) => named == url,
         _ => false,
     }
 }
@@ -541,7 +541,7 @@ fn record_line<O: Write>(
     line: &str,
     out: &mut O,
 ) -> Result<Answer, RebuildError>
-    ensures tells { IfOk result (λ answer. Tells session.old line.now (O.contents out.old) (O.contents out.new) answer session.new) }
+    ensures copies { IfOk result (λ answer. Copies session.old line.now (O.contents out.old) (O.contents out.new) answer session.new) }
     ensures room { IfErr result (λ error. error ≢ wrong.Full) }
 {
     let answer = session.answer(line.as_bytes())?;

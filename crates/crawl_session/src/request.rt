@@ -61,10 +61,10 @@ pub enum RequestError {
 }
 
 impl From<LineError> for RequestError {
-    ghost from_gives = { λ fault error. error ≡ spec.of_line fault };
+    ghost from_gives = { λ line_error error. error ≡ spec.of_line line_error };
 
-    fn from(fault: LineError) -> RequestError {
-        match fault {
+    fn from(line_error: LineError) -> RequestError {
+        match line_error {
             LineError::TooLong(_) => RequestError::LineTooLong,
             LineError::NotText(_) => RequestError::NotText,
         }

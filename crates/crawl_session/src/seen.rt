@@ -1,7 +1,7 @@
 //! How many offers to each queue were answered `seen`.
 ghost use Rattle.std.specs.Prelude.{◌≡◌, is_some, length, slice_get, IfOk};
 ghost use Rattle.crawl_session.specs.Seen as spec;
-ghost use Rattle.crawl_session.specs.declared.answer.Answer.TheVariants.{Told};
+ghost use Rattle.crawl_session.specs.declared.answer.Answer.TheVariants.{Replied};
 
 use crawl_core::{NoMemory, Reply};
 use std::alloc::{AllocError, Global};
@@ -72,7 +72,7 @@ impl SeenCounts {
 
     /// Counts the offer to the queue with this reply, if it is `seen`.
     pub(crate) fn note(&mut self, queue: u32, reply: &Reply)
-        ensures { self.new ≡ spec.seen_with queue (Told reply.now) self.old }
+        ensures { self.new ≡ spec.seen_with queue (Replied reply.now) self.old }
     {
         if matches!(reply, Reply::Seen) {
             let _found = self.add(queue, 1);

@@ -78,8 +78,8 @@ fn serve_by<I: Read, O: Write>(
 {
     let mut held = Vec::new(alloc);
     for _turn in 0..u64::MAX {
-        let goes_on = turn(alloc, session, input, out, buffer, &mut held)?;
-        if !goes_on {
+        let continues = turn(alloc, session, input, out, buffer, &mut held)?;
+        if !continues {
             return Ok(());
         }
     }
@@ -97,8 +97,8 @@ fn turn<I: Read, O: Write>(
     held: &mut Vec<u8>,
 ) -> Result<bool, ServeError>
     requires { 0 < length buffer.old }
-    ensures turns { IfOk result (λ goes_on. goes_on ≡ true → (tail : List ℕ) → Holds held.old.items tail → Turns session.old tail (I.remaining input.old) (I.remaining input.new) (O.contents out.old) (O.contents out.new) held.new.items session.new) }
-    ensures ends { IfOk result (λ goes_on. goes_on ≡ false → (tail : List ℕ) → Holds held.old.items tail → Ends session.old tail (I.remaining input.old) (I.remaining input.new) (O.contents out.old) (O.contents out.new) session.new) }
+    ensures turns { IfOk result (λ continues. continues ≡ true → (tail : List ℕ) → Holds held.old.items tail → Turns session.old tail (I.remaining input.old) (I.remaining input.new) (O.contents out.old) (O.contents out.new) held.new.items session.new) }
+    ensures ends { IfOk result (λ continues. continues ≡ false → (tail : List ℕ) → Holds held.old.items tail → Ends session.old tail (I.remaining input.old) (I.remaining input.new) (O.contents out.old) (O.contents out.new) session.new) }
 {
     let count = read_some(input, buffer)?;
     if count == 0 {

@@ -6,7 +6,7 @@ ghost use Rattle.crawl_core.specs.declared.error.CoreError.{CoreError};
 ghost use Rattle.crawl_keys.specs.Outcome.{Gives};
 ghost use Rattle.crawl_session.specs.Exchanges as spec;
 ghost use Rattle.crawl_session.specs.Frontiers.{Shows, start};
-ghost use Rattle.crawl_session.specs.Parts.{asked_by, placed_if, request_for};
+ghost use Rattle.crawl_session.specs.Parts.{part_request, placed_if, request_for};
 ghost use Rattle.crawl_session.specs.Requests.{request_of};
 ghost use Rattle.crawl_session.specs.Serving.{Comes, GivesUp, Serves};
 ghost use Rattle.crawl_session.specs.declared.request.RequestError.TheVariants as wrong;
@@ -127,13 +127,13 @@ impl Session {
     /// The request of a line to a part.
     fn request_by(&self, part: &Part, line: &[u8]) -> Result<Request, RequestError>
         requires { 1 ≤ part.now.queues }
-        ensures { Gives wrong.NoMemory (λ request. request) result (asked_by part.now line.now (request_of self.now.settings.workers self.now.settings.suffixes line.now)) }
+        ensures { Gives wrong.NoMemory (λ request. request) result (part_request part.now line.now (request_of self.now.settings.workers self.now.settings.suffixes line.now)) }
     {
         if is_word(line, "sync") {
             return Err(RequestError::Sync);
         }
         if is_word(line, "identity") {
-            return told_identity(part);
+            return identity_answer(part);
         }
         self.request_of_part(part, line)
     }
@@ -153,7 +153,7 @@ impl Session {
     ///
     /// # Errors
     /// Out of memory. The frontier is then as before, except for the word that its client remembers.
-    #[tactic(auto, using(crate::proofs::Lifts::given_up_at_once))]
+    #[tactic(auto, using(crate::proofs::Lifts::given_up_immediately))]
     pub fn answer(&mut self, line: &[u8]) -> Result<Answer, NoMemory>
         ensures serves { IfOk result (λ answer. Serves self.old line.now answer self.new) }
         ensures same { self.new.settings ≡ self.old.settings }
@@ -182,7 +182,7 @@ fn new_frontier(alloc: Global, queues: u32, max_pending: u64) -> Result<Frontier
 }
 
 /// The answer to `identity`.
-fn told_identity(part: &Part) -> Result<Request, RequestError>
+fn identity_answer(part: &Part) -> Result<Request, RequestError>
     ensures { Gives wrong.NoMemory (λ request. request) result (Err (wrong.Identity part.now.identity)) }
 {
     match part.identity.clone() {

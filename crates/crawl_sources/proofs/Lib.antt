@@ -1,4 +1,4 @@
 pub mod Prelude
 pub mod Counts
-pub mod Faults
+pub mod Errors
 pub mod Least

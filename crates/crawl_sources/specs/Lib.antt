@@ -1,4 +1,4 @@
-pub mod SeedFaults
+pub mod SeedErrors
 pub mod Seeds
 pub mod Sources
 pub mod Tallies

@@ -14,21 +14,21 @@ use std::collections::BTreeMap;
 /// A count for each of some URLs.
 pub type Tallies<'a> = BTreeMap<HashedText<'a>, Tally<'a>>;
 
-/// Counts, for the URL of each result of `told`, the results that link to it. Each count has the least URL of these results, and if
+/// Counts, for the URL of each result of `listed`, the results that link to it. Each count has the least URL of these results, and if
 /// `all` is set, all their URLs.
 ///
 /// # Errors
 /// Only out of memory.
 pub fn tally_links<'a>(
     alloc: Global,
-    told: &[&'a PageResult],
+    listed: &[&'a PageResult],
     results: &'a [PageResult],
     all: bool,
 ) -> Result<Tallies<'a>, NoMemory>
-    ensures known { IfOk result (λ tallies. (url : List ℕ) → list_any (λ r. bytes_eq r.url url) (pointed told.now) ≡ true → IsSome (count_of tallies url)) }
+    ensures known { IfOk result (λ tallies. (url : List ℕ) → list_any (λ r. bytes_eq r.url url) (pointed listed.now) ≡ true → IsSome (count_of tallies url)) }
     ensures counted { IfOk result (λ tallies. (url : List ℕ) → IsTally all results.now url (count_of tallies url)) }
 {
-    let mut tallies = no_tallies(alloc, told)?;
+    let mut tallies = no_tallies(alloc, listed)?;
     count_results(&mut tallies, all, results)?;
     Ok(tallies)
 }
@@ -45,12 +45,12 @@ pub fn tally_of<'t, 'a>(tallies: &'t Tallies<'a>, url: &'a CanonUrl) -> &'t Tall
 }
 
 /// Returns a count of 0 for the URL of each of these results.
-fn no_tallies<'a>(alloc: Global, told: &[&'a PageResult]) -> Result<Tallies<'a>, NoMemory>
-    ensures known { IfOk result (λ tallies. (url : List ℕ) → list_any (λ r. bytes_eq r.url url) (pointed told.now) ≡ true → IsSome (count_of tallies url)) }
+fn no_tallies<'a>(alloc: Global, listed: &[&'a PageResult]) -> Result<Tallies<'a>, NoMemory>
+    ensures known { IfOk result (λ tallies. (url : List ℕ) → list_any (λ r. bytes_eq r.url url) (pointed listed.now) ≡ true → IsSome (count_of tallies url)) }
     ensures none { IfOk result (λ tallies. (all : Bool) (url : List ℕ) → IsTally all [] url (count_of tallies url)) }
 {
     let mut tallies = BTreeMap::new(alloc);
-    for one in told {
+    for one in listed {
         tallies.insert(one.url.hashed(), Tally::new(alloc))?;
     }
     Ok(tallies)

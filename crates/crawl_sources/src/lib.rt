@@ -8,5 +8,5 @@ mod seeds;
 mod tally;
 
 pub use counting::{Tallies, tally_links, tally_of};
-pub use seeds::{SeedsFault, read_seeds};
+pub use seeds::{SeedsError, read_seeds};
 pub use tally::Tally;

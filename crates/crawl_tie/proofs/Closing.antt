@@ -1,6 +1,6 @@
 -- A history from the step that closes the gate.
 use Rattle.crawl_tie.proofs.Prelude.{◌≡◌, ℕ, ◌<◌, true, List, [], ◌∷◌, ◌++◌, length, map, Option, None, refl, sym, ap, ◌∙◌, subst, arith, append_assoc, filter_map, list_all, append-nil, filter_map-append, Event, Close, Reply, one_if, State, start, count_of, Run, Sound, gate_effect, closed_means_finished, bits, closed_at, IsMaximum, GateId, Entry, Message, plain, Whole, IsFirst, Act, Atomic, History, events_of, events, ShowsWhole, pushed_to, popped_from, fetched_at, accepted, delivered, fetches_done, is_closing, is_quiet, Delivers, Finished}
-use Rattle.crawl_core.specs.declared.reply.Reply.TheVariants as told
+use Rattle.crawl_core.specs.declared.reply.Reply.TheVariants as says
 use Rattle.crawl_core.specs.History as cores
 use Rattle.crawl_core.specs.Invariants as finish
 use Rattle.crawl_tie.proofs.Lanes.{all_taken, lists_split}
@@ -23,7 +23,7 @@ last_step w v (x ∷ xs) act h = let rest = last_step h.0 v xs act h.2 in (rest.
 
 -- what the two closing steps have in common
 pub record Ends (act : Act) : Type 0 where
-  pub event : events_of act ≡ (Close, told.Closed) ∷ []
+  pub event : events_of act ≡ (Close, says.Closed) ∷ []
   pub pushed : (q : ℕ) → pushed_to q act ≡ None
   pub popped : (q : ℕ) → popped_from q act ≡ None
   pub finished : (q : ℕ) → fetched_at q act ≡ None
@@ -61,10 +61,10 @@ at_closing gate workers first mid last before later act fits is_first h is_closi
     let max = gate.max_pending in
     let c = ends act is_closing_act in
     let n = runs gate workers (before ++ act ∷ []) first mid (start workers max) (first_ties gate workers first fits is_first) h in
-    let es : events (before ++ act ∷ []) ≡ events before ++ (Close, told.Closed) ∷ [] = events_append before (act ∷ []) ∙ ap (λ ys. events before ++ ys) (append-nil (events_of act) ∙ c.event) in
-    let run : Run (start workers max) (events before ++ (Close, told.Closed) ∷ []) n.state = subst (λ ys. Run (start workers max) ys n.state) es n.run in
+    let es : events (before ++ act ∷ []) ≡ events before ++ (Close, says.Closed) ∷ [] = events_append before (act ∷ []) ∙ ap (λ ys. events before ++ ys) (append-nil (events_of act) ∙ c.event) in
+    let run : Run (start workers max) (events before ++ (Close, says.Closed) ∷ []) n.state = subst (λ ys. Run (start workers max) ys n.state) es n.run in
     let done = closed_means_finished workers max (events before) [] Close n.state run in
-    let finished : finish.IsFinished n.state = subst finish.IsFinished (run_same (start workers max) done.0 n.state (events before ++ (Close, told.Closed) ∷ []) done.1 run) done.2 in
+    let finished : finish.IsFinished n.state = subst finish.IsFinished (run_same (start workers max) done.0 n.state (events before ++ (Close, says.Closed) ∷ []) done.1 run) done.2 in
     let shows = n.ties.shows in
     let end = last_step first mid before act h in
     let word = c.word end.0 mid end.2 in

@@ -25,7 +25,7 @@ pub use Rattle.crawl_queues.specs.declared.entry.Entry.{Entry}
 pub use Rattle.crawl_queues.specs.declared.entry.Message.{Message}
 pub use Rattle.crawl_queues.specs.declared.rule.Home.{Home}
 pub use Rattle.crawl_queues.specs.declared.rule.PassView.{PassView}
-pub use Rattle.crawl_tie.specs.Acts.{Act, Atomic, Closes, Closing, Counting, Entering, Enters, FindsNothing, History, IsOwner, IsUnitOf, LeavesFetch, LeavesOffer, LeavesSeeds, LeavesSeen, Leaving, Looking, Looks, LooksAway, Loses, Losing, NotClosesClosed, NotClosesPending, NotClosing, Popping, Pops, PopsNone, Pushes, Pushing, Splits, Splitting, StandsIn, TakesIn, TakingIn, after_entering, after_fetching, after_leaving, after_looking, after_pushing, after_seeding, after_splitting, core_word, is_offering, loaded_by, with_gate, with_lane}
+pub use Rattle.crawl_tie.specs.Acts.{Act, Atomic, Closes, Closing, Counting, Entering, Enters, FindsNothing, History, IsOwner, IsUnitOf, LeavesFetch, LeavesOffer, LeavesSeeds, LeavesSeen, Leaving, Looking, Looks, LooksAway, Loses, Losing, NotClosesClosed, NotClosesPending, NotClosing, Popping, Pops, PopsNone, Pushes, Pushing, Splits, Splitting, IsSent, TakesIn, TakingIn, after_entering, after_fetching, after_leaving, after_looking, after_pushing, after_seeding, after_splitting, core_word, is_offering, loaded_by, with_gate, with_lane}
 pub use Rattle.crawl_tie.specs.Headline.{Delivers, Finished, accepted, delivered, fetched_at, fetches_done, is_closing, is_quiet, popped_from, pushed_to}
 pub use Rattle.crawl_tie.specs.Parts.{GateMoves, IsDivided, IsMaking, IsUnited, LaneMoves, UnitsAreOwned, closing_one, counting_one, entering_one, is_owned, leaving_one, looking_one, losing_one, not_closing_one, popping_one, pushing_one, splitting_one, taking_in_one}
 pub use Rattle.crawl_tie.specs.Shows.{CountsUnits, HasLists, IsPlaced, ListsKeep, ShowsGate, ShowsLane, ShowsLists, ShowsWhole, events, events_of, message_of}

@@ -60,8 +60,8 @@ closer = view_closing fresh (open_at 0)
 abbrev waiter : View
 waiter = view_not_closing fresh (open_at 1)
 
-abbrev told : View
-told = view_not_closing waiter (closed_at 0)
+abbrev reported : View
+reported = view_not_closing waiter (closed_at 0)
 
 abbrev seven_looked : View
 seven_looked = view_looking fresh (open_at 1)
@@ -206,7 +206,7 @@ abbrev w23 : GateId → Bool → Whole
 w23 gate b = w22 gate b
 
 abbrev w24 : GateId → Bool → Whole
-w24 gate b = with_gate (w23 gate b) (gate_with (closed_at 0) (seeds_left ∷ closer ∷ told ∷ seven_left ∷ nine_left ∷ []))
+w24 gate b = with_gate (w23 gate b) (gate_with (closed_at 0) (seeds_left ∷ closer ∷ reported ∷ seven_left ∷ nine_left ∷ []))
 
 abbrev w25 : GateId → Bool → Whole
 w25 gate b = record (w24 gate b) { lanes = both b (idle (counted (at_home gate b))) (idle (found_none_twice (at_home gate (not b)))) }
@@ -224,10 +224,10 @@ shut_is_not_open : closed_at 0 ≢ open_at 0
 shut_is_not_open e = true≢false (ap (λ x. x.1) e)
 
 offers : (gate : GateId) (b : Bool) → gate.max_pending ≡ 4 → subqueue_of [] 2 ≡ queue b → History (w0 gate b) (offers_made (queue b) e) (w13 gate b)
-offers gate b four here = (w1 gate b, ((gate_with (open_at 1) (seeds ∷ fresh ∷ [])), record { view = seeds; seat = 0; at = refl; next = refl }, refl), (w2 gate b, ((gate_with (open_at 1) (seeds ∷ fresh ∷ fresh ∷ [])), record { view = seeds; seat = 0; at = refl; next = refl }, refl), (w3 gate b, ((gate_with (open_at 1) (seeds ∷ fresh ∷ fresh ∷ fresh ∷ [])), record { view = seeds; seat = 0; at = refl; next = refl }, refl), (w4 gate b, ((gate_with (open_at 1) (seeds ∷ fresh ∷ fresh ∷ fresh ∷ fresh ∷ [])), record { view = seeds; seat = 0; at = refl; next = refl }, refl), (w5 gate b, ((gate_with (open_at 1) (seeds ∷ fresh ∷ fresh ∷ seven_looked ∷ fresh ∷ [])), record { view = fresh; steps = record { seat = 3; view = refl; word = refl; small = omega arith; next = refl } }, refl), (w6 gate b, ((gate_with (open_at 1) (seeds ∷ fresh ∷ fresh ∷ seven_looked ∷ nine_looked ∷ [])), record { view = fresh; steps = record { seat = 4; view = refl; word = refl; small = omega arith; next = refl } }, refl), (w7 gate b, ((gate_with (open_at 2) (seeds ∷ fresh ∷ fresh ∷ seven ∷ nine_looked ∷ [])), record { view = seven_looked; holds_none = refl; room = omega arith; steps = record { seat = 3; view = refl; word = refl; small = omega arith; next = refl } }, refl, refl, refl), (w8 gate b, ((gate_with (open_at 2) (seeds ∷ fresh ∷ fresh ∷ seven ∷ nine_lost ∷ [])), 1, record { view = nine_looked; holds_none = refl; room = omega arith; other = λ e. differ 2 1 (omega arith) e; steps = record { seat = 4; view = refl; word = refl; small = omega arith; next = refl } }, refl, refl, refl), (w9 gate b, ((gate_with (open_at 2) (seeds ∷ fresh ∷ fresh ∷ seven ∷ nine_again ∷ [])), record { view = nine_lost; steps = record { seat = 4; view = refl; word = refl; small = omega arith; next = refl } }, refl), (w10 gate b, ((gate_with (open_at 3) (seeds ∷ fresh ∷ fresh ∷ seven ∷ nine ∷ [])), record { view = nine_again; holds_none = refl; room = omega arith; steps = record { seat = 4; view = refl; word = refl; small = omega arith; next = refl } }, refl, refl, refl), (w11 gate b, (fresh_at gate b, full (at_home gate b) gate, record { pass = 0; home = at_home gate b; sent = []; message = message gate; view = refl; unit = (refl, sym four); may = record { new = refl; here = here; number = refl }; entry_is = refl; next = refl }, get_one b (fresh_at gate b) (fresh_at gate (not b)), record { owner = refl; view = refl }, ap (λ (ls : List Lane). (let u : Whole = record (after_pushing (w10 gate b) (queue b) (fresh_at gate b) (full (at_home gate b) gate) 3 7) { lanes = ls } in u)) (set_one b (fresh_at gate b) (fresh_at gate (not b)) (idle (full (at_home gate b) gate)))), (w12 gate b, ((gate_with (open_at 2) (seeds ∷ fresh ∷ fresh ∷ seven ∷ nine_left ∷ [])), idle (full (at_home gate b) gate), record { view = nine; holds = refl; steps = record { seat = 4; view = refl; word = refl; small = omega arith; next = refl } }, refl, get_one b (idle (full (at_home gate b) gate)) (fresh_at gate (not b)), record { pass = 0; home = at_home gate b; sent = e ∷ []; view = refl; stands = refl }, refl), (w13 gate b, ((gate_with (open_at 1) (seeds_left ∷ fresh ∷ fresh ∷ seven ∷ nine_left ∷ [])), record { view = seeds; holds = refl; steps = record { seat = 0; view = refl; word = refl; small = omega arith; next = refl } }, refl, refl), refl)))))))))))))
+offers gate b four here = (w1 gate b, ((gate_with (open_at 1) (seeds ∷ fresh ∷ [])), record { view = seeds; seat = 0; at = refl; next = refl }, refl), (w2 gate b, ((gate_with (open_at 1) (seeds ∷ fresh ∷ fresh ∷ [])), record { view = seeds; seat = 0; at = refl; next = refl }, refl), (w3 gate b, ((gate_with (open_at 1) (seeds ∷ fresh ∷ fresh ∷ fresh ∷ [])), record { view = seeds; seat = 0; at = refl; next = refl }, refl), (w4 gate b, ((gate_with (open_at 1) (seeds ∷ fresh ∷ fresh ∷ fresh ∷ fresh ∷ [])), record { view = seeds; seat = 0; at = refl; next = refl }, refl), (w5 gate b, ((gate_with (open_at 1) (seeds ∷ fresh ∷ fresh ∷ seven_looked ∷ fresh ∷ [])), record { view = fresh; steps = record { seat = 3; view = refl; word = refl; small = omega arith; next = refl } }, refl), (w6 gate b, ((gate_with (open_at 1) (seeds ∷ fresh ∷ fresh ∷ seven_looked ∷ nine_looked ∷ [])), record { view = fresh; steps = record { seat = 4; view = refl; word = refl; small = omega arith; next = refl } }, refl), (w7 gate b, ((gate_with (open_at 2) (seeds ∷ fresh ∷ fresh ∷ seven ∷ nine_looked ∷ [])), record { view = seven_looked; holds_none = refl; room = omega arith; steps = record { seat = 3; view = refl; word = refl; small = omega arith; next = refl } }, refl, refl, refl), (w8 gate b, ((gate_with (open_at 2) (seeds ∷ fresh ∷ fresh ∷ seven ∷ nine_lost ∷ [])), 1, record { view = nine_looked; holds_none = refl; room = omega arith; other = λ e. differ 2 1 (omega arith) e; steps = record { seat = 4; view = refl; word = refl; small = omega arith; next = refl } }, refl, refl, refl), (w9 gate b, ((gate_with (open_at 2) (seeds ∷ fresh ∷ fresh ∷ seven ∷ nine_again ∷ [])), record { view = nine_lost; steps = record { seat = 4; view = refl; word = refl; small = omega arith; next = refl } }, refl), (w10 gate b, ((gate_with (open_at 3) (seeds ∷ fresh ∷ fresh ∷ seven ∷ nine ∷ [])), record { view = nine_again; holds_none = refl; room = omega arith; steps = record { seat = 4; view = refl; word = refl; small = omega arith; next = refl } }, refl, refl, refl), (w11 gate b, (fresh_at gate b, full (at_home gate b) gate, record { pass = 0; home = at_home gate b; sent = []; message = message gate; view = refl; unit = (refl, sym four); may = record { new = refl; here = here; number = refl }; entry_is = refl; next = refl }, get_one b (fresh_at gate b) (fresh_at gate (not b)), record { owner = refl; view = refl }, ap (λ (ls : List Lane). (let u : Whole = record (after_pushing (w10 gate b) (queue b) (fresh_at gate b) (full (at_home gate b) gate) 3 7) { lanes = ls } in u)) (set_one b (fresh_at gate b) (fresh_at gate (not b)) (idle (full (at_home gate b) gate)))), (w12 gate b, ((gate_with (open_at 2) (seeds ∷ fresh ∷ fresh ∷ seven ∷ nine_left ∷ [])), idle (full (at_home gate b) gate), record { view = nine; holds = refl; steps = record { seat = 4; view = refl; word = refl; small = omega arith; next = refl } }, refl, get_one b (idle (full (at_home gate b) gate)) (fresh_at gate (not b)), record { pass = 0; home = at_home gate b; sent = e ∷ []; view = refl; listed = refl }, refl), (w13 gate b, ((gate_with (open_at 1) (seeds_left ∷ fresh ∷ fresh ∷ seven ∷ nine_left ∷ [])), record { view = seeds; holds = refl; steps = record { seat = 0; view = refl; word = refl; small = omega arith; next = refl } }, refl, refl), refl)))))))))))))
 
 turns : (gate : GateId) (b : Bool) → History (w13 gate b) (turns_made (queue b) (queue (not b)) e) (w27 gate b)
-turns gate b = (w14 gate b, (idle (full (at_home gate b) gate), popped (at_home gate b), record { pass = 2; home = at_home gate b; taken = []; empty_pops = 0; message = message gate; rest = []; view = refl; items = refl; entry_is = refl; next = refl }, get_one b (idle (full (at_home gate b) gate)) (fresh_at gate (not b)), refl, ap (λ (ls : List Lane). (let u : Whole = record (w13 gate b) { lanes = ls } in u)) (set_one b (idle (full (at_home gate b) gate)) (fresh_at gate (not b)) (busy (popped (at_home gate b))))), (w15 gate b, ((gate_with (open_at 1) (seeds_left ∷ fresh ∷ fresh ∷ seven_held ∷ nine_left ∷ [])), record { view = seven; steps = record { seat = 3; view = refl; word = refl; small = omega arith; next = refl } }, refl), (w16 gate b, (fresh_at gate (not b), get_other b (busy (popped (at_home gate b))) (fresh_at gate (not b)), refl, refl, refl), (w17 gate b, ((gate_with (open_at 1) (seeds_left ∷ fresh ∷ waiter ∷ seven_held ∷ nine_left ∷ [])), record { view = fresh; holds_none = refl; other = λ e. differ 1 0 (omega arith) e; steps = record { seat = 2; view = refl; word = refl; small = omega arith; next = refl } }, refl), (w18 gate b, (fresh_at gate (not b), found_none (at_home gate (not b)), record { pass = 2; home = at_home gate (not b); taken = []; empty_pops = 0; view = refl; next = refl }, get_other b (busy (popped (at_home gate b))) (fresh_at gate (not b)), ap (λ (ls : List Lane). (let u : Whole = record (w17 gate b) { lanes = ls } in u)) (set_other b (busy (popped (at_home gate b))) (fresh_at gate (not b)) (idle (found_none (at_home gate (not b)))))), (w19 gate b, ((gate_with (open_at 0) (seeds_left ∷ fresh ∷ waiter ∷ seven_left ∷ nine_left ∷ [])), busy (popped (at_home gate b)), record { view = seven_held; holds = refl; steps = record { seat = 3; view = refl; word = refl; small = omega arith; next = refl } }, refl, get_one b (busy (popped (at_home gate b))) (idle (found_none (at_home gate (not b)))), refl, ap (λ (ls : List Lane). (let u : Whole = record (after_fetching (w18 gate b) (gate_with (open_at 0) (seeds_left ∷ fresh ∷ waiter ∷ seven_left ∷ nine_left ∷ [])) 3 (queue b) (busy (popped (at_home gate b)))) { lanes = ls } in u)) (set_one b (busy (popped (at_home gate b))) (idle (found_none (at_home gate (not b)))) (idle (popped (at_home gate b))))), (w20 gate b, (idle (popped (at_home gate b)), get_one b (idle (popped (at_home gate b))) (idle (found_none (at_home gate (not b)))), refl, refl, refl), (w21 gate b, ((gate_with (closed_at 0) (seeds_left ∷ closer ∷ waiter ∷ seven_left ∷ nine_left ∷ [])), record { view = fresh; holds_none = refl; steps = record { seat = 1; view = refl; word = refl; small = omega arith; next = refl } }, refl), (w22 gate b, (idle (popped (at_home gate b)), counted (at_home gate b), record { pass = 2; home = at_home gate b; taken = e ∷ []; empty_pops = 0; view = refl; next = refl }, get_one b (idle (popped (at_home gate b))) (idle (found_none (at_home gate (not b)))), ap (λ (ls : List Lane). (let u : Whole = record (w21 gate b) { lanes = ls } in u)) (set_one b (idle (popped (at_home gate b))) (idle (found_none (at_home gate (not b)))) (idle (counted (at_home gate b))))), (w23 gate b, (idle (found_none (at_home gate (not b))), get_other b (idle (counted (at_home gate b))) (idle (found_none (at_home gate (not b)))), refl, refl, refl), (w24 gate b, ((gate_with (closed_at 0) (seeds_left ∷ closer ∷ told ∷ seven_left ∷ nine_left ∷ [])), record { view = waiter; holds_none = refl; other = λ e. shut_is_not_open e; steps = record { seat = 2; view = refl; word = refl; small = omega arith; next = refl } }, refl), (w25 gate b, (idle (found_none (at_home gate (not b))), found_none_twice (at_home gate (not b)), record { pass = 2; home = at_home gate (not b); taken = []; empty_pops = 1; view = refl; next = refl }, get_other b (idle (counted (at_home gate b))) (idle (found_none (at_home gate (not b)))), ap (λ (ls : List Lane). (let u : Whole = record (w24 gate b) { lanes = ls } in u)) (set_other b (idle (counted (at_home gate b))) (idle (found_none (at_home gate (not b)))) (idle (found_none_twice (at_home gate (not b)))))), (w26 gate b, (idle (counted (at_home gate b)), one_again (at_home gate b), record { pass = 0; home = at_home gate b; sent = e ∷ []; other = 2; home' = at_home gate b; taken = e ∷ []; empty_pops = 1; apart = λ e. absurd (omega (arith, e)); view = refl; view' = refl; next = refl }, get_one b (idle (counted (at_home gate b))) (idle (found_none_twice (at_home gate (not b)))), ap (λ (ls : List Lane). (let u : Whole = record (w25 gate b) { lanes = ls } in u)) (set_one b (idle (counted (at_home gate b))) (idle (found_none_twice (at_home gate (not b)))) (idle (one_again (at_home gate b))))), (w27 gate b, (idle (found_none_twice (at_home gate (not b))), other_again (at_home gate (not b)), record { pass = 0; home = at_home gate (not b); sent = []; other = 2; home' = at_home gate (not b); taken = []; empty_pops = 2; apart = λ e. absurd (omega (arith, e)); view = refl; view' = refl; next = refl }, get_other b (idle (one_again (at_home gate b))) (idle (found_none_twice (at_home gate (not b)))), ap (λ (ls : List Lane). (let u : Whole = record (w26 gate b) { lanes = ls } in u)) (set_other b (idle (one_again (at_home gate b))) (idle (found_none_twice (at_home gate (not b)))) (idle (other_again (at_home gate (not b)))))), refl))))))))))))))
+turns gate b = (w14 gate b, (idle (full (at_home gate b) gate), popped (at_home gate b), record { pass = 2; home = at_home gate b; taken = []; empty_pops = 0; message = message gate; rest = []; view = refl; items = refl; entry_is = refl; next = refl }, get_one b (idle (full (at_home gate b) gate)) (fresh_at gate (not b)), refl, ap (λ (ls : List Lane). (let u : Whole = record (w13 gate b) { lanes = ls } in u)) (set_one b (idle (full (at_home gate b) gate)) (fresh_at gate (not b)) (busy (popped (at_home gate b))))), (w15 gate b, ((gate_with (open_at 1) (seeds_left ∷ fresh ∷ fresh ∷ seven_held ∷ nine_left ∷ [])), record { view = seven; steps = record { seat = 3; view = refl; word = refl; small = omega arith; next = refl } }, refl), (w16 gate b, (fresh_at gate (not b), get_other b (busy (popped (at_home gate b))) (fresh_at gate (not b)), refl, refl, refl), (w17 gate b, ((gate_with (open_at 1) (seeds_left ∷ fresh ∷ waiter ∷ seven_held ∷ nine_left ∷ [])), record { view = fresh; holds_none = refl; other = λ e. differ 1 0 (omega arith) e; steps = record { seat = 2; view = refl; word = refl; small = omega arith; next = refl } }, refl), (w18 gate b, (fresh_at gate (not b), found_none (at_home gate (not b)), record { pass = 2; home = at_home gate (not b); taken = []; empty_pops = 0; view = refl; next = refl }, get_other b (busy (popped (at_home gate b))) (fresh_at gate (not b)), ap (λ (ls : List Lane). (let u : Whole = record (w17 gate b) { lanes = ls } in u)) (set_other b (busy (popped (at_home gate b))) (fresh_at gate (not b)) (idle (found_none (at_home gate (not b)))))), (w19 gate b, ((gate_with (open_at 0) (seeds_left ∷ fresh ∷ waiter ∷ seven_left ∷ nine_left ∷ [])), busy (popped (at_home gate b)), record { view = seven_held; holds = refl; steps = record { seat = 3; view = refl; word = refl; small = omega arith; next = refl } }, refl, get_one b (busy (popped (at_home gate b))) (idle (found_none (at_home gate (not b)))), refl, ap (λ (ls : List Lane). (let u : Whole = record (after_fetching (w18 gate b) (gate_with (open_at 0) (seeds_left ∷ fresh ∷ waiter ∷ seven_left ∷ nine_left ∷ [])) 3 (queue b) (busy (popped (at_home gate b)))) { lanes = ls } in u)) (set_one b (busy (popped (at_home gate b))) (idle (found_none (at_home gate (not b)))) (idle (popped (at_home gate b))))), (w20 gate b, (idle (popped (at_home gate b)), get_one b (idle (popped (at_home gate b))) (idle (found_none (at_home gate (not b)))), refl, refl, refl), (w21 gate b, ((gate_with (closed_at 0) (seeds_left ∷ closer ∷ waiter ∷ seven_left ∷ nine_left ∷ [])), record { view = fresh; holds_none = refl; steps = record { seat = 1; view = refl; word = refl; small = omega arith; next = refl } }, refl), (w22 gate b, (idle (popped (at_home gate b)), counted (at_home gate b), record { pass = 2; home = at_home gate b; taken = e ∷ []; empty_pops = 0; view = refl; next = refl }, get_one b (idle (popped (at_home gate b))) (idle (found_none (at_home gate (not b)))), ap (λ (ls : List Lane). (let u : Whole = record (w21 gate b) { lanes = ls } in u)) (set_one b (idle (popped (at_home gate b))) (idle (found_none (at_home gate (not b)))) (idle (counted (at_home gate b))))), (w23 gate b, (idle (found_none (at_home gate (not b))), get_other b (idle (counted (at_home gate b))) (idle (found_none (at_home gate (not b)))), refl, refl, refl), (w24 gate b, ((gate_with (closed_at 0) (seeds_left ∷ closer ∷ reported ∷ seven_left ∷ nine_left ∷ [])), record { view = waiter; holds_none = refl; other = λ e. shut_is_not_open e; steps = record { seat = 2; view = refl; word = refl; small = omega arith; next = refl } }, refl), (w25 gate b, (idle (found_none (at_home gate (not b))), found_none_twice (at_home gate (not b)), record { pass = 2; home = at_home gate (not b); taken = []; empty_pops = 1; view = refl; next = refl }, get_other b (idle (counted (at_home gate b))) (idle (found_none (at_home gate (not b)))), ap (λ (ls : List Lane). (let u : Whole = record (w24 gate b) { lanes = ls } in u)) (set_other b (idle (counted (at_home gate b))) (idle (found_none (at_home gate (not b)))) (idle (found_none_twice (at_home gate (not b)))))), (w26 gate b, (idle (counted (at_home gate b)), one_again (at_home gate b), record { pass = 0; home = at_home gate b; sent = e ∷ []; other = 2; home' = at_home gate b; taken = e ∷ []; empty_pops = 1; apart = λ e. absurd (omega (arith, e)); view = refl; view' = refl; next = refl }, get_one b (idle (counted (at_home gate b))) (idle (found_none_twice (at_home gate (not b)))), ap (λ (ls : List Lane). (let u : Whole = record (w25 gate b) { lanes = ls } in u)) (set_one b (idle (counted (at_home gate b))) (idle (found_none_twice (at_home gate (not b)))) (idle (one_again (at_home gate b))))), (w27 gate b, (idle (found_none_twice (at_home gate (not b))), other_again (at_home gate (not b)), record { pass = 0; home = at_home gate (not b); sent = []; other = 2; home' = at_home gate (not b); taken = []; empty_pops = 2; apart = λ e. absurd (omega (arith, e)); view = refl; view' = refl; next = refl }, get_other b (idle (one_again (at_home gate b))) (idle (found_none_twice (at_home gate (not b)))), ap (λ (ls : List Lane). (let u : Whole = record (w26 gate b) { lanes = ls } in u)) (set_other b (idle (one_again (at_home gate b))) (idle (found_none_twice (at_home gate (not b)))) (idle (other_again (at_home gate (not b)))))), refl))))))))))))))
 
 begins : (gate : GateId) (b : Bool) → gate.max_pending ≡ 4 → IsFirst gate 2 (w0 gate b)
 begins gate b four = grind arith

@@ -1,9 +1,9 @@
 -- Each atomic step is the machine's events, so the machine has a run for each history.
-use Rattle.crawl_tie.proofs.Prelude.{◌≡◌, ◌≢◌, ◌⊎◌, inl, inr, ⊎_elim, ℕ, suc, ◌+◌, ◌<◌, ◌≤◌, ◌^◌, Bool, true, false, not, ◌&&◌, ◌||◌, List, [], ◌∷◌, ◌++◌, length, map, replicate, nat_eq, slice_get, slice_set, Option, Some, refl, sym, ap, ◌∙◌, subst, arith, ne_eqb, eq-eqb, list_any, nat_cmp, is_at, insert_entry, insert_key, remove_key, length_push, get_or-replicate, length-replicate, slice_get_within, slice_get-get_or, nat_cmp_total, tied_itself, Event, Look, Enter, Admit, Back, EndSeeds, Take, Done, Close, Reply, one_if, Subqueue, empty_subqueue, unfinished, after_accepting, after_taking, after_finishing, State, start, count_of, word_of, unfinished_in, Run, sum_at, lookup-insert_entry, Sound, GateEffect, gate_effect, length-insert_key, holder_counts, run_sound, start_count, eqb_same, Word, bits, open_at, closed_at, GateInvariant, IsMaximum, GateId, Entry, Lane, Whole, IsFirst, Seeds, Offer, Act, Splits, Looks, LooksAway, Enters, Loses, LeavesOffer, LeavesSeen, LeavesFetch, LeavesSeeds, Closes, NotClosesClosed, NotClosesPending, Pushes, Pops, PopsNone, FindsNothing, TakesIn, Looking, Entering, Losing, Leaving, Pushing, Popping, StandsIn, IsUnitOf, IsOwner, core_word, is_offering, loaded_by, with_gate, with_lane, after_splitting, after_looking, after_entering, after_leaving, after_fetching, after_seeding, after_pushing, Atomic, History, events_of, events, message_of, HasLists, ShowsLane, ShowsWhole, UnitsAreOwned, or_left, or_right}
+use Rattle.crawl_tie.proofs.Prelude.{◌≡◌, ◌≢◌, ◌⊎◌, inl, inr, ⊎_elim, ℕ, suc, ◌+◌, ◌<◌, ◌≤◌, ◌^◌, Bool, true, false, not, ◌&&◌, ◌||◌, List, [], ◌∷◌, ◌++◌, length, map, replicate, nat_eq, slice_get, slice_set, Option, Some, refl, sym, ap, ◌∙◌, subst, arith, ne_eqb, eq-eqb, list_any, nat_cmp, is_at, insert_entry, insert_key, remove_key, length_push, get_or-replicate, length-replicate, slice_get_within, slice_get-get_or, nat_cmp_total, tied_itself, Event, Look, Enter, Admit, Back, EndSeeds, Take, Done, Close, Reply, one_if, Subqueue, empty_subqueue, unfinished, after_accepting, after_taking, after_finishing, State, start, count_of, word_of, unfinished_in, Run, sum_at, lookup-insert_entry, Sound, GateEffect, gate_effect, length-insert_key, holder_counts, run_sound, start_count, eqb_same, Word, bits, open_at, closed_at, GateInvariant, IsMaximum, GateId, Entry, Lane, Whole, IsFirst, Seeds, Offer, Act, Splits, Looks, LooksAway, Enters, Loses, LeavesOffer, LeavesSeen, LeavesFetch, LeavesSeeds, Closes, NotClosesClosed, NotClosesPending, Pushes, Pops, PopsNone, FindsNothing, TakesIn, Looking, Entering, Losing, Leaving, Pushing, Popping, IsSent, IsUnitOf, IsOwner, core_word, is_offering, loaded_by, with_gate, with_lane, after_splitting, after_looking, after_entering, after_leaving, after_fetching, after_seeding, after_pushing, Atomic, History, events_of, events, message_of, HasLists, ShowsLane, ShowsWhole, UnitsAreOwned, or_left, or_right}
 use Rattle.std.specs.Bool.{if◌then◌else◌}
 use Rattle.std.specs.Map.{lookup, remove_entry}
 use Rattle.crawl_core.specs.declared.word.Word as core
-use Rattle.crawl_core.specs.declared.reply.Reply.TheVariants as told
+use Rattle.crawl_core.specs.declared.reply.Reply.TheVariants as says
 use Rattle.crawl_core.specs.declared.reply.Refusal.TheVariants as why
 use Rattle.crawl_core.specs.Messages.{has_url, count_from}
 use Rattle.crawl_core.specs.GateSide.{holds, remembers, let_go, grant, same_word}
@@ -73,17 +73,17 @@ goes_keeps gate workers w s ties m x y go = keeps_invariant gate.max_pending w.g
 -- ## Turns
 
 abbrev look_turn : State → ℕ → Word → Turn
-look_turn s id x = record { reply = told.Word x.0 x.1; state = record s { gate = record s.gate { remembered = insert_entry nat_cmp s.gate.remembered id (core_word x) } } }
+look_turn s id x = record { reply = says.Word x.0 x.1; state = record s { gate = record s.gate { remembered = insert_entry nat_cmp s.gate.remembered id (core_word x) } } }
 
 abbrev granted : State → ℕ → State
 granted s id = record s { gate = (grant s.gate (unfinished_in s) id).gate }
 
-enter_turn : (s : State) (id n : ℕ) → holds s.gate id ≡ false → remembers s.gate id ≡ Some (core_word (open_at n)) → count_of s ≡ n → s.gate.closed ≡ false → nat_eq (count_of s) s.gate.max ≡ false → turn s (Enter id) ≡ record { reply = told.Entered (suc n); state = granted s id }
+enter_turn : (s : State) (id n : ℕ) → holds s.gate id ≡ false → remembers s.gate id ≡ Some (core_word (open_at n)) → count_of s ≡ n → s.gate.closed ≡ false → nat_eq (count_of s) s.gate.max ≡ false → turn s (Enter id) ≡ record { reply = says.Entered (suc n); state = granted s id }
 enter_turn s id n free found count opened below = grind arith
 
 -- ## Each kind of step
 
-loads : (gate : GateId) (workers : ℕ) (w : Whole) (s : State) → Ties gate workers w s → (id : ℕ) (x : Word) (m : gates.Moment) → Looking w.gate m x → Next gate workers (after_looking w m id x) s ((Look id, told.Word x.0 x.1) ∷ [])
+loads : (gate : GateId) (workers : ℕ) (w : Whole) (s : State) → Ties gate workers w s → (id : ℕ) (x : Word) (m : gates.Moment) → Looking w.gate m x → Next gate workers (after_looking w m id x) s ((Look id, says.Word x.0 x.1) ∷ [])
 loads gate workers w s ties id x m look =
     let shows = ties.shows in
     let go = looked w.gate m x look in
@@ -109,7 +109,7 @@ is_free gate workers w s shows id b e = ap (λ ids. list_any (is_at (nat_cmp id)
 is_loaded : (gate : GateId) (workers : ℕ) (w : Whole) (s : State) → ShowsWhole gate workers s w → (id : ℕ) (o : Option core.Word) → loaded_by w id ≡ o → remembers s.gate id ≡ o
 is_loaded gate workers w s shows id o e = ap (λ r. lookup (is_at (nat_cmp id)) r) shows.remembered ∙ e
 
-enters : (gate : GateId) (workers : ℕ) (w : Whole) (s : State) → Ties gate workers w s → (id n : ℕ) (m : gates.Moment) → (step : Entering w.gate m n) → is_offering w id ≡ false → loaded_by w id ≡ Some (core_word (open_at n)) → Next gate workers (after_entering w m step.steps.seat id) s ((Enter id, told.Entered (suc n)) ∷ [])
+enters : (gate : GateId) (workers : ℕ) (w : Whole) (s : State) → Ties gate workers w s → (id n : ℕ) (m : gates.Moment) → (step : Entering w.gate m n) → is_offering w id ≡ false → loaded_by w id ≡ Some (core_word (open_at n)) → Next gate workers (after_entering w m step.steps.seat id) s ((Enter id, says.Entered (suc n)) ∷ [])
 enters gate workers w s ties id n m step free loaded =
     let shows = ties.shows in
     let w' = after_entering w m step.steps.seat id in
@@ -128,7 +128,7 @@ enters gate workers w s ties id n m step free loaded =
       keeps = goes_keeps gate workers w s ties m (open_at n) (open_at (n + 1)) go;
       max = refl;
     } in
-    one gate workers w w' s ties (Enter id) (record { reply = told.Entered (suc n); state = granted s id })
+    one gate workers w w' s ties (Enter id) (record { reply = says.Entered (suc n); state = granted s id })
     (enter_turn s id n free' (is_loaded gate workers w s shows id (Some (core_word (open_at n))) loaded) count opened below) parts (assumption (go.to ∙ (ap (λ k. bits (k, false) ∷ []) more ∙ ap (λ b. bits (count_of (granted s id), b) ∷ []) (sym opened)), ap (λ ids. insert_key nat_cmp ids id) shows.holders, ap (λ r. remove_entry (is_at (nat_cmp id)) r) shows.remembered))
 
 -- the same state represents another moment of the gate, whose word is the same
@@ -138,7 +138,7 @@ shows_still gate workers w s shows m word = grind arith
 other_word : (s : State) (n c : ℕ) (b : Bool) → (same : Bool) → nat_eq n c ≡ same → ((c, b) ≡ open_at n → ⊥) → (nat_eq n c && not b) ≡ false
 other_word s n c b same e apart = grind arith
 
-loses : (gate : GateId) (workers : ℕ) (w : Whole) (s : State) → Ties gate workers w s → (id n : ℕ) (x : Word) (m : gates.Moment) → Losing w.gate m n x → is_offering w id ≡ false → loaded_by w id ≡ Some (core_word (open_at n)) → Next gate workers (with_gate w m) s ((Enter id, told.Lost) ∷ [])
+loses : (gate : GateId) (workers : ℕ) (w : Whole) (s : State) → Ties gate workers w s → (id n : ℕ) (x : Word) (m : gates.Moment) → Losing w.gate m n x → is_offering w id ≡ false → loaded_by w id ≡ Some (core_word (open_at n)) → Next gate workers (with_gate w m) s ((Enter id, says.Lost) ∷ [])
 loses gate workers w s ties id n x m step free loaded =
     let shows = ties.shows in
     let go = lost w.gate m n x step in
@@ -146,15 +146,15 @@ loses gate workers w s ties id n x m step free loaded =
     let free' = is_free gate workers w s shows id false free in
     let found = is_loaded gate workers w s shows id (Some (core_word (open_at n))) loaded in
     let other : same_word (core_word (open_at n)) (word_of s) ≡ false = other_word s n (count_of s) s.gate.closed (nat_eq n (count_of s)) refl (λ e. step.other (is ∙ e)) in
-    let turned : turn s (Enter id) ≡ record { reply = told.Lost; state = s } = rw (free', found, other) refl in
+    let turned : turn s (Enter id) ≡ record { reply = says.Lost; state = s } = rw (free', found, other) refl in
     let parts : Parts gate w (with_gate w m) = record {
       owned = still_owned w m step.view _ x x ties.owned step.steps refl;
       keeps = goes_keeps gate workers w s ties m x x go;
       max = refl;
     } in
-    one gate workers w (with_gate w m) s ties (Enter id) (record { reply = told.Lost; state = s }) turned parts (shows_still gate workers w s shows m (go.to ∙ ap (λ y. bits y ∷ []) is))
+    one gate workers w (with_gate w m) s ties (Enter id) (record { reply = says.Lost; state = s }) turned parts (shows_still gate workers w s shows m (go.to ∙ ap (λ y. bits y ∷ []) is))
 
-pushes : (gate : GateId) (workers : ℕ) (w : Whole) (s : State) → Ties gate workers w s → (q : ℕ) (e : Entry) (l : Lane) (m : subqueues.Moment) → (p : Pushing l.moment m e) → slice_get w.lanes q ≡ Some l → IsUnitOf w e.sender p.message → Next gate workers (after_pushing w q l m p.message.unit.number e.sender) s ((Admit e.sender e.url q, told.Accepted q e.number) ∷ [])
+pushes : (gate : GateId) (workers : ℕ) (w : Whole) (s : State) → Ties gate workers w s → (q : ℕ) (e : Entry) (l : Lane) (m : subqueues.Moment) → (p : Pushing l.moment m e) → slice_get w.lanes q ≡ Some l → IsUnitOf w e.sender p.message → Next gate workers (after_pushing w q l m p.message.unit.number e.sender) s ((Admit e.sender e.url q, says.Accepted q e.number) ∷ [])
 pushes gate workers w s ties q e l m p at unit =
     let shows = ties.shows in
     let seat = p.message.unit.number in
@@ -170,7 +170,7 @@ pushes gate workers w s ties q e l m p at unit =
     subst (λ (x : Entry). x.number ≡ entries.count_of x.sender p.sent) p.entry_is p.may.number ∙ (sym (same_counts p.sent e.sender) ∙ ap (λ ms. count_from ms e.sender) accepted) in
     let next : Subqueue = after_accepting queue (message_of e) in
     let put_turn = λ (k : ℕ). (let t : Turn = record {
-      reply = told.Accepted q k;
+      reply = says.Accepted q k;
       state = record s { gate = let_go s.gate e.sender; subqueues = slice_set s.subqueues q (after_accepting queue (record { url = e.url; sender = e.sender; number = k })) };
     } in t) in
     let after : State = (put_turn e.number).state in
@@ -187,7 +187,7 @@ pushes gate workers w s ties q e l m p at unit =
 same_parts : (gate : GateId) (workers : ℕ) (w : Whole) (s : State) → Ties gate workers w s → (q : ℕ) (l : Lane) → Parts gate w (with_lane w q l)
 same_parts gate workers w s ties q l = grind arith
 
-pops : (gate : GateId) (workers : ℕ) (w : Whole) (s : State) → Ties gate workers w s → (q : ℕ) (e : Entry) (l : Lane) (m : subqueues.Moment) → Popping l.moment m e → slice_get w.lanes q ≡ Some l → l.fetching ≡ false → Next gate workers (with_lane w q (record { moment = m; fetching = true })) s ((Take q, told.Taken e.url) ∷ [])
+pops : (gate : GateId) (workers : ℕ) (w : Whole) (s : State) → Ties gate workers w s → (q : ℕ) (e : Entry) (l : Lane) (m : subqueues.Moment) → Popping l.moment m e → slice_get w.lanes q ≡ Some l → l.fetching ≡ false → Next gate workers (with_lane w q (record { moment = m; fetching = true })) s ((Take q, says.Taken e.url) ∷ [])
 pops gate workers w s ties q e l m p at idle =
     let shows = ties.shows in
     let there = shows.lanes q l at in
@@ -196,21 +196,21 @@ pops gate workers w s ties q e l m p at idle =
     let oldest = oldest_is gate workers q queue l m e there.2 p in
     let next : Subqueue = after_taking queue in
     let l' : Lane = record { moment = m; fetching = true } in
-    let turned : turn s (Take q) ≡ record { reply = told.Taken e.url; state = with_subqueue s q next } = rw (there.1, idle', oldest) refl in
+    let turned : turn s (Take q) ≡ record { reply = says.Taken e.url; state = with_subqueue s q next } = rw (there.1, idle', oldest) refl in
     let below = slice_get_within queue.accepted queue.taken (message_of e) oldest in
     let was_idle : one_if queue.busy ≡ 0 = ap one_if idle' in
     let sum = sum_at unfinished s.subqueues q queue next there.1 in
     let same : count_of (with_subqueue s q next) ≡ count_of s = omega (arith, sum, was_idle, below) in
-    one gate workers w (with_lane w q l') s ties (Take q) (record { reply = told.Taken e.url; state = with_subqueue s q next }) turned (same_parts gate workers w s ties q l') (assumption (shows.word ∙ ap (λ k. bits (k, s.gate.closed) ∷ []) (sym same), lanes_set gate workers s.subqueues w.lanes shows.lanes q queue next l l' there.1 at (popped_lane gate workers q queue l m e there.2 p)))
+    one gate workers w (with_lane w q l') s ties (Take q) (record { reply = says.Taken e.url; state = with_subqueue s q next }) turned (same_parts gate workers w s ties q l') (assumption (shows.word ∙ ap (λ k. bits (k, s.gate.closed) ∷ []) (sym same), lanes_set gate workers s.subqueues w.lanes shows.lanes q queue next l l' there.1 at (popped_lane gate workers q queue l m e there.2 p)))
 
-pops_none : (gate : GateId) (workers : ℕ) (w : Whole) (s : State) → Ties gate workers w s → (q : ℕ) (l : Lane) → slice_get w.lanes q ≡ Some l → l.moment.items ≡ [] → l.fetching ≡ false → Next gate workers w s ((Take q, told.Empty) ∷ [])
+pops_none : (gate : GateId) (workers : ℕ) (w : Whole) (s : State) → Ties gate workers w s → (q : ℕ) (l : Lane) → slice_get w.lanes q ≡ Some l → l.moment.items ≡ [] → l.fetching ≡ false → Next gate workers w s ((Take q, says.Empty) ∷ [])
 pops_none gate workers w s ties q l at empty idle =
     let there = ties.shows.lanes q l at in
     let queue = there.0 in
     let idle' : queue.busy ≡ false = there.2.busy ∙ idle in
     let nothing = none_waits gate workers q queue l there.2 empty in
-    let turned : turn s (Take q) ≡ record { reply = told.Empty; state = s } = rw (there.1, idle', nothing) refl in
-    one gate workers w w s ties (Take q) (record { reply = told.Empty; state = s }) turned (record { owned = ties.owned; keeps = ties.keeps; max = refl }) ties.shows
+    let turned : turn s (Take q) ≡ record { reply = says.Empty; state = s } = rw (there.1, idle', nothing) refl in
+    one gate workers w w s ties (Take q) (record { reply = says.Empty; state = s }) turned (record { owned = ties.owned; keeps = ties.keeps; max = refl }) ties.shows
 
 -- a step of a subqueue that does not change its lists
 keeps_lists : (gate : GateId) (workers : ℕ) (w : Whole) (s : State) → Ties gate workers w s → (q : ℕ) (l : Lane) (m : subqueues.Moment) → slice_get w.lanes q ≡ Some l
@@ -224,7 +224,7 @@ keeps_lists gate workers w s ties q l m at same =
     let all = lanes_set gate workers s.subqueues w.lanes shows.lanes q queue queue l l' there.1 at (same_lane gate workers q queue l m lane (same lane.sent lane.taken lane.lists)) in
     none gate workers w (with_lane w q l') s ties (same_parts gate workers w s ties q l') (assumption (subst (λ queues. (k : ℕ) (x : Lane) → slice_get (slice_set w.lanes q l') k ≡ Some x → (y : Subqueue) × (slice_get queues k ≡ Some y) × ShowsLane gate workers k y x) (set_same s.subqueues q queue there.1) all))
 
-leaves_offer : (gate : GateId) (workers : ℕ) (w : Whole) (s : State) → Ties gate workers w s → (id n : ℕ) (m : gates.Moment) → (step : Leaving w.gate m n) → IsOwner w step.steps.seat (Offer id) → Next gate workers (after_leaving w m step.steps.seat id) s ((Back id, told.Count n) ∷ [])
+leaves_offer : (gate : GateId) (workers : ℕ) (w : Whole) (s : State) → Ties gate workers w s → (id n : ℕ) (m : gates.Moment) → (step : Leaving w.gate m n) → IsOwner w step.steps.seat (Offer id) → Next gate workers (after_leaving w m step.steps.seat id) s ((Back id, says.Count n) ∷ [])
 leaves_offer gate workers w s ties id n m step owner =
     let shows = ties.shows in
     let go = left w.gate m n step in
@@ -236,27 +236,27 @@ leaves_offer gate workers w s ties id n m step owner =
     let after : State = record s { gate = let_go s.gate id } in
     let fewer = holder_counts s.gate (unfinished_in s) id held in
     let less : n ≡ count_of after = omega (arith, fewer, count) in
-    let turned : turn s (Back id) ≡ record { reply = told.Count (count_of after); state = after } = rw held refl in
+    let turned : turn s (Back id) ≡ record { reply = says.Count (count_of after); state = after } = rw held refl in
     let parts : Parts gate w w' = record { owned = left_owned w m n id ties.owned step owner; keeps = goes_keeps gate workers w s ties m (open_at (n + 1)) (open_at n) go; max = refl } in
-    one gate workers w w' s ties (Back id) (record { reply = told.Count n; state = after })
-    (turned ∙ ap (λ k. (let t : Turn = record { reply = told.Count k; state = after } in t)) (sym less)) parts (assumption (go.to ∙ (ap (λ k. bits (k, false) ∷ []) less ∙ ap (λ b. bits (count_of after, b) ∷ []) opened), ap (λ ids. remove_key (is_at (nat_cmp id)) ids) shows.holders))
+    one gate workers w w' s ties (Back id) (record { reply = says.Count n; state = after })
+    (turned ∙ ap (λ k. (let t : Turn = record { reply = says.Count k; state = after } in t)) (sym less)) parts (assumption (go.to ∙ (ap (λ k. bits (k, false) ∷ []) less ∙ ap (λ b. bits (count_of after, b) ∷ []) opened), ap (λ ids. remove_key (is_at (nat_cmp id)) ids) shows.holders))
 
-seen_turn : (s : State) (id q : ℕ) (url : List ℕ) (queue : Subqueue) → slice_get s.subqueues q ≡ Some queue → holds s.gate id ≡ true → has_url queue.accepted url ≡ true → turn s (Admit id url q) ≡ record { reply = told.Seen; state = s }
+seen_turn : (s : State) (id q : ℕ) (url : List ℕ) (queue : Subqueue) → slice_get s.subqueues q ≡ Some queue → holds s.gate id ≡ true → has_url queue.accepted url ≡ true → turn s (Admit id url q) ≡ record { reply = says.Seen; state = s }
 seen_turn s id q url queue at held seen = rw (at, held, seen) refl
 
-leaves_seen : (gate : GateId) (workers : ℕ) (w : Whole) (s : State) → Ties gate workers w s → (id q : ℕ) (url : List ℕ) (n : ℕ) (m : gates.Moment) (l : Lane) → (step : Leaving w.gate m n) → IsOwner w step.steps.seat (Offer id) → slice_get w.lanes q ≡ Some l → StandsIn l.moment url → Next gate workers (after_leaving w m step.steps.seat id) s ((Admit id url q, told.Seen) ∷ (Back id, told.Count n) ∷ [])
-leaves_seen gate workers w s ties id q url n m l step owner at stands =
+leaves_seen : (gate : GateId) (workers : ℕ) (w : Whole) (s : State) → Ties gate workers w s → (id q : ℕ) (url : List ℕ) (n : ℕ) (m : gates.Moment) (l : Lane) → (step : Leaving w.gate m n) → IsOwner w step.steps.seat (Offer id) → slice_get w.lanes q ≡ Some l → IsSent l.moment url → Next gate workers (after_leaving w m step.steps.seat id) s ((Admit id url q, says.Seen) ∷ (Back id, says.Count n) ∷ [])
+leaves_seen gate workers w s ties id q url n m l step owner at listed =
     let shows = ties.shows in
     let there = shows.lanes q l at in
     let queue = there.0 in
     let held = is_free gate workers w s shows id true (ties.owned.offers step.steps.seat id owner) in
-    let sent = sent_is gate workers q queue l there.2 stands.pass stands.home stands.sent stands.view in
-    let accepted : map message_of stands.sent ≡ queue.accepted = ap (map message_of) sent ∙ there.2.accepts in
-    let seen : has_url queue.accepted url ≡ true = ap (λ ms. has_url ms url) (sym accepted) ∙ (same_urls stands.sent url ∙ stands.stands) in
-    let first = one gate workers w w s ties (Admit id url q) (record { reply = told.Seen; state = s }) (seen_turn s id q url queue there.1 held seen) (record { owned = ties.owned; keeps = ties.keeps; max = refl }) shows in
-    then_next gate workers w (after_leaving w m step.steps.seat id) s ((Admit id url q, told.Seen) ∷ []) ((Back id, told.Count n) ∷ []) first (leaves_offer gate workers w first.state first.ties id n m step owner)
+    let sent = sent_is gate workers q queue l there.2 listed.pass listed.home listed.sent listed.view in
+    let accepted : map message_of listed.sent ≡ queue.accepted = ap (map message_of) sent ∙ there.2.accepts in
+    let seen : has_url queue.accepted url ≡ true = ap (λ ms. has_url ms url) (sym accepted) ∙ (same_urls listed.sent url ∙ listed.listed) in
+    let first = one gate workers w w s ties (Admit id url q) (record { reply = says.Seen; state = s }) (seen_turn s id q url queue there.1 held seen) (record { owned = ties.owned; keeps = ties.keeps; max = refl }) shows in
+    then_next gate workers w (after_leaving w m step.steps.seat id) s ((Admit id url q, says.Seen) ∷ []) ((Back id, says.Count n) ∷ []) first (leaves_offer gate workers w first.state first.ties id n m step owner)
 
-leaves_fetch : (gate : GateId) (workers : ℕ) (w : Whole) (s : State) → Ties gate workers w s → (q n : ℕ) (m : gates.Moment) (l : Lane) → (step : Leaving w.gate m n) → slice_get w.lanes q ≡ Some l → l.fetching ≡ true → Next gate workers (after_fetching w m step.steps.seat q l) s ((Done q, told.Count n) ∷ [])
+leaves_fetch : (gate : GateId) (workers : ℕ) (w : Whole) (s : State) → Ties gate workers w s → (q n : ℕ) (m : gates.Moment) (l : Lane) → (step : Leaving w.gate m n) → slice_get w.lanes q ≡ Some l → l.fetching ≡ true → Next gate workers (after_fetching w m step.steps.seat q l) s ((Done q, says.Count n) ∷ [])
 leaves_fetch gate workers w s ties q n m l step at busy =
     let shows = ties.shows in
     let go = left w.gate m n step in
@@ -276,14 +276,14 @@ leaves_fetch gate workers w s ties q n m l step at busy =
     let begun : 1 ≤ queue.taken = omega (arith, inv.begun, was_busy) in
     let fewer : count_of after + 1 ≡ count_of s = omega (arith, sum, was_busy, begun, inv.within) in
     let less : n ≡ count_of after = omega (arith, fewer, count) in
-    let turned : turn s (Done q) ≡ record { reply = told.Count (count_of after); state = after } = rw (there.1, busy') refl in
+    let turned : turn s (Done q) ≡ record { reply = says.Count (count_of after); state = after } = rw (there.1, busy') refl in
     let l' : Lane = record { moment = l.moment; fetching = false } in
     let shown_lane : ShowsLane gate workers q next l' = record { sent = lane.sent; taken = lane.taken; lists = lane.lists; accepts = lane.accepts; takes = lane.takes; busy = refl } in
     let parts : Parts gate w w' = record { owned = fetched_owned w m n q l ties.owned step; keeps = goes_keeps gate workers w s ties m (open_at (n + 1)) (open_at n) go; max = refl } in
-    one gate workers w w' s ties (Done q) (record { reply = told.Count n; state = after })
-    (turned ∙ ap (λ k. (let t : Turn = record { reply = told.Count k; state = after } in t)) (sym less)) parts (assumption (go.to ∙ (ap (λ k. bits (k, false) ∷ []) less ∙ ap (λ b. bits (count_of after, b) ∷ []) opened), lanes_set gate workers s.subqueues w.lanes shows.lanes q queue next l l' there.1 at shown_lane))
+    one gate workers w w' s ties (Done q) (record { reply = says.Count n; state = after })
+    (turned ∙ ap (λ k. (let t : Turn = record { reply = says.Count k; state = after } in t)) (sym less)) parts (assumption (go.to ∙ (ap (λ k. bits (k, false) ∷ []) less ∙ ap (λ b. bits (count_of after, b) ∷ []) opened), lanes_set gate workers s.subqueues w.lanes shows.lanes q queue next l l' there.1 at shown_lane))
 
-leaves_seeds : (gate : GateId) (workers : ℕ) (w : Whole) (s : State) → Ties gate workers w s → (n : ℕ) (m : gates.Moment) → (step : Leaving w.gate m n) → IsOwner w step.steps.seat Seeds → Next gate workers (after_seeding w m step.steps.seat) s ((EndSeeds, told.Count n) ∷ [])
+leaves_seeds : (gate : GateId) (workers : ℕ) (w : Whole) (s : State) → Ties gate workers w s → (n : ℕ) (m : gates.Moment) → (step : Leaving w.gate m n) → IsOwner w step.steps.seat Seeds → Next gate workers (after_seeding w m step.steps.seat) s ((EndSeeds, says.Count n) ∷ [])
 leaves_seeds gate workers w s ties n m step owner =
     let shows = ties.shows in
     let go = left w.gate m n step in
@@ -295,43 +295,43 @@ leaves_seeds gate workers w s ties n m step owner =
     let one_out : one_if s.gate.opening ≡ 1 = ap one_if out in
     let after : State = record s { gate = record s.gate { opening = false } } in
     let less : n ≡ count_of after = omega (arith, one_out, count) in
-    let turned : turn s EndSeeds ≡ record { reply = told.Count (count_of after); state = after } = rw out refl in
+    let turned : turn s EndSeeds ≡ record { reply = says.Count (count_of after); state = after } = rw out refl in
     let parts : Parts gate w w' = record { owned = seeds_owned w m n ties.owned step owner; keeps = goes_keeps gate workers w s ties m (open_at (n + 1)) (open_at n) go; max = refl } in
-    one gate workers w w' s ties EndSeeds (record { reply = told.Count n; state = after })
-    (turned ∙ ap (λ k. (let t : Turn = record { reply = told.Count k; state = after } in t)) (sym less)) parts (assumption (go.to ∙ (ap (λ k. bits (k, false) ∷ []) less ∙ ap (λ b. bits (count_of after, b) ∷ []) opened)))
+    one gate workers w w' s ties EndSeeds (record { reply = says.Count n; state = after })
+    (turned ∙ ap (λ k. (let t : Turn = record { reply = says.Count k; state = after } in t)) (sym less)) parts (assumption (go.to ∙ (ap (λ k. bits (k, false) ∷ []) less ∙ ap (λ b. bits (count_of after, b) ∷ []) opened)))
 
 abbrev shut : State → State
 shut s = record s { gate = record s.gate { closed = true } }
 
-closing_turn : (s : State) → (s.gate.closed || nat_eq (count_of s) 0) ≡ true → turn s Close ≡ record { reply = told.Closed; state = shut s }
+closing_turn : (s : State) → (s.gate.closed || nat_eq (count_of s) 0) ≡ true → turn s Close ≡ record { reply = says.Closed; state = shut s }
 closing_turn s may = rw may refl
 
 -- an exchange that closes the gate, or finds it closed
-closes : (gate : GateId) (workers : ℕ) (w : Whole) (s : State) → Ties gate workers w s → (m : gates.Moment) (x : Word) → Goes w.gate m x (closed_at 0) → UnitsAreOwned (with_gate w m) → x.0 ≡ 0 → (x ≡ (count_of s, s.gate.closed) → (s.gate.closed || nat_eq (count_of s) 0) ≡ true) → Next gate workers (with_gate w m) s ((Close, told.Closed) ∷ [])
+closes : (gate : GateId) (workers : ℕ) (w : Whole) (s : State) → Ties gate workers w s → (m : gates.Moment) (x : Word) → Goes w.gate m x (closed_at 0) → UnitsAreOwned (with_gate w m) → x.0 ≡ 0 → (x ≡ (count_of s, s.gate.closed) → (s.gate.closed || nat_eq (count_of s) 0) ≡ true) → Next gate workers (with_gate w m) s ((Close, says.Closed) ∷ [])
 closes gate workers w s ties m x go owned zero_is may =
     let shows = ties.shows in
     let is = met gate workers w s ties x go.from go.small in
     let count : 0 ≡ count_of s = sym zero_is ∙ ap (λ y. y.0) is in
     let parts : Parts gate w (with_gate w m) = record { owned = owned; keeps = goes_keeps gate workers w s ties m x (closed_at 0) go; max = refl } in
-    one gate workers w (with_gate w m) s ties Close (record { reply = told.Closed; state = shut s }) (closing_turn s (may is)) parts (assumption (go.to ∙ ap (λ k. bits (k, true) ∷ []) count))
+    one gate workers w (with_gate w m) s ties Close (record { reply = says.Closed; state = shut s }) (closing_turn s (may is)) parts (assumption (go.to ∙ ap (λ k. bits (k, true) ∷ []) count))
 
-pends : (gate : GateId) (workers : ℕ) (w : Whole) (s : State) → Ties gate workers w s → (n : ℕ) (m : gates.Moment) → open_at n ≢ open_at 0 → Goes w.gate m (open_at n) (open_at n) → UnitsAreOwned (with_gate w m) → Next gate workers (with_gate w m) s ((Close, told.Pending n) ∷ [])
+pends : (gate : GateId) (workers : ℕ) (w : Whole) (s : State) → Ties gate workers w s → (n : ℕ) (m : gates.Moment) → open_at n ≢ open_at 0 → Goes w.gate m (open_at n) (open_at n) → UnitsAreOwned (with_gate w m) → Next gate workers (with_gate w m) s ((Close, says.Pending n) ∷ [])
 pends gate workers w s ties n m some go owned =
     let shows = ties.shows in
     let is = met gate workers w s ties (open_at n) go.from go.small in
     let count : count_of s ≡ n = sym (ap (λ y. y.0) is) in
     let opened : s.gate.closed ≡ false = sym (ap (λ y. y.1) is) in
     let may : (s.gate.closed || nat_eq (count_of s) 0) ≡ false = rw opened (ne_eqb (count_of s) 0 (λ zero_is. some (ap (λ k. open_at k) (sym count ∙ zero_is)))) in
-    let turned : turn s Close ≡ record { reply = told.Pending (count_of s); state = s } = rw may refl in
+    let turned : turn s Close ≡ record { reply = says.Pending (count_of s); state = s } = rw may refl in
     let parts : Parts gate w (with_gate w m) = record { owned = owned; keeps = goes_keeps gate workers w s ties m (open_at n) (open_at n) go; max = refl } in
-    one gate workers w (with_gate w m) s ties Close (record { reply = told.Pending n; state = s })
-    (turned ∙ ap (λ k. (let t : Turn = record { reply = told.Pending k; state = s } in t)) count) parts
+    one gate workers w (with_gate w m) s ties Close (record { reply = says.Pending n; state = s })
+    (turned ∙ ap (λ k. (let t : Turn = record { reply = says.Pending k; state = s } in t)) count) parts
     (shows_still gate workers w s shows m (go.to ∙ ap (λ y. bits y ∷ []) is))
 
-refused_turn : (s : State) (id : ℕ) → holds s.gate id ≡ false → remembers s.gate id ≡ Some (word_of s) → (s.gate.closed ≡ true) ⊎ (nat_eq (count_of s) s.gate.max ≡ true) → turn s (Enter id) ≡ record { reply = told.Refused (if s.gate.closed then why.Closed else why.Full); state = s }
+refused_turn : (s : State) (id : ℕ) → holds s.gate id ≡ false → remembers s.gate id ≡ Some (word_of s) → (s.gate.closed ≡ true) ⊎ (nat_eq (count_of s) s.gate.max ≡ true) → turn s (Enter id) ≡ record { reply = says.Refused (if s.gate.closed then why.Closed else why.Full); state = s }
 refused_turn s id free found away = grind arith
 
-looks_away : (gate : GateId) (workers : ℕ) (w : Whole) (s : State) → Ties gate workers w s → (id : ℕ) (x : Word) (m : gates.Moment) → Looking w.gate m x → is_offering w id ≡ false → (x.1 ≡ true) ⊎ (x.0 ≡ w.max) → Next gate workers (after_looking w m id x) s ((Look id, told.Word x.0 x.1) ∷ (Enter id, told.Refused (if x.1 then why.Closed else why.Full)) ∷ [])
+looks_away : (gate : GateId) (workers : ℕ) (w : Whole) (s : State) → Ties gate workers w s → (id : ℕ) (x : Word) (m : gates.Moment) → Looking w.gate m x → is_offering w id ≡ false → (x.1 ≡ true) ⊎ (x.0 ≡ w.max) → Next gate workers (after_looking w m id x) s ((Look id, says.Word x.0 x.1) ∷ (Enter id, says.Refused (if x.1 then why.Closed else why.Full)) ∷ [])
 unfolding loads one
 looks_away gate workers w s ties id x m look free away =
     let w' = after_looking w m id x in
@@ -345,9 +345,9 @@ looks_away gate workers w s ties id x m look free away =
     let away' : (s.gate.closed ≡ true) ⊎ (nat_eq (count_of s) s.gate.max ≡ true) =
     ⊎_elim (λ e. inl (ap (λ y. y.1) (sym is) ∙ e)) (λ e. inr (let same : count_of s ≡ s.gate.max = ap (λ y. y.0) (sym is) ∙ (e ∙ sym shows.max) in rw same (eqb_same s.gate.max))) away in
     let turned = refused_turn after id (is_free gate workers w s shows id false free) (found ∙ ap (λ y. Some (core_word y)) is) away' in
-    let second = one gate workers w' w' after first.ties (Enter id) (record { reply = told.Refused (if x.1 then why.Closed else why.Full); state = after })
-    (turned ∙ ap (λ b. (let t : Turn = record { reply = told.Refused (if b then why.Closed else why.Full); state = after } in t)) (ap (λ y. y.1) (sym is))) (record { owned = first.ties.owned; keeps = first.ties.keeps; max = refl }) first.ties.shows in
-    then_next gate workers w' w' s ((Look id, told.Word x.0 x.1) ∷ []) ((Enter id, told.Refused (if x.1 then why.Closed else why.Full)) ∷ []) first second
+    let second = one gate workers w' w' after first.ties (Enter id) (record { reply = says.Refused (if x.1 then why.Closed else why.Full); state = after })
+    (turned ∙ ap (λ b. (let t : Turn = record { reply = says.Refused (if b then why.Closed else why.Full); state = after } in t)) (ap (λ y. y.1) (sym is))) (record { owned = first.ties.owned; keeps = first.ties.keeps; max = refl }) first.ties.shows in
+    then_next gate workers w' w' s ((Look id, says.Word x.0 x.1) ∷ []) ((Enter id, says.Refused (if x.1 then why.Closed else why.Full)) ∷ []) first second
 
 -- ## Histories
 

@@ -152,12 +152,12 @@ pub record TakingIn (m m' : subqueues.Moment) : Type 0 where
   pub next : m' ≡ record { items = m.items; views = slice_set (slice_set m.views pass (reunited (pushing home sent) (popping home' taken empty_pops))) other spent }
 
 -- the URL is in the list of what was sent
-pub record StandsIn (m : subqueues.Moment) (url : List ℕ) : Type 0 where
+pub record IsSent (m : subqueues.Moment) (url : List ℕ) : Type 0 where
   pub pass : ℕ
   pub home : Home
   pub sent : List Entry
   pub view : ViewAt m pass (pushing home sent)
-  pub stands : has_url url sent ≡ true
+  pub listed : has_url url sent ≡ true
 
 -- ## What else is known at each step, and the moment after it
 
@@ -244,7 +244,7 @@ Atomic w (LeavesOffer s n) w' =
     (gate : gates.Moment) × (step : Leaving w.gate gate n) × IsOwner w step.steps.seat (Offer s) × (w' ≡ after_leaving w gate step.steps.seat s)
 Atomic w (LeavesSeen s q url n) w' =
     (gate : gates.Moment) × (l : Lane) × (step : Leaving w.gate gate n) × IsOwner w step.steps.seat (Offer s)
-    × (slice_get w.lanes q ≡ Some l) × StandsIn l.moment url × (w' ≡ after_leaving w gate step.steps.seat s)
+    × (slice_get w.lanes q ≡ Some l) × IsSent l.moment url × (w' ≡ after_leaving w gate step.steps.seat s)
 Atomic w (LeavesFetch q n) w' =
     (gate : gates.Moment) × (l : Lane) × (step : Leaving w.gate gate n) × IsOwner w step.steps.seat (Sent q)
     × (slice_get w.lanes q ≡ Some l) × (l.fetching ≡ true) × (w' ≡ after_fetching w gate step.steps.seat q l)

@@ -3,7 +3,7 @@ use Rattle.std.specs.Prelude.{◌≡◌, ℕ, suc, ◌≤◌, Bool, true, take, 
 use Rattle.crawl_core.specs.declared.event.Event.{Event}
 use Rattle.crawl_core.specs.declared.event.Event.TheVariants.{Look, Enter, Admit, Back, EndSeeds, Take, Done, Close}
 use Rattle.crawl_core.specs.declared.reply.Reply.{Reply}
-use Rattle.crawl_core.specs.declared.reply.Reply.TheVariants as told
+use Rattle.crawl_core.specs.declared.reply.Reply.TheVariants as says
 use Rattle.crawl_core.specs.declared.reply.Refusal.TheVariants as why
 use Rattle.crawl_core.specs.Messages as core
 use Rattle.crawl_core.specs.Subqueue.{Subqueue, waiting}
@@ -24,20 +24,20 @@ use Rattle.crawl_tie.specs.Acts.{Act, Splits, Looks, LooksAway, Enters, Loses, L
 -- the row of the table: the events of a step, and their replies
 abbrev pub events_of : Act → List (Event × Reply)
 events_of Splits = []
-events_of (Looks s x) = (Look s, told.Word x.0 x.1) ∷ []
-events_of (LooksAway s x) = (Look s, told.Word x.0 x.1) ∷ (Enter s, told.Refused (if x.1 then why.Closed else why.Full)) ∷ []
-events_of (Enters s n) = (Enter s, told.Entered (suc n)) ∷ []
-events_of (Loses s x) = (Enter s, told.Lost) ∷ []
-events_of (LeavesOffer s n) = (Back s, told.Count n) ∷ []
-events_of (LeavesSeen s q url n) = (Admit s url q, told.Seen) ∷ (Back s, told.Count n) ∷ []
-events_of (LeavesFetch q n) = (Done q, told.Count n) ∷ []
-events_of (LeavesSeeds n) = (EndSeeds, told.Count n) ∷ []
-events_of Closes = (Close, told.Closed) ∷ []
-events_of NotClosesClosed = (Close, told.Closed) ∷ []
-events_of (NotClosesPending n) = (Close, told.Pending n) ∷ []
-events_of (Pushes q e) = (Admit e.sender e.url q, told.Accepted q e.number) ∷ []
-events_of (Pops q e) = (Take q, told.Taken e.url) ∷ []
-events_of (PopsNone q) = (Take q, told.Empty) ∷ []
+events_of (Looks s x) = (Look s, says.Word x.0 x.1) ∷ []
+events_of (LooksAway s x) = (Look s, says.Word x.0 x.1) ∷ (Enter s, says.Refused (if x.1 then why.Closed else why.Full)) ∷ []
+events_of (Enters s n) = (Enter s, says.Entered (suc n)) ∷ []
+events_of (Loses s x) = (Enter s, says.Lost) ∷ []
+events_of (LeavesOffer s n) = (Back s, says.Count n) ∷ []
+events_of (LeavesSeen s q url n) = (Admit s url q, says.Seen) ∷ (Back s, says.Count n) ∷ []
+events_of (LeavesFetch q n) = (Done q, says.Count n) ∷ []
+events_of (LeavesSeeds n) = (EndSeeds, says.Count n) ∷ []
+events_of Closes = (Close, says.Closed) ∷ []
+events_of NotClosesClosed = (Close, says.Closed) ∷ []
+events_of (NotClosesPending n) = (Close, says.Pending n) ∷ []
+events_of (Pushes q e) = (Admit e.sender e.url q, says.Accepted q e.number) ∷ []
+events_of (Pops q e) = (Take q, says.Taken e.url) ∷ []
+events_of (PopsNone q) = (Take q, says.Empty) ∷ []
 events_of (FindsNothing q) = []
 events_of (TakesIn q) = []
 

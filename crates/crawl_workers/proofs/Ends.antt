@@ -1,12 +1,12 @@
 -- What follows from the turns of a worker.
-use Rattle.crawl_workers.proofs.Prelude.{◌≡◌, ℕ, ◌+◌, ◌-◌, ◌^◌, ◌<◌, ◌≤◌, min, Bool, true, false, cond, List, [], ◌∷◌, ◌++◌, length, map, Option, None, Some, refl, sym, ap, subst, ◌∙◌, arith, All, count_by, flat_map, length-append, length-map, All-nil, All-append, All-cons, Page, PageResult, links_of, Entry, KeepsRule, BookId, WorkerId, Loss, LinkOffers, AllLogged, Grows, all_losses, no_losses, sum_of, with_loss, Answer, losses_by, with_losses, Outcome, Turn, IsTurn, AreTurns, IsTold, losses_at, found_at, entries_in, failed, unkept, kept, Fate, results_of, taken_in, most_lost_at, most_lost, Ran, IsTally, Progress, answers_few, answers_logged}
+use Rattle.crawl_workers.proofs.Prelude.{◌≡◌, ℕ, ◌+◌, ◌-◌, ◌^◌, ◌<◌, ◌≤◌, min, Bool, true, false, cond, List, [], ◌∷◌, ◌++◌, length, map, Option, None, Some, refl, sym, ap, subst, ◌∙◌, arith, All, count_by, flat_map, length-append, length-map, All-nil, All-append, All-cons, Page, PageResult, links_of, Entry, KeepsRule, BookId, WorkerId, Loss, LinkOffers, AllLogged, Grows, all_losses, no_losses, sum_of, with_loss, LinkResult, losses_by, with_losses, Outcome, Turn, IsTurn, AreTurns, IsAccountedFor, losses_at, found_at, entries_in, failed, unkept, kept, Fate, results_of, taken_in, most_lost_at, most_lost, Ran, IsTally, Progress, answers_few, answers_logged}
 use Rattle.std.proofs.lemmas.Grind.{common_steps}
 use Rattle.std.proofs.lemmas.List.Sums.{count_by-le-length, sum_by-append, sum_by-cons}
 use Rattle.crawl_frontier.specs.declared.error.OfferError.TheVariants as refused
 use Rattle.link_offers.specs.declared.losses.Loss.TheVariants as loss
 use Rattle.link_offers.specs.declared.losses.Losses.{Losses}
 use Rattle.link_offers.proofs.Logs.{grows_same, grows_on, all_logged_on}
-use Rattle.crawl_workers.proofs.Outcomes.{goes_on_same}
+use Rattle.crawl_workers.proofs.Outcomes.{continues_same}
 
 -- ## The number of losses
 
@@ -49,18 +49,18 @@ urls_counted (why ∷ more) l less = grind (arith, common_steps, url_more, sum_b
 counted_append : (xs ys : List Loss) → count_by is_of_url (xs ++ ys) ≡ count_by is_of_url xs + count_by is_of_url ys
 counted_append xs ys = sum_by-append (λ (x : Loss). cond (is_of_url x) 1 0) xs ys
 
-answers_no_url : (answers : List Answer) → count_by is_of_url (flat_map losses_by answers) ≡ 0
+answers_no_url : (link_results : List LinkResult) → count_by is_of_url (flat_map losses_by link_results) ≡ 0
 answers_no_url [] = refl
-answers_no_url (a ∷ answers) = grind (arith, counted_append, answers_no_url answers)
+answers_no_url (a ∷ link_results) = grind (arith, counted_append, answers_no_url link_results)
 
 -- a URL has a result, or counts as lost
 one_of_each : (meaning : List ℕ → Page) (url : List ℕ) (outcome : Outcome) → count_by is_of_url (losses_at outcome) + length (found_at meaning url outcome) ≡ 1
 one_of_each meaning url failed = refl
-one_of_each meaning url (unkept answers) =
-    let none = answers_no_url answers in
-    let cut : count_by is_of_url (losses_at (unkept answers)) ≡ count_by is_of_url (flat_map losses_by answers) + 1 = counted_append (flat_map losses_by answers) (loss.Unkept ∷ []) in
+one_of_each meaning url (unkept link_results) =
+    let none = answers_no_url link_results in
+    let cut : count_by is_of_url (losses_at (unkept link_results)) ≡ count_by is_of_url (flat_map losses_by link_results) + 1 = counted_append (flat_map losses_by link_results) (loss.Unkept ∷ []) in
     omega (arith, cut, none)
-one_of_each meaning url (kept answers) = let none = answers_no_url answers in omega (arith, none)
+one_of_each meaning url (kept link_results) = let none = answers_no_url link_results in omega (arith, none)
 
 -- ## Turns
 
@@ -76,7 +76,7 @@ turns_counted meaning (t ∷ ts) = grind (arith, one_of_each, counted_append, le
 
 -- the outcome for a URL, as `Ran` states it
 abbrev page_at : (List ℕ → Page) → List ℕ → Outcome → Option Page
-page_at meaning url (kept answers) = Some (meaning url)
+page_at meaning url (kept link_results) = Some (meaning url)
 page_at meaning url _ = None
 
 abbrev fates_in : (List ℕ → Page) → List Turn → List Fate
@@ -89,14 +89,14 @@ taken_same meaning (t ∷ ts) = ap (λ (es : List Entry). t.0 ∷ es) (taken_sam
 results_same : (meaning : List ℕ → Page) (turns : List Turn) → found_in meaning turns ≡ results_of (fates_in meaning turns)
 results_same meaning [] = refl
 results_same meaning ((e, failed) ∷ ts) = results_same meaning ts
-results_same meaning ((e, unkept answers) ∷ ts) = results_same meaning ts
-results_same meaning ((e, kept answers) ∷ ts) = ap (λ (rs : List PageResult). record { url = e.url; page = meaning e.url } ∷ rs) (results_same meaning ts)
+results_same meaning ((e, unkept link_results) ∷ ts) = results_same meaning ts
+results_same meaning ((e, kept link_results) ∷ ts) = ap (λ (rs : List PageResult). record { url = e.url; page = meaning e.url } ∷ rs) (results_same meaning ts)
 
 pages_right : (meaning : List ℕ → Page) (turns : List Turn) → All (λ r. r.page ≡ meaning r.url) (found_in meaning turns)
 pages_right meaning [] = All-nil (λ (r : PageResult). r.page ≡ meaning r.url)
 pages_right meaning ((e, failed) ∷ ts) = pages_right meaning ts
-pages_right meaning ((e, unkept answers) ∷ ts) = pages_right meaning ts
-pages_right meaning ((e, kept answers) ∷ ts) = grind (arith, pages_right meaning ts)
+pages_right meaning ((e, unkept link_results) ∷ ts) = pages_right meaning ts
+pages_right meaning ((e, kept link_results) ∷ ts) = grind (arith, pages_right meaning ts)
 
 -- a turn loses no more than the links that are allowed, and the URL if it has no result
 turn_few : (workers : ℕ) (allowed : List ℕ → Bool) (meaning : List ℕ → Page) (b c : BookId) (e : Entry) (outcome : Outcome) → IsTurn workers allowed meaning b c e outcome
@@ -116,7 +116,7 @@ turns_few workers allowed meaning b c (t ∷ ts) are =
 
 turns_grow : (workers : ℕ) (allowed : List ℕ → Bool) (meaning : List ℕ → Page) (b c : BookId) (turns : List Turn) → AreTurns workers allowed meaning b c turns → Grows b c
 turns_grow workers allowed meaning b c [] are = grows_same b c are
-turns_grow workers allowed meaning b c (t ∷ ts) are = grind (arith, grows_on, turns_grow workers allowed meaning are.0 c ts are.2, goes_on_same)
+turns_grow workers allowed meaning b c (t ∷ ts) are = grind (arith, grows_on, turns_grow workers allowed meaning are.0 c ts are.2, continues_same)
 
 -- the links of a turn that loses nothing have lines in the log at its end
 turn_logged : (workers : ℕ) (allowed : List ℕ → Bool) (meaning : List ℕ → Page) (b c : BookId) (e : Entry) (outcome : Outcome) → IsTurn workers allowed meaning b c e outcome → length (losses_at outcome) ≡ 0
@@ -135,47 +135,47 @@ turns_logged workers allowed meaning b c (t ∷ ts) are none =
   where
     found_logged : (url : List ℕ) (outcome : Outcome) → AllLogged workers allowed c.log (links_of (meaning url)) → All (λ (r : PageResult). AllLogged workers allowed c.log (links_of r.page)) (found_at meaning url outcome)
     found_logged url failed is = All-nil (λ (r : PageResult). AllLogged workers allowed c.log (links_of r.page))
-    found_logged url (unkept answers) is = All-nil (λ (r : PageResult). AllLogged workers allowed c.log (links_of r.page))
-    found_logged url (kept answers) is =
+    found_logged url (unkept link_results) is = All-nil (λ (r : PageResult). AllLogged workers allowed c.log (links_of r.page))
+    found_logged url (kept link_results) is =
         All-cons (λ (r : PageResult). AllLogged workers allowed c.log (links_of r.page)) (record { url = url; page = meaning url }) [] is (All-nil (λ (r : PageResult). AllLogged workers allowed c.log (links_of r.page)))
 
 -- ## An end
 
 pub ran_by : (workers : ℕ) (allowed : List ℕ → Bool) (meaning : List ℕ → Page) (start now : WorkerId) (results : List PageResult) (offers : LinkOffers) (lost : ℕ)
     → lost ≡ sum_of offers.losses → Progress workers allowed meaning start now results offers
-    → Ran workers allowed meaning start now results lost × IsTally start now results lost offers.losses × IsTold workers allowed meaning start now results offers.losses
+    → Ran workers allowed meaning start now results lost × IsTally start now results lost offers.losses × IsAccountedFor workers allowed meaning start now results offers.losses
 ran_by workers allowed meaning start now results offers lost sum so_far =
-    let told = so_far.told in
-    let summed : lost ≡ min (0 + length (losses_in told.turns)) (2 ^ 64 - 1) = sum ∙ ap sum_of told.why ∙ sym (number_of (losses_in told.turns) no_losses 0 refl) in
-    let number : lost ≡ min (length (losses_in told.turns)) (2 ^ 64 - 1) = omega (arith, summed) in
-    let urls = turns_counted meaning told.turns in
-    let some = count_by-le-length is_of_url (losses_in told.turns) in
-    let found : length results ≡ length (found_in meaning told.turns) = ap (λ (rs : List PageResult). length rs) told.found in
-    let taken : length now.taken ≡ length (start.taken ++ entries_in told.turns) = ap (λ (es : List Entry). length es) told.taken in
-    let few = turns_few workers allowed meaning start.book now.book told.turns told.books in
-    let fates : length (fates_in meaning told.turns) ≡ length told.turns = length-map told.turns (λ (t : Turn). (t.0, page_at meaning t.0.url t.1)) in (
+    let accounted = so_far.accounted in
+    let summed : lost ≡ min (0 + length (losses_in accounted.turns)) (2 ^ 64 - 1) = sum ∙ ap sum_of accounted.why ∙ sym (number_of (losses_in accounted.turns) no_losses 0 refl) in
+    let number : lost ≡ min (length (losses_in accounted.turns)) (2 ^ 64 - 1) = omega (arith, summed) in
+    let urls = turns_counted meaning accounted.turns in
+    let some = count_by-le-length is_of_url (losses_in accounted.turns) in
+    let found : length results ≡ length (found_in meaning accounted.turns) = ap (λ (rs : List PageResult). length rs) accounted.found in
+    let taken : length now.taken ≡ length (start.taken ++ entries_in accounted.turns) = ap (λ (es : List Entry). length es) accounted.taken in
+    let few = turns_few workers allowed meaning start.book now.book accounted.turns accounted.books in
+    let fates : length (fates_in meaning accounted.turns) ≡ length accounted.turns = length-map accounted.turns (λ (t : Turn). (t.0, page_at meaning t.0.url t.1)) in (
       record {
-        fates = fates_in meaning told.turns;
+        fates = fates_in meaning accounted.turns;
         queue = so_far.queue;
-        taken = told.taken ∙ ap (λ (es : List Entry). start.taken ++ es) (sym (taken_same meaning told.turns));
-        rule = subst (λ (es : List Entry). KeepsRule workers start.queue start.taken es) (sym (taken_same meaning told.turns)) so_far.rule;
-        found = told.found ∙ results_same meaning told.turns;
-        pages = rw told.found (pages_right meaning told.turns);
+        taken = accounted.taken ∙ ap (λ (es : List Entry). start.taken ++ es) (sym (taken_same meaning accounted.turns));
+        rule = subst (λ (es : List Entry). KeepsRule workers start.queue start.taken es) (sym (taken_same meaning accounted.turns)) so_far.rule;
+        found = accounted.found ∙ results_same meaning accounted.turns;
+        pages = rw accounted.found (pages_right meaning accounted.turns);
         counted = λ less. omega (arith, number, less, urls, some, found, fates);
         few = omega (arith, number, few);
-        grows = turns_grow workers allowed meaning start.book now.book told.turns told.books;
-        links = λ none. rw told.found (turns_logged workers allowed meaning start.book now.book told.turns told.books (omega (arith, number, none)));
+        grows = turns_grow workers allowed meaning start.book now.book accounted.turns accounted.books;
+        links = λ none. rw accounted.found (turns_logged workers allowed meaning start.book now.book accounted.turns accounted.books (omega (arith, number, none)));
       },
       record {
         all = sum;
         urls = λ less.
-            let all = with_losses (losses_in told.turns) no_losses in
-            let counted : all.failed + all.unkept ≡ 0 + 0 + count_by is_of_url (losses_in told.turns) = urls_counted (losses_in told.turns) no_losses (subst (λ (l : Losses). l.failed + l.unkept < 2 ^ 64 - 1) told.why less) in
-            let failed : offers.losses.failed ≡ all.failed = ap (λ (l : Losses). l.failed) told.why in
-            let unkept : offers.losses.unkept ≡ all.unkept = ap (λ (l : Losses). l.unkept) told.why in
-            let entries : length (entries_in told.turns) ≡ length told.turns = length-map told.turns (λ (t : Turn). t.0) in
-            let both = length-append start.taken (entries_in told.turns) in
+            let all = with_losses (losses_in accounted.turns) no_losses in
+            let counted : all.failed + all.unkept ≡ 0 + 0 + count_by is_of_url (losses_in accounted.turns) = urls_counted (losses_in accounted.turns) no_losses (subst (λ (l : Losses). l.failed + l.unkept < 2 ^ 64 - 1) accounted.why less) in
+            let failed : offers.losses.failed ≡ all.failed = ap (λ (l : Losses). l.failed) accounted.why in
+            let unkept : offers.losses.unkept ≡ all.unkept = ap (λ (l : Losses). l.unkept) accounted.why in
+            let entries : length (entries_in accounted.turns) ≡ length accounted.turns = length-map accounted.turns (λ (t : Turn). t.0) in
+            let both = length-append start.taken (entries_in accounted.turns) in
             omega (arith, counted, failed, unkept, urls, found, taken, entries, both);
       },
-      told,
+      accounted,
     )

@@ -54,10 +54,10 @@ entries_has : (id : ℕ) (url : List ℕ) (es : List Entry) → has_url url (ent
 entries_has id url [] is = is
 entries_has id url (e ∷ es) is = grind (arith, or_right, entries_has id url es)
 
-line_stands : (q : ℕ) (es : List Entry) (b : BookId) (url : List ℕ) (k : ℕ) (l : Logged) → Agrees q es b → At b.log k l → line_of l ≡ (url, q) → has_url url es ≡ true
-line_stands q es b url k (Seen u p) agrees at is =
+line_holds : (q : ℕ) (es : List Entry) (b : BookId) (url : List ℕ) (k : ℕ) (l : Logged) → Agrees q es b → At b.log k l → line_of l ≡ (url, q) → has_url url es ≡ true
+line_holds q es b url k (Seen u p) agrees at is =
     agrees.seen k url (subst (λ (x : List ℕ × ℕ). At b.log k (Seen x.0 x.1)) is at)
-line_stands q es b url k (Accepted e p) agrees at is =
+line_holds q es b url k (Accepted e p) agrees at is =
     let same : e.url ≡ url = ap (λ (x : List ℕ × ℕ). x.0) is in
     let queue : p ≡ q = ap (λ (x : List ℕ × ℕ). x.1) is in
     let here : At b.log k (Accepted e q) = subst (λ (n : ℕ). At b.log k (Accepted e n)) queue at in
@@ -74,7 +74,7 @@ logged_accepted workers closed senders queues some account b part url has =
     record {
       list = found.0;
       at = found.1;
-      has = line_stands (subqueue_of url workers) found.0 b url line.index line.line (account.agrees (subqueue_of url workers) found.0 found.1 b part) line.at line.is;
+      has = line_holds (subqueue_of url workers) found.0 b url line.index line.line (account.agrees (subqueue_of url workers) found.0 found.1 b part) line.at line.is;
     }
 
 pub links_accepted : (workers : ℕ) (allowed : List ℕ → Bool) (meaning : List ℕ → Page) (closed : List WorkerId) (senders : List SenderId) (queues : List (List Entry)) → Accounts workers closed senders queues

@@ -1,23 +1,23 @@
 -- The outcomes for the URLs that a worker takes.
-use Rattle.crawl_workers.proofs.Prelude.{◌≡◌, inl, inr, ℕ, ◌+◌, Bool, List, [], ◌∷◌, ◌++◌, refl, sym, ap, subst, ◌∙◌, arith, flat_map, append-nil, append_assoc, map-append, flat_map_more, Page, PageResult, links_of, Entry, MayFollow, KeepsRule, BookId, WorkerId, BusyId, worker, Loss, LinkOffers, no_losses, AllAnswered, LinkAnswers, losses_by, with_losses, Outcome, GoesOn, Turn, IsTurn, AreTurns, losses_at, found_at, entries_in, unkept, kept, Progress, UrlOutcome, HasRoomOrNot, SameBusy, busy_same, answers_same, losses_on}
+use Rattle.crawl_workers.proofs.Prelude.{◌≡◌, inl, inr, ℕ, ◌+◌, Bool, List, [], ◌∷◌, ◌++◌, refl, sym, ap, subst, ◌∙◌, arith, flat_map, append-nil, append_assoc, map-append, flat_map_more, Page, PageResult, links_of, Entry, MayFollow, KeepsRule, BookId, WorkerId, BusyId, worker, Loss, LinkOffers, no_losses, HaveResults, LinkResults, losses_by, with_losses, Outcome, OffersLinks, Turn, IsTurn, AreTurns, losses_at, found_at, entries_in, unkept, kept, Progress, UrlOutcome, HasRoomOrNot, SameBusy, busy_same, answers_same, losses_on}
 use Rattle.link_offers.specs.declared.losses.Loss.TheVariants as loss
 use Rattle.crawl_workers.specs.declared.output.WorkerOutput.{WorkerOutput}
 use Rattle.link_offers.specs.Recent.{Knows}
 
 -- ## A URL
 
-pub goes_on_same : (workers : ℕ) (allowed : List ℕ → Bool) (b b' : BusyId) (links : List (List ℕ)) (outcome : Outcome) → GoesOn workers allowed b b' links outcome → SameBusy b b'
-goes_on_same workers allowed b b' links outcome goes = grind (arith, busy_same, answers_same)
+pub continues_same : (workers : ℕ) (allowed : List ℕ → Bool) (b b' : BusyId) (links : List (List ℕ)) (outcome : Outcome) → OffersLinks workers allowed b b' links outcome → SameBusy b b'
+continues_same workers allowed b b' links outcome goes = grind (arith, busy_same, answers_same)
 
 -- its page was fetched, its links were offered, and its result was kept or lost
 pub page_fetched : (workers : ℕ) (allowed : List ℕ → Bool) (meaning : List ℕ → Page) (b b' : BusyId) (page : Page) (old mid new : WorkerOutput)
-    → page ≡ meaning b.message.entry.url → mid.results.items ≡ old.results.items → LinkAnswers workers allowed (links_of page) b b' old.offers mid.offers
+    → page ≡ meaning b.message.entry.url → mid.results.items ≡ old.results.items → LinkResults workers allowed (links_of page) b b' old.offers mid.offers
     → HasRoomOrNot b.message.entry.url page mid new → UrlOutcome workers allowed meaning b b' old new
 page_fetched workers allowed meaning b b' page old mid new means items links keeps =
-    let each : AllAnswered workers allowed b b' (links_of (meaning b.message.entry.url)) links.answers = subst (λ (p : Page). AllAnswered workers allowed b b' (links_of p) links.answers) means links.each in
+    let each : HaveResults workers allowed b b' (links_of (meaning b.message.entry.url)) links.link_results = subst (λ (p : Page). HaveResults workers allowed b b' (links_of p) links.link_results) means links.each in
     elim keeps [
       | inl k ↦ record {
-        outcome = kept links.answers;
+        outcome = kept links.link_results;
         links = each;
         results = k.0 ∙ ap (λ (rs : List PageResult). rs ++ record { url = b.message.entry.url; page = page } ∷ []) items
             ∙ ap (λ (p : Page). old.results.items ++ record { url = b.message.entry.url; page = p } ∷ []) means;
@@ -25,10 +25,10 @@ page_fetched workers allowed meaning b b' page old mid new means items links kee
         known = subst (λ (o : LinkOffers). Knows workers b'.worker.book.log o.recent) (sym k.1) links.known;
       }
       | inr l ↦ record {
-        outcome = unkept links.answers;
+        outcome = unkept links.link_results;
         links = each;
         results = l.0 ∙ items ∙ sym (append-nil old.results.items);
-        losses = losses_on (flat_map losses_by links.answers) (loss.Unkept ∷ []) old.offers.losses mid.offers.losses new.offers.losses links.losses l.1;
+        losses = losses_on (flat_map losses_by links.link_results) (loss.Unkept ∷ []) old.offers.losses mid.offers.losses new.offers.losses links.losses l.1;
         known = subst (Knows workers b'.worker.book.log) (sym l.2) links.known;
       }
     ]
@@ -39,7 +39,7 @@ pub progress_none : (workers : ℕ) (allowed : List ℕ → Bool) (meaning : Lis
     → output.results.items ≡ [] → output.offers.losses ≡ no_losses → Knows workers w.book.log output.offers.recent → Progress workers allowed meaning w w output.results.items output.offers
 progress_none workers allowed meaning w output none losses known = record {
   queue = refl;
-  told = record { turns = []; taken = sym (append-nil w.taken); found = none; books = refl; why = losses };
+  accounted = record { turns = []; taken = sym (append-nil w.taken); found = none; books = refl; why = losses };
   rule = tt;
   known = known;
 }
@@ -49,12 +49,12 @@ pub progress_still : (workers : ℕ) (allowed : List ℕ → Bool) (meaning : Li
     → v.queue ≡ w.queue → v.taken ≡ w.taken → v.book ≡ w.book → Progress workers allowed meaning start w results offers → Progress workers allowed meaning start v results offers
 progress_still workers allowed meaning start w v results offers queue taken book so_far = record {
   queue = queue ∙ so_far.queue;
-  told = record {
-    turns = so_far.told.turns;
-    taken = taken ∙ so_far.told.taken;
-    found = so_far.told.found;
-    books = subst (λ (b : BookId). AreTurns workers allowed meaning start.book b so_far.told.turns) (sym book) so_far.told.books;
-    why = so_far.told.why;
+  accounted = record {
+    turns = so_far.accounted.turns;
+    taken = taken ∙ so_far.accounted.taken;
+    found = so_far.accounted.found;
+    books = subst (λ (b : BookId). AreTurns workers allowed meaning start.book b so_far.accounted.turns) (sym book) so_far.accounted.books;
+    why = so_far.accounted.why;
   };
   rule = so_far.rule;
   known = subst (λ (b : BookId). Knows workers b.log offers.recent) (sym book) so_far.known;
@@ -76,13 +76,13 @@ pub progress_more : (workers : ℕ) (allowed : List ℕ → Bool) (meaning : Lis
     → (Knows workers b.worker.book.log old.offers.recent → UrlOutcome workers allowed meaning b b' old new)
     → Progress workers allowed meaning start w old.results.items old.offers → Progress workers allowed meaning start v new.results.items new.offers
 progress_more workers allowed meaning start w v b b' old new takes may queue taken book outcome so_far =
-    let told = so_far.told in
+    let accounted = so_far.accounted in
     let book_was : b.worker.book ≡ w.book = ap (λ (x : WorkerId). x.book) takes in
     let url = outcome (subst (λ (x : BookId). Knows workers x.log old.offers.recent) (sym book_was) so_far.known) in
-    let same : SameBusy b b' = goes_on_same workers allowed b b' (links_of (meaning b.message.entry.url)) url.outcome url.links in
+    let same : SameBusy b b' = continues_same workers allowed b b' (links_of (meaning b.message.entry.url)) url.outcome url.links in
     let t : Turn = (b.message.entry, url.outcome) in
     let all : v.taken ≡ w.taken ++ b.message.entry ∷ [] = taken ∙ (ap (λ (x : WorkerId). x.taken) same.worker ∙ ap (λ (x : WorkerId). x.taken) takes) in
-    let entries : entries_in (told.turns ++ t ∷ []) ≡ entries_in told.turns ++ b.message.entry ∷ [] = map-append (λ (x : Turn). x.0) told.turns (t ∷ []) in
+    let entries : entries_in (accounted.turns ++ t ∷ []) ≡ entries_in accounted.turns ++ b.message.entry ∷ [] = map-append (λ (x : Turn). x.0) accounted.turns (t ∷ []) in
     let turn : IsTurn workers allowed meaning w.book v.book b.message.entry url.outcome = record {
       before = b;
       after = b';
@@ -93,17 +93,17 @@ progress_more workers allowed meaning start w v b b' old new takes may queue tak
     } in
     record {
       queue = queue ∙ (ap (λ (x : WorkerId). x.queue) same.worker ∙ ap (λ (x : WorkerId). x.queue) takes) ∙ so_far.queue;
-      told = record {
-        turns = told.turns ++ t ∷ [];
-        taken = all ∙ ap (λ (es : List Entry). es ++ b.message.entry ∷ []) told.taken
-            ∙ append_assoc start.taken (entries_in told.turns) (b.message.entry ∷ [])
+      accounted = record {
+        turns = accounted.turns ++ t ∷ [];
+        taken = all ∙ ap (λ (es : List Entry). es ++ b.message.entry ∷ []) accounted.taken
+            ∙ append_assoc start.taken (entries_in accounted.turns) (b.message.entry ∷ [])
             ∙ ap (λ (es : List Entry). start.taken ++ es) (sym entries);
-        found = url.results ∙ ap (λ (rs : List PageResult). rs ++ found_at meaning b.message.entry.url url.outcome) told.found
-            ∙ flat_map_more (λ (x : Turn). found_at meaning x.0.url x.1) [] told.turns t;
-        books = turns_more workers allowed meaning told.turns t start.book w.book v.book told.books turn;
-        why = losses_on (flat_map (λ (x : Turn). losses_at x.1) told.turns) (losses_at url.outcome) no_losses old.offers.losses new.offers.losses told.why url.losses
-            ∙ ap (λ (xs : List Loss). with_losses xs no_losses) (flat_map_more (λ (x : Turn). losses_at x.1) [] told.turns t);
+        found = url.results ∙ ap (λ (rs : List PageResult). rs ++ found_at meaning b.message.entry.url url.outcome) accounted.found
+            ∙ flat_map_more (λ (x : Turn). found_at meaning x.0.url x.1) [] accounted.turns t;
+        books = turns_more workers allowed meaning accounted.turns t start.book w.book v.book accounted.books turn;
+        why = losses_on (flat_map (λ (x : Turn). losses_at x.1) accounted.turns) (losses_at url.outcome) no_losses old.offers.losses new.offers.losses accounted.why url.losses
+            ∙ ap (λ (xs : List Loss). with_losses xs no_losses) (flat_map_more (λ (x : Turn). losses_at x.1) [] accounted.turns t);
       };
-      rule = subst (λ (es : List Entry). KeepsRule workers start.queue start.taken es) (sym entries) (rule_more workers start.queue start.taken (entries_in told.turns) b.message.entry so_far.rule (rw (← so_far.queue, ← told.taken) may));
+      rule = subst (λ (es : List Entry). KeepsRule workers start.queue start.taken es) (sym entries) (rule_more workers start.queue start.taken (entries_in accounted.turns) b.message.entry so_far.rule (rw (← so_far.queue, ← accounted.taken) may));
       known = subst (λ (x : BookId). Knows workers x.log new.offers.recent) (sym book) url.known;
     }

@@ -10,31 +10,31 @@ use Rattle.link_offers.specs.declared.losses.Loss.{Loss}
 use Rattle.link_offers.specs.declared.losses.Loss.TheVariants as loss
 use Rattle.link_offers.specs.declared.losses.Losses.{Losses}
 use Rattle.link_offers.specs.Losses.{no_losses}
-use Rattle.link_offers.specs.Offers.{Answer, AllAnswered, losses_by, with_losses}
+use Rattle.link_offers.specs.Offers.{LinkResult, HaveResults, losses_by, with_losses}
 
 -- the outcome for a URL that was taken: its fetch failed; or the offers of its page's links had these results, and there was or was
 -- not memory for its result
 pub data Outcome : Type 0 where
   failed : Outcome
-  unkept : List Answer → Outcome
-  kept : List Answer → Outcome
+  unkept : List LinkResult → Outcome
+  kept : List LinkResult → Outcome
 
 abbrev pub losses_at : Outcome → List Loss
 losses_at failed = loss.Failed ∷ []
-losses_at (unkept answers) = flat_map losses_by answers ++ loss.Unkept ∷ []
-losses_at (kept answers) = flat_map losses_by answers
+losses_at (unkept link_results) = flat_map losses_by link_results ++ loss.Unkept ∷ []
+losses_at (kept link_results) = flat_map losses_by link_results
 
 -- the URL's result, if there is one
 abbrev pub found_at : (List ℕ → Page) → List ℕ → Outcome → List PageResult
 found_at meaning url failed = []
-found_at meaning url (unkept answers) = []
-found_at meaning url (kept answers) = record { url = url; page = meaning url } ∷ []
+found_at meaning url (unkept link_results) = []
+found_at meaning url (kept link_results) = record { url = url; page = meaning url } ∷ []
 
 -- the busy worker before and after the links of its page
-abbrev pub GoesOn : ℕ → (List ℕ → Bool) → BusyId → BusyId → List (List ℕ) → Outcome → Type 0
-GoesOn workers allowed b b' links failed = b' ≡ b
-GoesOn workers allowed b b' links (unkept answers) = AllAnswered workers allowed b b' links answers
-GoesOn workers allowed b b' links (kept answers) = AllAnswered workers allowed b b' links answers
+abbrev pub OffersLinks : ℕ → (List ℕ → Bool) → BusyId → BusyId → List (List ℕ) → Outcome → Type 0
+OffersLinks workers allowed b b' links failed = b' ≡ b
+OffersLinks workers allowed b b' links (unkept link_results) = HaveResults workers allowed b b' links link_results
+OffersLinks workers allowed b b' links (kept link_results) = HaveResults workers allowed b b' links link_results
 
 -- the worker was busy with this entry, with these books before and after
 pub record IsTurn (workers : ℕ) (allowed : List ℕ → Bool) (meaning : List ℕ → Page) (book book' : BookId) (e : Entry) (outcome : Outcome) : Type 0 where
@@ -43,7 +43,7 @@ pub record IsTurn (workers : ℕ) (allowed : List ℕ → Bool) (meaning : List 
   pub entry : before.message.entry ≡ e
   pub first : before.worker.book ≡ book
   pub last : after.worker.book ≡ book'
-  pub links : GoesOn workers allowed before after (links_of (meaning e.url)) outcome
+  pub links : OffersLinks workers allowed before after (links_of (meaning e.url)) outcome
 
 -- a turn with a URL
 abbrev pub Turn : Type 0
@@ -60,7 +60,7 @@ entries_in turns = map (λ (t : Turn). t.0) turns
 
 -- From `start` to `now` the worker had these turns, one for each entry that it took. They account for its books, its results and
 -- exactly these losses.
-pub record IsTold (workers : ℕ) (allowed : List ℕ → Bool) (meaning : List ℕ → Page) (start now : WorkerId) (results : List PageResult) (losses : Losses) : Type 0 where
+pub record IsAccountedFor (workers : ℕ) (allowed : List ℕ → Bool) (meaning : List ℕ → Page) (start now : WorkerId) (results : List PageResult) (losses : Losses) : Type 0 where
   pub turns : List Turn
   pub taken : now.taken ≡ start.taken ++ entries_in turns
   pub found : results ≡ flat_map (λ (t : Turn). found_at meaning t.0.url t.1) turns

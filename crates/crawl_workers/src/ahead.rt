@@ -5,7 +5,7 @@ use crawl_pages::SessionFetch;
 use std::sync::Wait;
 
 /// The number of URLs that are announced at the same time.
-const AT_ONCE: usize = 16;
+const ANNOUNCED: usize = 16;
 
 /// How far a worker has looked ahead.
 #[derive(Clone, Copy)]
@@ -33,12 +33,12 @@ impl LookAhead {
         if taken < self.until {
             return;
         }
-        let mut hashes = [0; AT_ONCE];
+        let mut hashes = [0; ANNOUNCED];
         let count = worker.look_ahead(rt, frontier, taken, &mut hashes);
-        let next = if count < AT_ONCE {
-            4 * AT_ONCE
+        let next = if count < ANNOUNCED {
+            4 * ANNOUNCED
         } else {
-            AT_ONCE
+            ANNOUNCED
         };
         let expected = hashes.get(..count).unwrap_or(&[]);
         // The sum has no meaning. It is used only because the compiler would otherwise remove the reads.

@@ -1,7 +1,7 @@
 -- Links of feeds and lists of URLs, over runs of bytes.
 use Rattle.document_links.proofs.Prelude.{◌≡◌, ◌∙◌, ℕ, ◌==◌, true, false, not, List, [], ◌∷◌, ◌++◌, take, drop, Option, refl, sym, ap, arith, cond-true, cond-false, cases_Bool}
 use Rattle.std.proofs.Common.{zero, suc, append-nil, append_assoc, subst}
-use Rattle.html_links.specs.Shown.{behind, front}
+use Rattle.html_links.specs.Shown.{following, front}
 use Rattle.html_links.proofs.Sources.{front_all}
 use Rattle.url.specs.Input.{trim_c0_control_and_space}
 use Rattle.document_links.specs.declared.feed.FeedKind.{FeedKind}
@@ -15,7 +15,7 @@ use Rattle.document_links.proofs.Runs.{collects_run, fails}
 -- ---- links
 
 -- the bytes up to the next `<`
-to_markup : (kind : Option FeedKind) (bytes : List ℕ) → links_from kind 0 bytes ≡ links_from kind 0 (behind (λ b. not (b == 60)) bytes)
+to_markup : (kind : Option FeedKind) (bytes : List ℕ) → links_from kind 0 bytes ≡ links_from kind 0 (following (λ b. not (b == 60)) bytes)
 to_markup kind [] = refl
 to_markup kind (b ∷ bytes) = grind (arith, cases_Bool, cond-true, cond-false, to_markup kind bytes)
 
@@ -25,10 +25,10 @@ past kind zero bytes = refl
 past kind (suc n) [] = refl
 past kind (suc n) (b ∷ bytes) = past kind n bytes
 
-pub no_markup : (kind : Option FeedKind) (bytes : List ℕ) → behind (λ b. not (b == 60)) bytes ≡ [] → links_from kind 0 bytes ≡ []
+pub no_markup : (kind : Option FeedKind) (bytes : List ℕ) → following (λ b. not (b == 60)) bytes ≡ [] → links_from kind 0 bytes ≡ []
 no_markup kind bytes none = to_markup kind bytes ∙ ap (links_from kind 0) none
 
-pub next_markup : (kind : Option FeedKind) (bytes opened : List ℕ) → 60 ∷ opened ≡ behind (λ b. not (b == 60)) bytes →
+pub next_markup : (kind : Option FeedKind) (bytes opened : List ℕ) → 60 ∷ opened ≡ following (λ b. not (b == 60)) bytes →
     links_from kind 0 bytes ≡ markup_links (markup_of opened) (kind_after (markup_of opened) kind (take (markup_len opened) opened)) (take (markup_len opened) opened) (drop (markup_len opened) opened)
     ++ links_from (kind_after (markup_of opened) kind (take (markup_len opened) opened)) 0 (drop (markup_len opened) opened)
 next_markup kind bytes opened here =
@@ -37,7 +37,7 @@ next_markup kind bytes opened here =
     ∙ ap (λ more. markup_links (markup_of opened) next (take (markup_len opened) opened) (drop (markup_len opened) opened) ++ more) (past next (markup_len opened) opened)
 
 -- likewise, with other names for what is read
-pub found_links : (kind next : Option FeedKind) (bytes opened tag more : List ℕ) (markup : Markup) (len : ℕ) → 60 ∷ opened ≡ behind (λ b. not (b == 60)) bytes →
+pub found_links : (kind next : Option FeedKind) (bytes opened tag more : List ℕ) (markup : Markup) (len : ℕ) → 60 ∷ opened ≡ following (λ b. not (b == 60)) bytes →
     markup ≡ markup_of opened → len ≡ markup_len opened → tag ≡ take len opened → more ≡ drop len opened → next ≡ kind_after markup kind tag →
     links_from kind 0 bytes ≡ markup_links markup next tag more ++ links_from next 0 more
 found_links kind next bytes opened tag more markup len here is size front_is back_is after_is =
@@ -48,7 +48,7 @@ found_links kind next bytes opened tag more markup len here is size front_is bac
 
 -- ---- the text of an element
 
-run_text : (run bytes : List ℕ) → text_from 0 run bytes ≡ text_from 0 (run ++ front (λ b. not (b == 60)) bytes) (behind (λ b. not (b == 60)) bytes)
+run_text : (run bytes : List ℕ) → text_from 0 run bytes ≡ text_from 0 (run ++ front (λ b. not (b == 60)) bytes) (following (λ b. not (b == 60)) bytes)
 run_text = collects_run (text_from 0) (λ b. not (b == 60)) (λ run b bytes inside. fails (b == 60) _ _ inside)
 
 text_past : (n : ℕ) (bytes : List ℕ) → text_from n [] bytes ≡ text_of (drop n bytes)
@@ -56,23 +56,23 @@ text_past zero bytes = refl
 text_past (suc n) [] = refl
 text_past (suc n) (b ∷ bytes) = text_past n bytes
 
-pub last_text : (bytes : List ℕ) → behind (λ b. not (b == 60)) bytes ≡ [] → text_of bytes ≡ unescaped bytes
+pub last_text : (bytes : List ℕ) → following (λ b. not (b == 60)) bytes ≡ [] → text_of bytes ≡ unescaped bytes
 last_text bytes none = run_text [] bytes ∙ ap (λ more. text_from 0 (front (λ b. not (b == 60)) bytes) more) none ∙ ap unescaped (front_all (λ b. not (b == 60)) bytes none)
 
-pub text_at_tag : (bytes run opened : List ℕ) → run ≡ front (λ b. not (b == 60)) bytes → 60 ∷ opened ≡ behind (λ b. not (b == 60)) bytes → is_tag (markup_of opened) ≡ true →
+pub text_at_tag : (bytes run opened : List ℕ) → run ≡ front (λ b. not (b == 60)) bytes → 60 ∷ opened ≡ following (λ b. not (b == 60)) bytes → is_tag (markup_of opened) ≡ true →
     text_of bytes ≡ unescaped run
 text_at_tag bytes run opened before here tag =
-    run_text [] bytes ∙ ap (λ r. text_from 0 r (behind (λ b. not (b == 60)) bytes)) (sym before) ∙ ap (text_from 0 run) (sym here)
+    run_text [] bytes ∙ ap (λ r. text_from 0 r (following (λ b. not (b == 60)) bytes)) (sym before) ∙ ap (text_from 0 run) (sym here)
     ∙ ap (λ l. unescaped run ++ l) (cond-true (is_tag (markup_of opened)) [] _ tag) ∙ append-nil (unescaped run)
 
-pub text_at_other : (bytes run opened : List ℕ) → run ≡ front (λ b. not (b == 60)) bytes → 60 ∷ opened ≡ behind (λ b. not (b == 60)) bytes → is_tag (markup_of opened) ≡ false →
+pub text_at_other : (bytes run opened : List ℕ) → run ≡ front (λ b. not (b == 60)) bytes → 60 ∷ opened ≡ following (λ b. not (b == 60)) bytes → is_tag (markup_of opened) ≡ false →
     text_of bytes ≡ unescaped run ++ (section_of (markup_of opened) opened ++ text_of (drop (markup_len opened) opened))
 text_at_other bytes run opened before here other =
-    run_text [] bytes ∙ ap (λ r. text_from 0 r (behind (λ b. not (b == 60)) bytes)) (sym before) ∙ ap (text_from 0 run) (sym here)
+    run_text [] bytes ∙ ap (λ r. text_from 0 r (following (λ b. not (b == 60)) bytes)) (sym before) ∙ ap (text_from 0 run) (sym here)
     ∙ ap (λ l. unescaped run ++ l) (cond-false (is_tag (markup_of opened)) [] _ other ∙ ap (λ l. section_of (markup_of opened) opened ++ l) (text_past (markup_len opened) opened))
 
 -- likewise, with other names for what is read
-pub more_text : (bytes run opened section more : List ℕ) (markup : Markup) (len : ℕ) → run ≡ front (λ b. not (b == 60)) bytes → 60 ∷ opened ≡ behind (λ b. not (b == 60)) bytes →
+pub more_text : (bytes run opened section more : List ℕ) (markup : Markup) (len : ℕ) → run ≡ front (λ b. not (b == 60)) bytes → 60 ∷ opened ≡ following (λ b. not (b == 60)) bytes →
     markup ≡ markup_of opened → is_tag markup ≡ false → section ≡ section_of markup opened → len ≡ markup_len opened → more ≡ drop len opened →
     text_of bytes ≡ (unescaped run ++ section) ++ text_of more
 more_text bytes run opened section more markup len before here is other section_at size back_is =
@@ -82,13 +82,13 @@ more_text bytes run opened section more markup len before here is other section_
 
 -- ---- lines
 
-run_line : (line bytes : List ℕ) → lines_from line bytes ≡ lines_from (line ++ front (λ b. not (b == 10)) bytes) (behind (λ b. not (b == 10)) bytes)
+run_line : (line bytes : List ℕ) → lines_from line bytes ≡ lines_from (line ++ front (λ b. not (b == 10)) bytes) (following (λ b. not (b == 10)) bytes)
 run_line = collects_run lines_from (λ b. not (b == 10)) (λ line b bytes inside. fails (b == 10) _ _ inside)
 
-pub last_line : (bytes : List ℕ) → behind (λ b. not (b == 10)) bytes ≡ [] → url_lines_of bytes ≡ text_links (trim_c0_control_and_space bytes)
+pub last_line : (bytes : List ℕ) → following (λ b. not (b == 10)) bytes ≡ [] → url_lines_of bytes ≡ text_links (trim_c0_control_and_space bytes)
 last_line bytes none = run_line [] bytes ∙ ap (λ more. lines_from (front (λ b. not (b == 10)) bytes) more) none ∙ ap (λ l. text_links (trim_c0_control_and_space l)) (front_all (λ b. not (b == 10)) bytes none)
 
-pub next_line : (bytes line more : List ℕ) → line ≡ front (λ b. not (b == 10)) bytes → 10 ∷ more ≡ behind (λ b. not (b == 10)) bytes →
+pub next_line : (bytes line more : List ℕ) → line ≡ front (λ b. not (b == 10)) bytes → 10 ∷ more ≡ following (λ b. not (b == 10)) bytes →
     url_lines_of bytes ≡ text_links (trim_c0_control_and_space line) ++ url_lines_of more
 next_line bytes line more before here =
-    run_line [] bytes ∙ ap (λ l. lines_from l (behind (λ b. not (b == 10)) bytes)) (sym before) ∙ ap (lines_from line) (sym here)
+    run_line [] bytes ∙ ap (λ l. lines_from l (following (λ b. not (b == 10)) bytes)) (sym before) ∙ ap (lines_from line) (sym here)

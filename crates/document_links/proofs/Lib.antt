@@ -1,4 +1,4 @@
-pub mod Behind
+pub mod After
 pub mod Feeding
 pub mod Fitting
 pub mod Marking

@@ -29,7 +29,7 @@ slash_step depth segment b bytes slash =
     cond-false (ends_path b) _ _ path ∙ cond-true (is_slash b) _ _ slash
 
 -- and any other byte that is not part of a segment ends the path
-end_step : (depth : ℕ) (segment behind : List ℕ) → StopsAt in_segment behind → begins_path behind ≡ false → below_after depth segment behind ≡ kept depth segment [] ++ behind
+end_step : (depth : ℕ) (segment following : List ℕ) → StopsAt in_segment following → begins_path following ≡ false → below_after depth segment following ≡ kept depth segment [] ++ following
 end_step depth segment [] stops none = sym (append-nil (kept depth segment []))
 end_step depth segment (b ∷ bytes) stops none =
     let path : ends_path b ≡ true = grind (arith, nat_tests) in
@@ -44,22 +44,22 @@ below_end depth rest none =
     below_cut depth [] rest ∙ end_step depth (take (prefix_len in_segment rest) rest) (drop (prefix_len in_segment rest) rest) (StopsAt-drop-prefix_len in_segment rest) none
 
 -- a text that begins with a slash is the slash and the rest
-pub at_slash : (behind : List ℕ) → begins_path behind ≡ true → (slash : ℕ) × (more : List ℕ) × (behind ≡ slash ∷ more) × (is_slash slash ≡ true)
+pub at_slash : (following : List ℕ) → begins_path following ≡ true → (slash : ℕ) × (more : List ℕ) × (following ≡ slash ∷ more) × (is_slash slash ≡ true)
 at_slash [] begins = absurd (true≢false (sym begins))
 at_slash (b ∷ bytes) begins = (b, bytes, refl, begins)
 
 -- ---- in the loop over the segments
 
 -- the text so far, after the last segment and the text after it are appended
-pub ended : (depth : ℕ) (rest segment behind old : List ℕ) → segment ≡ take (prefix_len in_segment rest) rest → behind ≡ drop (prefix_len in_segment rest) rest → begins_path behind ≡ false → (old ++ kept depth segment []) ++ behind ≡ old ++ below_after depth [] rest
-ended depth rest segment behind old front back none =
-    append_assoc old (kept depth segment []) behind
+pub ended : (depth : ℕ) (rest segment following old : List ℕ) → segment ≡ take (prefix_len in_segment rest) rest → following ≡ drop (prefix_len in_segment rest) rest → begins_path following ≡ false → (old ++ kept depth segment []) ++ following ≡ old ++ below_after depth [] rest
+ended depth rest segment following old front back none =
+    append_assoc old (kept depth segment []) following
     ∙ ap (λ l. old ++ l) ((λ i. kept depth (front i) [] ++ back i) ∙ sym (below_end depth rest (subst (λ l. begins_path l ≡ false) back none)))
 
 -- and after a segment and its slash are appended
-pub stepped : (depth : ℕ) (rest segment behind slash more old : List ℕ) → segment ≡ take (prefix_len in_segment rest) rest → behind ≡ drop (prefix_len in_segment rest) rest → begins_path behind ≡ true → slash ≡ take 1 behind → more ≡ drop 1 behind → (old ++ kept depth segment slash) ++ below_after (depth_after depth segment) [] more ≡ old ++ below_after depth [] rest
-stepped depth rest segment behind slash more old front back begins first others =
-    let (b, bytes, is, here) = at_slash behind begins in
+pub stepped : (depth : ℕ) (rest segment following slash more old : List ℕ) → segment ≡ take (prefix_len in_segment rest) rest → following ≡ drop (prefix_len in_segment rest) rest → begins_path following ≡ true → slash ≡ take 1 following → more ≡ drop 1 following → (old ++ kept depth segment slash) ++ below_after (depth_after depth segment) [] more ≡ old ++ below_after depth [] rest
+stepped depth rest segment following slash more old front back begins first others =
+    let (b, bytes, is, here) = at_slash following begins in
     let one : slash ≡ b ∷ [] = first ∙ ap (take 1) is in
     let left : more ≡ bytes = others ∙ ap (drop 1) is in
     append_assoc old (kept depth segment slash) (below_after (depth_after depth segment) [] more)
@@ -70,8 +70,8 @@ deeper depth segment =
     cond_both (dot_count segment == 2) (depth - 1) (cond (dot_count segment == 1) depth (depth + 1)) (λ n. n ≤ depth + 1) (λ up. omega arith)
     (λ other. cond_both (dot_count segment == 1) depth (depth + 1) (λ n. n ≤ depth + 1) (λ same. omega arith) (λ more. omega arith))
 
-pub fewer : (rest behind more : List ℕ) → behind ≡ drop (prefix_len in_segment rest) rest → begins_path behind ≡ true → more ≡ drop 1 behind → length more < length rest
-fewer rest behind more back begins others =
-    let (b, bytes, is, here) = at_slash behind begins in
+pub fewer : (rest following more : List ℕ) → following ≡ drop (prefix_len in_segment rest) rest → begins_path following ≡ true → more ≡ drop 1 following → length more < length rest
+fewer rest following more back begins others =
+    let (b, bytes, is, here) = at_slash following begins in
     let left : more ≡ bytes = others ∙ ap (drop 1) is in
     omega (arith, ap length left, ap length is, ap length back, length-drop (prefix_len in_segment rest) rest)

@@ -1,7 +1,7 @@
 -- Definitions over runs of bytes, and loops that append what they read.
 use Rattle.document_links.proofs.Prelude.{◌≡◌, ◌∙◌, ℕ, Bool, true, false, not, cond, List, [], ◌∷◌, ◌++◌, ◌||◌, refl, sym, ap, true≢false}
 use Rattle.std.proofs.Common.{append-nil, append_assoc}
-use Rattle.html_links.specs.Shown.{behind, front}
+use Rattle.html_links.specs.Shown.{following, front}
 
 run_at : {X : Type 0} (reads : List ℕ → List ℕ → X) (inside : Bool) (so_far : List ℕ) (b : ℕ) (bytes some more : List ℕ) →
     (inside ≡ true → reads so_far (b ∷ bytes) ≡ reads (so_far ++ b ∷ []) bytes) → reads (so_far ++ b ∷ []) bytes ≡ reads ((so_far ++ b ∷ []) ++ some) more →
@@ -12,10 +12,10 @@ run_at reads false so_far b bytes some more stays later = ap (λ l. reads l (b �
 -- a definition that collects one byte that passes a test collects a run of such bytes
 pub collects_run : {X : Type 0} (reads : List ℕ → List ℕ → X) (test : ℕ → Bool) →
     ((so_far : List ℕ) (b : ℕ) (bytes : List ℕ) → test b ≡ true → reads so_far (b ∷ bytes) ≡ reads (so_far ++ b ∷ []) bytes) →
-    (so_far bytes : List ℕ) → reads so_far bytes ≡ reads (so_far ++ front test bytes) (behind test bytes)
+    (so_far bytes : List ℕ) → reads so_far bytes ≡ reads (so_far ++ front test bytes) (following test bytes)
 collects_run reads test stays so_far [] = ap (λ l. reads l []) (sym (append-nil so_far))
 collects_run reads test stays so_far (b ∷ bytes) =
-    run_at reads (test b) so_far b bytes (front test bytes) (behind test bytes) (stays so_far b bytes) (collects_run reads test stays (so_far ++ b ∷ []) bytes)
+    run_at reads (test b) so_far b bytes (front test bytes) (following test bytes) (stays so_far b bytes) (collects_run reads test stays (so_far ++ b ∷ []) bytes)
 
 -- the last of several cases, if the tests before it fail
 

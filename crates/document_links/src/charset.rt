@@ -5,9 +5,9 @@ ghost use Rattle.document_links.specs.Places.{keeps_ascii};
 ghost use Rattle.document_links.specs.Written.{is_unicode};
 
 use crate::cleaning::trimmed;
-use crate::document_start::{START_LENGTH, behind_first, behind_front, start_of};
+use crate::document_start::{START_LENGTH, after_first, after_front, start_of};
+use crate::name_list::is_among;
 use crate::text_kind::TextKind;
-use crate::words::is_among;
 use memchr::memchr;
 use std::alloc::{AllocError, Global};
 
@@ -83,9 +83,9 @@ fn sheet_unmarked(body: &[u8]) -> Charset
 pub(crate) fn named_in_sheet(body: &[u8]) -> Option<&[u8]>
     ensures { IsSome result → bytes_eq (take 10 body.now) charset_rule ≡ true }
 {
-    let behind = body.strip_prefix(b"@charset \"")?;
-    let end = memchr(b'"', behind)?;
-    let (name, rest) = behind.split_at(end);
+    let following = body.strip_prefix(b"@charset \"")?;
+    let end = memchr(b'"', following)?;
+    let (name, rest) = following.split_at(end);
     if end < START_LENGTH && rest.starts_with(b"\";") {
         Some(name)
     } else {
@@ -131,11 +131,11 @@ fn charset_named(name: &[u8], body: &[u8]) -> Charset
 /// The name of the encoding that the start of a document declares, by the HTML Standard's prescan.
 pub(crate) fn declared(start: &[u8]) -> Option<&[u8]> {
     let mut rest = start;
-    while let Some(opened) = behind_byte(b'<', rest) {
-        let Some(behind) = behind_markup(opened) else {
+    while let Some(opened) = after_byte(b'<', rest) {
+        let Some(following) = after_markup(opened) else {
             return None;
         };
-        rest = behind;
+        rest = following;
         if let Some(name) = name_in_meta(opened) {
             return Some(name);
         }
@@ -144,36 +144,36 @@ pub(crate) fn declared(start: &[u8]) -> Option<&[u8]> {
 }
 
 /// The text after the first byte of this value.
-fn behind_byte(byte: u8, text: &[u8]) -> Option<&[u8]>
-    ensures { IfSome result (λ behind. length behind.now < length text.now) }
+fn after_byte(byte: u8, text: &[u8]) -> Option<&[u8]>
+    ensures { IfSome result (λ following. length following.now < length text.now) }
 {
     let index = memchr(byte, text)?;
     Some(&text[index + 1..])
 }
 
 /// The text after a comment, a tag or other markup, which starts after its `<`. `None` if the markup does not end.
-fn behind_markup(text: &[u8]) -> Option<&[u8]>
-    ensures { IfSome result (λ behind. length behind.now ≤ length text.now) }
+fn after_markup(text: &[u8]) -> Option<&[u8]>
+    ensures { IfSome result (λ following. length following.now ≤ length text.now) }
 {
     match text {
         // The first two dashes may be the last two.
-        [b'!', b'-', b'-', ..] => behind_first(&text[1..], b"-->"),
-        [b'A'..=b'Z' | b'a'..=b'z', ..] => behind_tag(text),
-        [b'/', b'A'..=b'Z' | b'a'..=b'z', ..] => behind_tag(&text[1..]),
-        [b'!' | b'/' | b'?', ..] => behind_byte(b'>', text),
+        [b'!', b'-', b'-', ..] => after_first(&text[1..], b"-->"),
+        [b'A'..=b'Z' | b'a'..=b'z', ..] => past_tag(text),
+        [b'/', b'A'..=b'Z' | b'a'..=b'z', ..] => past_tag(&text[1..]),
+        [b'!' | b'/' | b'?', ..] => after_byte(b'>', text),
         _ => Some(text),
     }
 }
 
 /// The text after a tag, which starts at its name. `None` if the tag does not end.
-fn behind_tag(text: &[u8]) -> Option<&[u8]>
-    ensures { IfSome result (λ behind. length behind.now ≤ length text.now) }
+fn past_tag(text: &[u8]) -> Option<&[u8]>
+    ensures { IfSome result (λ following. length following.now ≤ length text.now) }
 {
     let mut rest = &text[length_before(text, b"/>")..];
     while let Some(found) = next_attribute(rest) {
-        rest = found.behind;
+        rest = found.following;
     }
-    behind_byte(b'>', rest)
+    after_byte(b'>', rest)
 }
 
 /// The name of an encoding in a tag that ends, if the tag is a `meta`. It starts after its `<`.
@@ -202,8 +202,8 @@ fn name_in_content(tag: &[u8]) -> &[u8] {
 /// The name after the first `charset=`; empty if there is none.
 fn name_in_kind(kind: &[u8]) -> &[u8] {
     for index in 0..kind.len() {
-        if let Some(behind) = behind_front(&kind[index..], b"charset") {
-            if let [b'=', value @ ..] = behind.trim_ascii_start() {
+        if let Some(following) = after_front(&kind[index..], b"charset") {
+            if let [b'=', value @ ..] = following.trim_ascii_start() {
                 return split_value(value.trim_ascii_start(), b";").0;
             }
         }
@@ -216,7 +216,7 @@ fn name_in_kind(kind: &[u8]) -> &[u8] {
 struct Attribute<'a> {
     name: &'a [u8],
     value: &'a [u8],
-    behind: &'a [u8],
+    following: &'a [u8],
 }
 
 /// The value of a tag's first attribute of this name.
@@ -226,32 +226,32 @@ fn value_of<'a>(tag: &'a [u8], name: &[u8]) -> Option<&'a [u8]> {
         if found.name.eq_ignore_ascii_case(name) {
             return Some(found.value);
         }
-        rest = found.behind;
+        rest = found.following;
     }
     None
 }
 
 /// The next attribute of a tag, or a `/` as an attribute without a name. `None` at the end of the tag.
 fn next_attribute(text: &[u8]) -> Option<Attribute<'_>>
-    ensures { IfSome result (λ found. length found.behind.now < length text.now) }
+    ensures { IfSome result (λ found. length found.following.now < length text.now) }
 {
     match text.trim_ascii_start() {
         [] | [b'>', ..] => None,
-        [b'/', behind @ ..] => Some(Attribute {
+        [b'/', following @ ..] => Some(Attribute {
             name: &[],
             value: &[],
-            behind,
+            following,
         }),
         text => {
             let (name, rest) = text.split_at(1 + length_before(&text[1..], b"=/>"));
-            let (value, behind) = match rest.trim_ascii_start() {
+            let (value, following) = match rest.trim_ascii_start() {
                 [b'=', value @ ..] => split_value(value.trim_ascii_start(), b">"),
                 rest => rest.split_at(0),
             };
             Some(Attribute {
                 name,
                 value,
-                behind,
+                following,
             })
         }
     }

@@ -272,7 +272,7 @@ pub(crate) fn utf8_text(
     ensures text { IfOk result (λ new. IsTextIn charset body.now (text_in body.now new)) }
 {
     match charset {
-        Charset::Utf8 => mended(alloc, without_mark(body)),
+        Charset::Utf8 => with_replacements(alloc, without_mark(body)),
         Charset::Utf16Le | Charset::Utf16Be => {
             let text = from_utf16(alloc, body, charset == Charset::Utf16Le)?;
             Ok(Some(text))
@@ -289,7 +289,7 @@ pub(crate) fn utf8_text(
 }
 
 /// The bytes with U+FFFD in place of invalid UTF-8, or `None` if all bytes are valid.
-fn mended(alloc: Global, bytes: &[u8]) -> Result<Option<Vec<u8>>, AllocError>
+fn with_replacements(alloc: Global, bytes: &[u8]) -> Result<Option<Vec<u8>>, AllocError>
     ensures ascii { IsAscii bytes.now → IfOk result (λ new. IfSome new (λ text. text.items ≡ bytes.now)) }
     ensures text { IfOk result (λ new. MatchOption new (bytes.now ≡ utf8_lossy bytes.now) (λ text. text.items ≡ utf8_lossy bytes.now)) }
 {

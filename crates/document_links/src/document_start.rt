@@ -22,14 +22,14 @@ pub fn is_document(body: &[u8]) -> bool {
             b'x' | b'X',
             b'm' | b'M',
             b'l' | b'L',
-            behind @ ..,
-        ] => match memchr(b'>', behind) {
-            Some(end) => skip_spaces(&behind[end + 1..]),
+            following @ ..,
+        ] => match memchr(b'>', following) {
+            Some(end) => skip_spaces(&following[end + 1..]),
             None => text,
         },
         _ => text,
     };
-    begins_document(text) || has_document_behind_comment(text)
+    begins_document(text) || has_document_after_comment(text)
 }
 
 /// The document without the byte order mark of UTF-8.
@@ -38,7 +38,7 @@ pub(crate) fn without_mark(body: &[u8]) -> &[u8]
     ensures mark { result.now ≡ without_mark body.now }
 {
     match body {
-        [0xef, 0xbb, 0xbf, behind @ ..] => behind,
+        [0xef, 0xbb, 0xbf, following @ ..] => following,
         _ => body,
     }
 }
@@ -56,13 +56,13 @@ fn skip_spaces(bytes: &[u8]) -> &[u8]
 }
 
 /// Whether the text starts with a comment, and a document starts after the end of the comment or after a later `-->`.
-fn has_document_behind_comment(text: &[u8]) -> bool {
-    let Some(rest) = behind_front(text, b"<!--") else {
+fn has_document_after_comment(text: &[u8]) -> bool {
+    let Some(rest) = after_front(text, b"<!--") else {
         return false;
     };
     for end in memmem::find_iter(rest, b"-->") {
-        let behind = rest.get(end.saturating_add(3)..).unwrap_or(&[]);
-        if begins_document(skip_spaces(behind)) {
+        let following = rest.get(end.saturating_add(3)..).unwrap_or(&[]);
+        if begins_document(skip_spaces(following)) {
             return true;
         }
     }
@@ -70,29 +70,29 @@ fn has_document_behind_comment(text: &[u8]) -> bool {
 }
 
 /// The text after the first `needle`.
-pub(crate) fn behind_first<'a>(text: &'a [u8], needle: &[u8]) -> Option<&'a [u8]>
+pub(crate) fn after_first<'a>(text: &'a [u8], needle: &[u8]) -> Option<&'a [u8]>
     requires { 0 < length needle.now }
-    ensures { IfSome result (λ behind. length behind.now < length text.now) }
+    ensures { IfSome result (λ following. length following.now < length text.now) }
 {
     let index = memmem::find(text, needle)?;
-    let behind = text.get(index + needle.len()..)?;
-    Some(behind)
+    let following = text.get(index + needle.len()..)?;
+    Some(following)
 }
 
 /// Whether the bytes begin with the word `<html` or `<!doctype html`.
 fn begins_document(text: &[u8]) -> bool {
-    let word = match behind_front(text, b"<!doctype") {
-        Some(behind) => {
-            let word = skip_spaces(behind);
-            if word.len() == behind.len() {
+    let word = match after_front(text, b"<!doctype") {
+        Some(following) => {
+            let word = skip_spaces(following);
+            if word.len() == following.len() {
                 return false;
             }
-            behind_front(word, b"html")
+            after_front(word, b"html")
         }
-        None => behind_front(text, b"<html"),
+        None => after_front(text, b"<html"),
     };
     match word {
-        Some(behind) => !behind
+        Some(following) => !following
             .first()
             .is_some_and(|byte| byte.is_ascii_alphanumeric() || *byte == b'_'),
         None => false,
@@ -100,13 +100,13 @@ fn begins_document(text: &[u8]) -> bool {
 }
 
 /// The text after `text`, if the bytes begin with it, in any case.
-pub(crate) fn behind_front<'a>(bytes: &'a [u8], text: &[u8]) -> Option<&'a [u8]> {
+pub(crate) fn after_front<'a>(bytes: &'a [u8], text: &[u8]) -> Option<&'a [u8]> {
     if bytes.len() < text.len() {
         return None;
     }
-    let (front, behind) = bytes.split_at(text.len());
+    let (front, following) = bytes.split_at(text.len());
     if front.eq_ignore_ascii_case(text) {
-        Some(behind)
+        Some(following)
     } else {
         None
     }

@@ -14,6 +14,7 @@ mod line_text;
 mod link_texts;
 mod link_writer;
 mod markup;
+mod name_list;
 mod page_base;
 mod places;
 mod points;
@@ -28,7 +29,6 @@ mod text_kind;
 mod unescaped;
 mod unknown;
 mod url_list;
-mod words;
 
 pub use anchors::{AnchorLink, AnchorTargets, Anchors, PageAnchors, Target};
 pub use document::{Document, ReadOptions, read_document};

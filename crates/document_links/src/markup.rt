@@ -2,7 +2,7 @@
 ghost use Rattle.std.specs.Prelude.{◌≡◌, ◌≤◌, length};
 ghost use Rattle.document_links.specs.Markup.{before, is_end, is_quote, is_tag, len_of, markup_len, markup_of, quote_after, section_of, tag_len, through};
 
-use crate::bytes::{behind_front, parts};
+use crate::bytes::{after_front, parts};
 use memchr::memmem;
 
 /// What begins with a `<`.
@@ -135,7 +135,7 @@ pub(crate) fn section_of(markup: Markup, bytes: &[u8]) -> &[u8]
     ensures { result.now ≡ section_of markup bytes.now }
 {
     match markup {
-        Markup::Section => behind_front(8, &bytes[..before(b"]]>", bytes)]),
+        Markup::Section => after_front(8, &bytes[..before(b"]]>", bytes)]),
         _ => &[],
     }
 }

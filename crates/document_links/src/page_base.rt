@@ -77,7 +77,7 @@ pub(crate) fn meaning_of(
 {
     match base {
         PageBase::Url(url) => meaning_at(alloc, url, text),
-        PageBase::Scheme(front) => meaning_behind(alloc, front.as_slice(), text),
+        PageBase::Scheme(front) => meaning_after(alloc, front.as_slice(), text),
         PageBase::None => Ok(LinkMeaning::Same),
     }
 }
@@ -91,7 +91,7 @@ fn meaning_at(alloc: Global, base: &Base, text: &[u8]) -> Result<LinkMeaning, Al
 }
 
 /// The meaning of a link whose base has another scheme, which is put before a link without one.
-fn meaning_behind(alloc: Global, front: &[u8], text: &[u8]) -> Result<LinkMeaning, AllocError> {
+fn meaning_after(alloc: Global, front: &[u8], text: &[u8]) -> Result<LinkMeaning, AllocError> {
     if scheme_of(text).is_some() {
         return Ok(LinkMeaning::Same);
     }

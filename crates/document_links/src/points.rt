@@ -85,7 +85,7 @@ fn known_at(text: &[u8], known: KnownPoint, index: usize) -> KnownPoint
 }
 
 /// The point at a position, from the same point or an earlier one.
-#[tactic(auto, using(crate::proofs::Behind::column_below, crate::proofs::Behind::taken_on))]
+#[tactic(auto, using(crate::proofs::After::column_below, crate::proofs::After::taken_on))]
 fn known_on(text: &[u8], known: KnownPoint, index: usize) -> KnownPoint
     requires order { known.index ≤ index }
     requires within { index ≤ length text.now }
@@ -93,12 +93,12 @@ fn known_on(text: &[u8], known: KnownPoint, index: usize) -> KnownPoint
     ensures index { result.index ≡ index }
     ensures known { result.point ≡ point_at text.now index }
 {
-    let point = behind(known.point, &text[known.index..index]);
+    let point = following(known.point, &text[known.index..index]);
     KnownPoint { index, point }
 }
 
 /// The point after these bytes, if this is the point before them.
-fn behind(point: Point, bytes: &[u8]) -> Point
+fn following(point: Point, bytes: &[u8]) -> Point
     requires line { point.line + length bytes.now < 2 ^ 64 }
     requires column { point.column + length bytes.now < 2 ^ 64 }
     ensures { (front : List ℕ) → point ≡ point_of front → result ≡ point_of (front ++ bytes.now) }
@@ -123,9 +123,9 @@ fn line_feeds(bytes: &[u8]) -> usize
     let mut count = 0;
     let mut rest = bytes;
     'runs: while !rest.is_empty() {
-        let (run, behind) = rest.split_at(rest.len().min(RUN));
+        let (run, following) = rest.split_at(rest.len().min(RUN));
         count += usize::from(feeds_in_run(run));
-        rest = behind;
+        rest = following;
     }
     count
 }

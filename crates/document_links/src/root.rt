@@ -181,12 +181,12 @@ fn push_below(path: &[u8], out: &mut Vec<u8>) -> Result<(), AllocError>
     let mut depth = 0;
     let mut rest = path;
     'segments: loop {
-        let (segment, behind) = split_segment(rest);
-        if !begins_path(behind) {
+        let (segment, following) = split_segment(rest);
+        if !begins_path(following) {
             push_kept(depth, segment, &[], out)?;
-            return out.extend_from_slice(behind);
+            return out.extend_from_slice(following);
         }
-        let (slash, more) = behind.split_at(1);
+        let (slash, more) = following.split_at(1);
         push_kept(depth, segment, slash, out)?;
         depth = depth_after(depth, segment);
         rest = more;
@@ -196,7 +196,7 @@ fn push_below(path: &[u8], out: &mut Vec<u8>) -> Result<(), AllocError>
 /// The first segment of a path, and the text after it.
 fn split_segment(path: &[u8]) -> (&[u8], &[u8])
     ensures segment { result.0.now ≡ take (prefix_len in_segment path.now) path.now }
-    ensures behind { result.1.now ≡ drop (prefix_len in_segment path.now) path.now }
+    ensures following { result.1.now ≡ drop (prefix_len in_segment path.now) path.now }
 {
     path.split_at(segment_len(path))
 }

@@ -3,7 +3,7 @@ ghost use Rattle.std.specs.Prelude.{◌≡◌, ◌≤◌, length, option_map};
 ghost use Rattle.url.specs.Scheme as spec;
 ghost use Rattle.document_links.specs.Schemes.{invalid_kind, is_known, is_local, is_web, kind_by, scheme_of};
 
-use crate::words::is_among;
+use crate::name_list::is_among;
 
 /// The known schemes of links other than `http`, `https` and `file`: registered ones, and others in use. The most frequent ones
 /// come first, because the list is searched from its start.

@@ -2,7 +2,7 @@
 ghost use Rattle.std.specs.Prelude.{◌≡◌, ◌<◌, ◌==◌, ℕ, List, [], drop, length, not, MatchOption, if◌then◌else◌, option_map, take_while};
 ghost use Rattle.std.specs.Str.{bytes_eq};
 ghost use Rattle.url.specs.Input.{rsplit_once, trim_end};
-ghost use Rattle.html_links.specs.Shown.{Stopped, behind, front};
+ghost use Rattle.html_links.specs.Shown.{Stopped, following, front};
 ghost use Rattle.document_links.specs.Markup.{closes, in_name, is_gap, is_unquoted, last_name, local_name, name_before, value_from, value_of};
 
 use crate::bytes::{parts, split_byte};
@@ -12,7 +12,7 @@ use memchr::memchr2;
 pub(crate) fn local_name(tag: &[u8]) -> &[u8]
     ensures { result.now ≡ local_name tag.now }
 {
-    behind_colon(first_name(tag))
+    after_colon(first_name(tag))
 }
 
 /// The bytes at the front that are a name.
@@ -31,7 +31,7 @@ fn name_len(tag: &[u8]) -> usize
 }
 
 /// The text after the last colon of a name, or the whole name if it has no colon.
-fn behind_colon(name: &[u8]) -> &[u8]
+fn after_colon(name: &[u8]) -> &[u8]
     ensures { result.now ≡ (rsplit_once 58 name.now).1 }
 {
     match name.iter().rposition(|byte| *byte == b':') {
@@ -77,7 +77,7 @@ pub(crate) fn value_of<'a>(name: &[u8], tag: &'a [u8]) -> Option<TagValue<'a>>
         if name_before(found.since) == name {
             return Some(found.value);
         }
-        rest = found.behind;
+        rest = found.following;
     }
     None
 }
@@ -87,28 +87,28 @@ pub(crate) fn value_of<'a>(name: &[u8], tag: &'a [u8]) -> Option<TagValue<'a>>
 struct Quoted<'a> {
     since: &'a [u8],
     value: TagValue<'a>,
-    behind: &'a [u8],
+    following: &'a [u8],
 }
 
 /// The next text in quotes.
 #[tactic(auto, using(crate::proofs::Marking::no_value))]
 fn next_value(bytes: &[u8]) -> Option<Quoted<'_>>
     ensures reads { MatchOption result ((name : List ℕ) → value_from name 0 [] bytes.now ≡ None)
-        (λ found. (name : List ℕ) → value_from name 0 [] bytes.now ≡ (if bytes_eq (name_before found.since.now) name then Some found.value.text.now else value_from name 0 [] found.behind.now)) }
-    ensures leaves { MatchOption result ((name : List ℕ) → value_from name 0 [] bytes.now ≡ None) (λ found. length found.behind.now < length bytes.now) }
+        (λ found. (name : List ℕ) → value_from name 0 [] bytes.now ≡ (if bytes_eq (name_before found.since.now) name then Some found.value.text.now else value_from name 0 [] found.following.now)) }
+    ensures leaves { MatchOption result ((name : List ℕ) → value_from name 0 [] bytes.now ≡ None) (λ found. length found.following.now < length bytes.now) }
 {
     let (since, quoted) = split_quote(bytes);
     let Some((quote, inner)) = parts(quoted) else {
         return None;
     };
-    let (text, behind) = before_quote(quote, inner);
+    let (text, following) = before_quote(quote, inner);
     Some(Quoted {
         since,
         value: TagValue {
             text,
             left: inner.len(),
         },
-        behind,
+        following,
     })
 }
 
@@ -116,7 +116,7 @@ fn next_value(bytes: &[u8]) -> Option<Quoted<'_>>
 #[tactic(auto, using(html_links::proofs::Jumps::stopped))]
 fn split_quote(bytes: &[u8]) -> (&[u8], &[u8])
     ensures since { result.0.now ≡ front is_unquoted bytes.now }
-    ensures quoted { result.1.now ≡ behind is_unquoted bytes.now }
+    ensures quoted { result.1.now ≡ following is_unquoted bytes.now }
     ensures stopped { Stopped is_unquoted result.1.now }
 {
     match memchr2(b'"', b'\'', bytes) {
@@ -129,10 +129,10 @@ fn split_quote(bytes: &[u8]) -> (&[u8], &[u8])
 #[tactic(auto, using(html_links::proofs::Sources::front_all))]
 fn before_quote(quote: u8, bytes: &[u8]) -> (&[u8], &[u8])
     ensures text { result.0.now ≡ front (λ b. not (b == quote)) bytes.now }
-    ensures behind { result.1.now ≡ drop 1 (behind (λ b. not (b == quote)) bytes.now) }
+    ensures following { result.1.now ≡ drop 1 (following (λ b. not (b == quote)) bytes.now) }
 {
     match split_byte(quote, bytes) {
-        Some((text, behind)) => (text, behind),
+        Some((text, following)) => (text, following),
         None => (bytes, &[]),
     }
 }

@@ -3,10 +3,10 @@ ghost use Rattle.std.specs.Prelude.{◌≡◌, ◌≤◌, ◌++◌, [], length, 
 ghost use Rattle.std.specs.Option.{option_and_then};
 ghost use Rattle.std.specs.Char.{encode_utf8};
 ghost use Rattle.html_links.specs.References.{digit_in, number_after};
-ghost use Rattle.html_links.specs.Shown.{behind, front, Stopped};
+ghost use Rattle.html_links.specs.Shown.{following, front, Stopped};
 ghost use Rattle.document_links.specs.Unescaped.{Reference, character_named, character_of, in_reference, meaning_of, number_from, number_of, unescaped, unescaped_from};
 
-use crate::bytes::{behind_byte, behind_front, parts, split_byte};
+use crate::bytes::{after_byte, after_front, parts, split_byte};
 use memchr::memchr2;
 use std::alloc::AllocError;
 
@@ -32,7 +32,7 @@ fn push_reference<'a>(bytes: &'a [u8], out: &mut Vec<u8>) -> Result<&'a [u8], Al
     ensures leaves { IfOk result (λ rest. length rest.now ≤ length bytes.now) }
 {
     let (name, more) = split_name(bytes);
-    match behind_byte(b';', more) {
+    match after_byte(b';', more) {
         Some(rest) => {
             push_meaning(name, out)?;
             Ok(rest)
@@ -49,7 +49,7 @@ fn push_reference<'a>(bytes: &'a [u8], out: &mut Vec<u8>) -> Result<&'a [u8], Al
 #[tactic(auto, using(html_links::proofs::Jumps::stopped))]
 fn split_name(bytes: &[u8]) -> (&[u8], &[u8])
     ensures name { result.0.now ≡ front in_reference bytes.now }
-    ensures rest { result.1.now ≡ behind in_reference bytes.now }
+    ensures rest { result.1.now ≡ following in_reference bytes.now }
     ensures stopped { Stopped in_reference result.1.now }
 {
     match memchr2(b';', b'&', bytes) {
@@ -116,9 +116,9 @@ fn number_of(name: &[u8]) -> Option<u64>
     ensures { result ≡ number_of name.now }
 {
     if name.starts_with(b"#x") {
-        number_in(16, behind_front(2, name))
+        number_in(16, after_front(2, name))
     } else if name.starts_with(b"#") {
-        number_in(10, behind_front(1, name))
+        number_in(10, after_front(1, name))
     } else {
         None
     }

@@ -93,8 +93,8 @@ fn is_absolute(text: &[u8]) -> bool {
     let text = trimmed(text);
     match scheme_of(text) {
         Some(scheme) => {
-            let behind = text.get(scheme.len().saturating_add(1)..).unwrap_or(&[]);
-            !is_web(Some(scheme)) || names_host(behind)
+            let following = text.get(scheme.len().saturating_add(1)..).unwrap_or(&[]);
+            !is_web(Some(scheme)) || names_host(following)
         }
         None => false,
     }

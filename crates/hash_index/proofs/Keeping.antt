@@ -1,10 +1,10 @@
 -- What a hash index keeps, and what a search of it finds.
-use Rattle.hash_index.proofs.Prelude.{◌≡◌, inl, inr, ℕ, ◌+◌, ◌<◌, ◌≤◌, Bool, true, false, List, [], ◌∷◌, ◌++◌, length, map, take, get_or, slice_get, Option, Some, None, IfSome, Result, Ok, Err, IfOk, refl, sym, ap, subst, ◌∙◌, arith, bytes_eq, unwrap_or, both_ways, false_from_ne_true, take_more, length-take-le, map-append, index_of, stands_at, AreApart, AreTaken, IsFirstVacant, IsInSlots, Misses, IsBeside, IsKept, AreKept, IsIndexOf, HashIndex}
+use Rattle.hash_index.proofs.Prelude.{◌≡◌, inl, inr, ℕ, ◌+◌, ◌<◌, ◌≤◌, Bool, true, false, List, [], ◌∷◌, ◌++◌, length, map, take, get_or, slice_get, Option, Some, None, IfSome, Result, Ok, Err, IfOk, refl, sym, ap, subst, ◌∙◌, arith, bytes_eq, unwrap_or, both_ways, false_from_ne_true, take_more, length-take-le, map-append, index_of, has_text_at, AreApart, AreTaken, IsFirstVacant, IsInSlots, Misses, IsInOverflow, IsKept, AreKept, IsIndexOf, HashIndex}
 use Rattle.std.specs.BTreeMap.{get, get_by_text}
 use Rattle.std.specs.Ordering.{nat_cmp}
 use Rattle.std.proofs.lemmas.Option.{slice_get-get_or}
 use Rattle.hash_index.specs.declared.overflow.Overflow.{Overflow}
-use Rattle.hash_index.proofs.Listed.{same_text, push_cases, slice_get_take, stands_there, found_at, stands_first, AreApart-push}
+use Rattle.hash_index.proofs.Listed.{same_text, push_cases, slice_get_take, has_text_there, found_at, there_first, AreApart-push}
 
 -- ---- the overflow
 
@@ -13,37 +13,37 @@ pub was_kept : (o : Option ℕ) (index kept k : ℕ) → kept ≡ unwrap_or o in
 was_kept o index kept k is at = is ∙ ap (λ o. unwrap_or o index) at
 
 -- no index in the overflow passes if neither the first of the hash nor that of the text passes
-pub misses_beside : (passes : ℕ → Bool) (overflow : Overflow) (hash : ℕ) (text : List ℕ) (index first : ℕ) → first ≡ unwrap_or (get nat_cmp overflow.by_hash hash) index
-    → passes first ≡ false → ((k : ℕ) → get_by_text overflow.by_text text ≡ Some k → passes k ≡ false) → (k : ℕ) → IsBeside overflow hash text k → passes k ≡ false
-misses_beside passes overflow hash text index first is other own k beside = grind (arith, was_kept)
+pub misses_in_overflow : (passes : ℕ → Bool) (overflow : Overflow) (hash : ℕ) (text : List ℕ) (index first : ℕ) → first ≡ unwrap_or (get nat_cmp overflow.by_hash hash) index
+    → passes first ≡ false → ((k : ℕ) → get_by_text overflow.by_text text ≡ Some k → passes k ≡ false) → (k : ℕ) → IsInOverflow overflow hash text k → passes k ≡ false
+misses_in_overflow passes overflow hash text index first is other own k in_overflow = grind (arith, was_kept)
 
 -- if the text is not at the index that is kept for it, changing that index keeps each index whose text is in the list
-pub text_stays : (texts : List (List ℕ)) (old new : List ℕ → Option ℕ) (key : List ℕ) (index kept : ℕ) → kept ≡ unwrap_or (old key) index → stands_at texts kept key ≡ false
+pub text_stays : (texts : List (List ℕ)) (old new : List ℕ → Option ℕ) (key : List ℕ) (index kept : ℕ) → kept ≡ unwrap_or (old key) index → has_text_at texts kept key ≡ false
     → ((other : List ℕ) (k : ℕ) → bytes_eq key other ≡ false → old other ≡ Some k → new other ≡ Some k)
-    → (other : List ℕ) (k : ℕ) → old other ≡ Some k → stands_at texts k other ≡ true → new other ≡ Some k
-text_stays texts old new key index kept is not_there others other k at stands = by_text (bytes_eq key other) refl
+    → (other : List ℕ) (k : ℕ) → old other ≡ Some k → has_text_at texts k other ≡ true → new other ≡ Some k
+text_stays texts old new key index kept is not_there others other k at is_there = by_text (bytes_eq key other) refl
   where
     by_text : (b : Bool) → bytes_eq key other ≡ b → new other ≡ Some k
     by_text false differs = others other k differs at
     by_text true same =
         let own : other ≡ key = sym (same_text key other same) in
         let there : kept ≡ k = was_kept _ index kept k is (subst (λ u. old u ≡ Some k) own at) in
-        absurd (both_ways _ not_there (subst (λ n. stands_at texts n key ≡ true) (sym there) (subst (λ u. stands_at texts k u ≡ true) own stands)))
+        absurd (both_ways _ not_there (subst (λ n. has_text_at texts n key ≡ true) (sym there) (subst (λ u. has_text_at texts k u ≡ true) own is_there)))
 
 -- ---- what stays kept
 
 -- an index stays kept if neither the slots nor the overflow lose it
 pub stays : (old new : HashIndex) (hash : ℕ) (text : List ℕ) (k : ℕ) → (IsInSlots old.slots hash k → IsInSlots new.slots hash k)
-    → (AreTaken old.slots hash 8 → AreTaken new.slots hash 8) → (IsBeside old.overflow hash text k → IsBeside new.overflow hash text k) → IsKept old hash text k → IsKept new hash text k
-stays old new hash text k slots taken beside (inl held) = inl (slots held)
-stays old new hash text k slots taken beside (inr (full, at)) = inr (taken full, beside at)
+    → (AreTaken old.slots hash 8 → AreTaken new.slots hash 8) → (IsInOverflow old.overflow hash text k → IsInOverflow new.overflow hash text k) → IsKept old hash text k → IsKept new hash text k
+stays old new hash text k slots taken in_overflow (inl held) = inl (slots held)
+stays old new hash text k slots taken in_overflow (inr (full, at)) = inr (taken full, in_overflow at)
 
 -- no kept index passes if the hash's slots miss, and one of them is vacant or the overflow misses too
 pub misses_vacant : (passes : ℕ → Bool) (table : HashIndex) (hash : ℕ) (text : List ℕ) (slot : ℕ) → IsFirstVacant table.slots hash slot → Misses passes table.slots hash
     → (k : ℕ) → IsKept table hash text k → passes k ≡ false
 misses_vacant passes table hash text slot first misses k h8 = grind arith
 
-pub misses_full : (passes : ℕ → Bool) (table : HashIndex) (hash : ℕ) (text : List ℕ) → Misses passes table.slots hash → ((k : ℕ) → IsBeside table.overflow hash text k → passes k ≡ false)
+pub misses_full : (passes : ℕ → Bool) (table : HashIndex) (hash : ℕ) (text : List ℕ) → Misses passes table.slots hash → ((k : ℕ) → IsInOverflow table.overflow hash text k → passes k ≡ false)
     → (k : ℕ) → IsKept table hash text k → passes k ≡ false
 misses_full passes table hash text misses others k h7 = grind arith
 
@@ -51,24 +51,24 @@ misses_full passes table hash text misses others k h7 = grind arith
 
 module _ (hash : List ℕ → ℕ) (texts : List (List ℕ)) (table : HashIndex) (key : List ℕ) (is : IsIndexOf hash texts table) where
   -- if the text is at no index that is kept for it, it is at none
-  pub none_found : ((k : ℕ) → IsKept table (hash key) key k → stands_at texts k key ≡ false) → index_of texts key ≡ None
+  pub none_found : ((k : ℕ) → IsKept table (hash key) key k → has_text_at texts k key ≡ false) → index_of texts key ≡ None
   none_found never = by_index (index_of texts key) refl
     where
       by_index : (o : Option ℕ) → index_of texts key ≡ o → o ≡ None
       by_index None found = refl
       by_index (Some k) found =
           let at = found_at texts key k found in
-          absurd (both_ways _ (never k (is.1 k key at)) (stands_there texts k key at))
+          absurd (both_ways _ (never k (is.1 k key at)) (has_text_there texts k key at))
 
-  pub answers : (o : Option ℕ) → IfSome o (λ k. stands_at texts k key ≡ true) → (o ≡ None → (k : ℕ) → IsKept table (hash key) key k → stands_at texts k key ≡ false) → o ≡ index_of texts key
+  pub answers : (o : Option ℕ) → IfSome o (λ k. has_text_at texts k key ≡ true) → (o ≡ None → (k : ℕ) → IsKept table (hash key) key k → has_text_at texts k key ≡ false) → o ≡ index_of texts key
   answers None found never = sym (none_found (never refl))
-  answers (Some k) found never = sym (stands_first texts key k is.0 found)
+  answers (Some k) found never = sym (there_first texts key k is.0 found)
 
   -- ---- the index of the list, and of the list with one more text
 
   -- it is the index of the list if each index whose text is in the list stays kept
-  pub index_stays : (new : HashIndex) → ((text : List ℕ) (k : ℕ) → IsKept table (hash text) text k → stands_at texts k text ≡ true → IsKept new (hash text) text k) → IsIndexOf hash texts new
-  index_stays new stay = (is.0, λ k text at. stay text k (is.1 k text at) (stands_there texts k text at))
+  pub index_stays : (new : HashIndex) → ((text : List ℕ) (k : ℕ) → IsKept table (hash text) text k → has_text_at texts k text ≡ true → IsKept new (hash text) text k) → IsIndexOf hash texts new
+  index_stays new stay = (is.0, λ k text at. stay text k (is.1 k text at) (has_text_there texts k text at))
 
   pub index_pushed : index_of texts key ≡ None → IsKept table (hash key) key (length texts) → IsIndexOf hash (texts ++ key ∷ []) table
   index_pushed none own = (
@@ -85,14 +85,14 @@ pub pushed_item : {X : Type 0} (text : X → List ℕ) (hash : List ℕ → ℕ)
 pushed_item text hash table items longer item is known = grind (arith, map-append)
 
 -- if all slots of the hash are taken, the maps of the overflow decide the result of a search
-module _ (hash : List ℕ → ℕ) (texts : List (List ℕ)) (old new : HashIndex) (key : List ℕ) (was : IsIndexOf hash texts old) (misses : Misses (λ k. stands_at texts k key) old.slots (hash key)) where
-  pub found_beside : {E : Type 0} (r : Result (Option ℕ) E) → IfOk r (λ o. IfSome o (λ k. stands_at texts k key ≡ true))
-      → IfOk r (λ o. o ≡ None → (k : ℕ) → IsBeside old.overflow (hash key) key k → stands_at texts k key ≡ false) → IfOk r (λ o. o ≡ index_of texts key)
-  found_beside (Ok o) found never = answers hash texts old key was o found (λ none. misses_full (λ k. stands_at texts k key) old (hash key) key misses (never none))
+module _ (hash : List ℕ → ℕ) (texts : List (List ℕ)) (old new : HashIndex) (key : List ℕ) (was : IsIndexOf hash texts old) (misses : Misses (λ k. has_text_at texts k key) old.slots (hash key)) where
+  pub found_beside : {E : Type 0} (r : Result (Option ℕ) E) → IfOk r (λ o. IfSome o (λ k. has_text_at texts k key ≡ true))
+      → IfOk r (λ o. o ≡ None → (k : ℕ) → IsInOverflow old.overflow (hash key) key k → has_text_at texts k key ≡ false) → IfOk r (λ o. o ≡ index_of texts key)
+  found_beside (Ok o) found never = answers hash texts old key was o found (λ none. misses_full (λ k. has_text_at texts k key) old (hash key) key misses (never none))
   found_beside (Err e) found never = tt
 
   pub pushed_beside : {E : Type 0} (r : Result (Option ℕ) E) → IsIndexOf hash texts new → AreTaken new.slots (hash key) 8 → IfOk r (λ o. o ≡ index_of texts key)
-      → IfOk r (λ o. o ≡ None → IsBeside new.overflow (hash key) key (length texts)) → IfOk r (λ o. o ≡ None → IsIndexOf hash (texts ++ key ∷ []) new)
+      → IfOk r (λ o. o ≡ None → IsInOverflow new.overflow (hash key) key (length texts)) → IfOk r (λ o. o ≡ None → IsIndexOf hash (texts ++ key ∷ []) new)
   pushed_beside (Ok o) is full found own = λ none. index_pushed hash texts new key is (sym found ∙ none) (inr (full, own none))
   pushed_beside (Err e) is full found own = tt
 

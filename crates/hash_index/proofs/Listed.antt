@@ -1,5 +1,5 @@
 -- Texts of a list and their indices.
-use Rattle.hash_index.proofs.Prelude.{◌≡◌, ◌⊎◌, inl, inr, ℕ, zero, suc, ◌<◌, Bool, true, false, List, [], ◌∷◌, ◌++◌, length, take, slice_get, Option, Some, None, is_some, refl, ap, subst, suc-le-suc, zero-le, arith, option_map, bytes_eq, both_ways, index_of, is_this, stands_at, AreApart}
+use Rattle.hash_index.proofs.Prelude.{◌≡◌, ◌⊎◌, inl, inr, ℕ, zero, suc, ◌<◌, Bool, true, false, List, [], ◌∷◌, ◌++◌, length, take, slice_get, Option, Some, None, is_some, refl, ap, subst, suc-le-suc, zero-le, arith, option_map, bytes_eq, both_ways, index_of, is_this, has_text_at, AreApart}
 use Rattle.std.specs.Bool.{if◌then◌else◌}
 use Rattle.std.specs.List.{list_any}
 use Rattle.std.proofs.lemmas.Slice.Eq.{bytes_eq-Decides}
@@ -21,15 +21,15 @@ slice_get_take (suc n) [] k x at = absurd (cc)
 slice_get_take (suc n) (y ∷ ys) zero x at = (suc-le-suc zero-le, at)
 slice_get_take (suc n) (y ∷ ys) (suc k) x at = let more = slice_get_take n ys k x at in (suc-le-suc more.0, more.1)
 
-pub at_index : (texts : List (List ℕ)) (k : ℕ) (key : List ℕ) → stands_at texts k key ≡ true → slice_get texts k ≡ Some key
-at_index texts k key stands = by_text (slice_get texts k) stands
+pub at_index : (texts : List (List ℕ)) (k : ℕ) (key : List ℕ) → has_text_at texts k key ≡ true → slice_get texts k ≡ Some key
+at_index texts k key is_there = by_text (slice_get texts k) is_there
   where
     by_text : (o : Option (List ℕ)) → is_this o key ≡ true → o ≡ Some key
     by_text None is = absurd (cc)
     by_text (Some text) is = ap Some (same_text text key is)
 
-pub stands_there : (texts : List (List ℕ)) (k : ℕ) (key : List ℕ) → slice_get texts k ≡ Some key → stands_at texts k key ≡ true
-stands_there texts k key at = grind (arith, bytes_eq-Decides)
+pub has_text_there : (texts : List (List ℕ)) (k : ℕ) (key : List ℕ) → slice_get texts k ≡ Some key → has_text_at texts k key ≡ true
+has_text_there texts k key at = grind (arith, bytes_eq-Decides)
 
 -- the text is at the index that `index_of` returns
 pub found_at : (texts : List (List ℕ)) (key : List ℕ) (k : ℕ) → index_of texts key ≡ Some k → slice_get texts k ≡ Some key
@@ -52,12 +52,12 @@ absent_at [] key none k at = cc
 absent_at (text ∷ texts) key none k at = grind (arith, both_ways, absent_at texts key, bytes_eq-Decides)
 
 -- the index at which the text is, is the one that it returns
-pub stands_first : (texts : List (List ℕ)) (key : List ℕ) (k : ℕ) → AreApart texts → stands_at texts k key ≡ true → index_of texts key ≡ Some k
-stands_first texts key k apart stands = by_index (index_of texts key) refl
+pub there_first : (texts : List (List ℕ)) (key : List ℕ) (k : ℕ) → AreApart texts → has_text_at texts k key ≡ true → index_of texts key ≡ Some k
+there_first texts key k apart is_there = by_index (index_of texts key) refl
   where
     by_index : (o : Option ℕ) → index_of texts key ≡ o → o ≡ Some k
-    by_index None found = absurd (absent_at texts key found k (at_index texts k key stands))
-    by_index (Some j) found = ap Some (apart j k key (found_at texts key j found) (at_index texts k key stands))
+    by_index None found = absurd (absent_at texts key found k (at_index texts k key is_there))
+    by_index (Some j) found = ap Some (apart j k key (found_at texts key j found) (at_index texts k key is_there))
 
 pub AreApart-push : (texts : List (List ℕ)) (key : List ℕ) → index_of texts key ≡ None → AreApart texts → AreApart (texts ++ key ∷ [])
 AreApart-push texts key none apart i k text at_i at_k = grind (arith, push_cases, absent_at)

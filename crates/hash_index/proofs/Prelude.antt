@@ -1,7 +1,7 @@
 -- The names that most proofs cite, passed on from one place. Declares nothing.
 pub use Rattle.hash_index.specs.Index.{AreKept, IsIndexOf, IsKept, with_slots}
-pub use Rattle.hash_index.specs.Lists.{AreApart, index_of, is_this, stands_at}
-pub use Rattle.hash_index.specs.Overflow.{IsBeside}
+pub use Rattle.hash_index.specs.Lists.{AreApart, index_of, is_this, has_text_at}
+pub use Rattle.hash_index.specs.Overflow.{IsInOverflow}
 pub use Rattle.hash_index.specs.Slots.{AreTaken, IsFirstVacant, IsInSlots, Misses, mark_of, no_slot, slot_of, word_at, word_of}
 pub use Rattle.hash_index.specs.declared.index.HashIndex.{HashIndex}
 pub use Rattle.std.proofs.Common.{Bool, Err, IfOk, IfSome, List, None, Ok, Option, Result, Some, [], ap, arith, bit_and, bit_xor, false, get_or, inl, inr, is_some, length, map, refl, rules, set, slice_get, string_bytes, subst, suc, suc-le-suc, sym, take, true, zero, zero-le, ℕ, ◌++◌, ◌+◌, ◌-◌, ◌<◌, ◌∙◌, ◌∷◌, ◌≡◌, ◌≢◌, ◌≤◌, ◌⊎◌}

@@ -2,12 +2,12 @@
 use Rattle.std.specs.Prelude.{◌≡◌, ◌⊎◌, ℕ, List, length, slice_get, Some}
 use Rattle.hash_index.specs.Lists.{AreApart}
 use Rattle.hash_index.specs.Slots.{AreTaken, IsInSlots, capacity_with}
-use Rattle.hash_index.specs.Overflow.{IsBeside}
+use Rattle.hash_index.specs.Overflow.{IsInOverflow}
 use Rattle.hash_index.specs.declared.index.HashIndex.{HashIndex}
 
 -- the index is kept for a text with this hash: in a slot of the hash or, if all slots of the hash are taken, in the overflow
 abbrev pub IsKept : HashIndex → ℕ → List ℕ → ℕ → Type 0
-IsKept table hash text index = IsInSlots table.slots hash index ⊎ ((AreTaken table.slots hash 8) × IsBeside table.overflow hash text index)
+IsKept table hash text index = IsInSlots table.slots hash index ⊎ ((AreTaken table.slots hash 8) × IsInOverflow table.overflow hash text index)
 
 -- for each text of the list, its index is kept
 abbrev pub AreKept : (List ℕ → ℕ) → List (List ℕ) → HashIndex → Type 0

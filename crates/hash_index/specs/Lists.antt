@@ -12,8 +12,8 @@ is_this None key = false
 is_this (Some text) key = bytes_eq text key
 
 -- the text at the index is this one
-abbrev pub stands_at : List (List ℕ) → ℕ → List ℕ → Bool
-stands_at texts index key = is_this (slice_get texts index) key
+abbrev pub has_text_at : List (List ℕ) → ℕ → List ℕ → Bool
+has_text_at texts index key = is_this (slice_get texts index) key
 
 -- no text is at two indices
 abbrev pub AreApart : List (List ℕ) → Type 0

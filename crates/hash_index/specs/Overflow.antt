@@ -5,6 +5,6 @@ use Rattle.std.specs.Ordering.{nat_cmp}
 use Rattle.hash_index.specs.declared.overflow.Overflow.{Overflow}
 
 -- this index is kept for the hash, or another is kept for the hash and this one for the text
-abbrev pub IsBeside : Overflow → ℕ → List ℕ → ℕ → Type 0
-IsBeside overflow hash text index =
+abbrev pub IsInOverflow : Overflow → ℕ → List ℕ → ℕ → Type 0
+IsInOverflow overflow hash text index =
     (first : ℕ) × (get nat_cmp overflow.by_hash hash ≡ Some first) × ((first ≡ index) ⊎ (get_by_text overflow.by_text text ≡ Some index))

@@ -2,10 +2,10 @@
 ghost use Rattle.std.specs.Prelude.{◌≡◌, ◌⊎◌, ℕ, List, Some, None, true, false, length, unwrap_or, IfOk, IfSome, bytes_eq};
 ghost use Rattle.std.specs.BTreeMap.{get, get_by_text};
 ghost use Rattle.std.specs.Ordering.{nat_cmp};
-ghost use Rattle.hash_index.specs.Lists.{stands_at};
-ghost use Rattle.hash_index.specs.Overflow.{IsBeside};
+ghost use Rattle.hash_index.specs.Lists.{has_text_at};
+ghost use Rattle.hash_index.specs.Overflow.{IsInOverflow};
 
-use crate::text_list::{TextList, stands_at};
+use crate::text_list::{TextList, has_text_at};
 use std::alloc::{AllocError, Global};
 use std::collections::BTreeMap;
 
@@ -33,11 +33,11 @@ impl Overflow {
 
     /// Returns the index of the text, which has this hash, or `None` if the list does not have it.
     pub fn find<L: TextList>(&self, list: &L, text: &str, hash: u64) -> Option<usize>
-        ensures found { IfSome result (λ index. stands_at (L.texts list.now) index text.now ≡ true) }
-        ensures missing { result ≡ None → (k : ℕ) → IsBeside self.now hash text.now k → stands_at (L.texts list.now) k text.now ≡ false }
+        ensures found { IfSome result (λ index. has_text_at (L.texts list.now) index text.now ≡ true) }
+        ensures missing { result ≡ None → (k : ℕ) → IsInOverflow self.now hash text.now k → has_text_at (L.texts list.now) k text.now ≡ false }
     {
         let first = *self.by_hash.get(&hash)?;
-        if stands_at(list, first, text) {
+        if has_text_at(list, first, text) {
             return Some(first);
         }
         find_text(list, &self.by_text, text)
@@ -45,7 +45,7 @@ impl Overflow {
 
     /// Returns the index of the text, which has this hash. If the list does not have it, the result is `None`, and the index that
     /// the list assigns next is kept for it.
-    #[tactic(auto, using(crate::proofs::Keeping::misses_beside))]
+    #[tactic(auto, using(crate::proofs::Keeping::misses_in_overflow))]
     pub fn find_or_insert<L: TextList>(
         &mut self,
         alloc: Global,
@@ -53,15 +53,15 @@ impl Overflow {
         text: &str,
         hash: u64,
     ) -> Result<Option<usize>, AllocError>
-        ensures found { IfOk result (λ found. IfSome found (λ index. stands_at (L.texts list.now) index text.now ≡ true)) }
-        ensures missing { IfOk result (λ found. found ≡ None → (k : ℕ) → IsBeside self.old hash text.now k → stands_at (L.texts list.now) k text.now ≡ false) }
-        ensures own { IfOk result (λ found. found ≡ None → IsBeside self.new hash text.now (length (L.texts list.now))) }
+        ensures found { IfOk result (λ found. IfSome found (λ index. has_text_at (L.texts list.now) index text.now ≡ true)) }
+        ensures missing { IfOk result (λ found. found ≡ None → (k : ℕ) → IsInOverflow self.old hash text.now k → has_text_at (L.texts list.now) k text.now ≡ false) }
+        ensures own { IfOk result (λ found. found ≡ None → IsInOverflow self.new hash text.now (length (L.texts list.now))) }
         // An index whose text is in the list stays kept, even after an error.
-        ensures stay { (other : List ℕ) (h k : ℕ) → IsBeside self.old h other k → stands_at (L.texts list.now) k other ≡ true → IsBeside self.new h other k }
+        ensures stay { (other : List ℕ) (h k : ℕ) → IsInOverflow self.old h other k → has_text_at (L.texts list.now) k other ≡ true → IsInOverflow self.new h other k }
     {
         let index = list.text_count();
         let first = hash_or_insert(&mut self.by_hash, hash, index)?;
-        if stands_at(list, first, text) {
+        if has_text_at(list, first, text) {
             return Ok(Some(first));
         }
         if first == index {
@@ -79,10 +79,10 @@ impl Overflow {
         hash: u64,
         index: usize,
     ) -> Result<(), AllocError>
-        ensures own { IfOk result (λ _. IsBeside self.new hash text.now index) }
+        ensures own { IfOk result (λ _. IsInOverflow self.new hash text.now index) }
         // What was kept stays kept, even after an error.
-        ensures again { IsBeside self.old hash text.now index → IsBeside self.new hash text.now index }
-        ensures others { (other : List ℕ) (h k : ℕ) → bytes_eq text.now other ≡ false → IsBeside self.old h other k → IsBeside self.new h other k }
+        ensures again { IsInOverflow self.old hash text.now index → IsInOverflow self.new hash text.now index }
+        ensures others { (other : List ℕ) (h k : ℕ) → bytes_eq text.now other ≡ false → IsInOverflow self.old h other k → IsInOverflow self.new h other k }
     {
         if hash_or_insert(&mut self.by_hash, hash, index)? == index {
             return Ok(());
@@ -106,11 +106,11 @@ fn hash_or_insert(
 
 /// Returns the index that is kept for the text, if the list has the text there.
 fn find_text<L: TextList>(list: &L, by_text: &BTreeMap<String, usize>, text: &str) -> Option<usize>
-    ensures found { IfSome result (λ index. stands_at (L.texts list.now) index text.now ≡ true) }
-    ensures missing { result ≡ None → (k : ℕ) → get_by_text by_text.now text.now ≡ Some k → stands_at (L.texts list.now) k text.now ≡ false }
+    ensures found { IfSome result (λ index. has_text_at (L.texts list.now) index text.now ≡ true) }
+    ensures missing { result ≡ None → (k : ℕ) → get_by_text by_text.now text.now ≡ Some k → has_text_at (L.texts list.now) k text.now ≡ false }
 {
     match by_text.get(text) {
-        Some(index) if stands_at(list, *index, text) => Some(*index),
+        Some(index) if has_text_at(list, *index, text) => Some(*index),
         _ => None,
     }
 }
@@ -124,14 +124,14 @@ fn find_text_or_insert<L: TextList>(
     list: &L,
     text: &str,
 ) -> Result<Option<usize>, AllocError>
-    ensures found { IfOk result (λ found. IfSome found (λ index. stands_at (L.texts list.now) index text.now ≡ true)) }
-    ensures missing { IfOk result (λ found. found ≡ None → (k : ℕ) → get_by_text by_text.old text.now ≡ Some k → stands_at (L.texts list.now) k text.now ≡ false) }
+    ensures found { IfOk result (λ found. IfSome found (λ index. has_text_at (L.texts list.now) index text.now ≡ true)) }
+    ensures missing { IfOk result (λ found. found ≡ None → (k : ℕ) → get_by_text by_text.old text.now ≡ Some k → has_text_at (L.texts list.now) k text.now ≡ false) }
     ensures own { IfOk result (λ found. found ≡ None → get_by_text by_text.new text.now ≡ Some (length (L.texts list.now))) }
-    ensures stay { (other : List ℕ) (k : ℕ) → get_by_text by_text.old other ≡ Some k → stands_at (L.texts list.now) k other ≡ true → get_by_text by_text.new other ≡ Some k }
+    ensures stay { (other : List ℕ) (k : ℕ) → get_by_text by_text.old other ≡ Some k → has_text_at (L.texts list.now) k other ≡ true → get_by_text by_text.new other ≡ Some k }
 {
     let index = list.text_count();
     let kept = text_or_insert(alloc, by_text, text, index)?;
-    if stands_at(list, kept, text) {
+    if has_text_at(list, kept, text) {
         return Ok(Some(kept));
     }
     if kept != index {

@@ -1,10 +1,10 @@
 //! A table of indices of a list, four bytes each, found by the hashes of the texts at these indices.
 ghost use Rattle.std.specs.Prelude.{◌≡◌, ◌≢◌, ◌<◌, ◌≤◌, ◌^◌, ℕ, true, false, length, set, IfOk, IfSome, IfNone};
-ghost use Rattle.hash_index.specs.Lists.{stands_at};
+ghost use Rattle.hash_index.specs.Lists.{has_text_at};
 ghost use Rattle.hash_index.specs.Slots as spec;
 ghost use Rattle.hash_index.specs.Slots.{slot_of, word_at, capacity_with, AreTaken, IsFirstVacant, IsInSlots, Misses};
 
-use crate::text_list::{TextList, stands_at};
+use crate::text_list::{TextList, has_text_at};
 use std::alloc::{AllocError, Global};
 use std::marker::Model;
 
@@ -26,7 +26,7 @@ pub const INDEX_LIMIT: usize = 1 << 31;
 /// mostly past the end of the list, so no text is compared in vain.
 #[derive(Debug, Drop)]
 pub struct Slots {
-    words: Vec<u32>,
+    numbers: Vec<u32>,
 }
 
 // Contracts see the numbers in the table.
@@ -35,7 +35,7 @@ impl Model for Slots {
 
     ghost Value = { List ℕ };
 
-    ghost view = { λ slots. slots.words.items };
+    ghost view = { λ slots. slots.numbers.items };
 }
 
 /// The result of a search in the slots.
@@ -52,7 +52,7 @@ impl Slots {
     /// Makes a table without slots. It takes no memory.
     pub fn none(alloc: Global) -> Slots {
         Slots {
-            words: Vec::new(alloc),
+            numbers: Vec::new(alloc),
         }
     }
 
@@ -61,12 +61,12 @@ impl Slots {
         ensures { IfOk result (λ slots. count ≤ capacity_with (length slots)) }
     {
         // A third of the slots stay vacant, so all slots of a hash are rarely taken.
-        let wanted = count.saturating_add(count.div_ceil(2)).max(BUCKET);
-        let Some(length) = wanted.checked_next_power_of_two() else {
+        let needed = count.saturating_add(count.div_ceil(2)).max(BUCKET);
+        let Some(length) = needed.checked_next_power_of_two() else {
             return Err(AllocError);
         };
         Ok(Slots {
-            words: vec![in alloc; VACANT; length]?,
+            numbers: vec![in alloc; VACANT; length]?,
         })
     }
 
@@ -74,21 +74,21 @@ impl Slots {
     pub fn capacity(&self) -> usize
         ensures { result ≡ capacity_with (length self.now) }
     {
-        let count = self.words.len();
+        let count = self.numbers.len();
         count - count.div_ceil(3)
     }
 
     /// Returns the allocator that the memory of the slots comes from.
     pub fn allocator(&self) -> Global {
-        *self.words.allocator()
+        *self.numbers.allocator()
     }
 
     /// Looks for the text, which has this hash, in the slots of the hash.
     #[tactic(auto, using(crate::proofs::Taking::misses_to))]
     pub fn search<L: TextList>(&self, list: &L, text: &str, hash: u64) -> Search
-        ensures found { (index : ℕ) → result ≡ Search.Found index → stands_at (L.texts list.now) index text.now ≡ true }
-        ensures vacant { (slot : ℕ) → result ≡ Search.Vacant slot → IsFirstVacant self.now hash slot × Misses (λ index. stands_at (L.texts list.now) index text.now) self.now hash }
-        ensures full { result ≡ Search.Full → AreTaken self.now hash 8 × Misses (λ index. stands_at (L.texts list.now) index text.now) self.now hash }
+        ensures found { (index : ℕ) → result ≡ Search.Found index → has_text_at (L.texts list.now) index text.now ≡ true }
+        ensures vacant { (slot : ℕ) → result ≡ Search.Vacant slot → IsFirstVacant self.now hash slot × Misses (λ index. has_text_at (L.texts list.now) index text.now) self.now hash }
+        ensures full { result ≡ Search.Full → AreTaken self.now hash 8 × Misses (λ index. has_text_at (L.texts list.now) index text.now) self.now hash }
     {
         for number in 0..BUCKET {
             let word = self.word(hash, number);
@@ -96,7 +96,7 @@ impl Slots {
                 return Search::Vacant(self.slot(hash, number));
             }
             let index = index_in(hash, word);
-            if stands_at(list, index, text) {
+            if has_text_at(list, index, text) {
                 return Search::Found(index);
             }
         }
@@ -175,8 +175,8 @@ impl Slots {
     {
         let word = word_of(hash, index);
         // Always true, since the slot is one of the table.
-        if slot < self.words.len() {
-            self.words[slot] = word;
+        if slot < self.numbers.len() {
+            self.numbers[slot] = word;
         }
     }
 
@@ -184,7 +184,7 @@ impl Slots {
     fn word(&self, hash: u64, number: usize) -> u32
         ensures { result ≡ word_at self.now hash number }
     {
-        match self.words.get(self.slot(hash, number)) {
+        match self.numbers.get(self.slot(hash, number)) {
             Some(word) => *word,
             None => NO_SLOT,
         }
@@ -194,7 +194,7 @@ impl Slots {
     fn slot(&self, hash: u64, number: usize) -> usize
         ensures { result ≡ slot_of self.now hash number }
     {
-        hash as usize & self.words.len().saturating_sub(1) ^ number
+        hash as usize & self.numbers.len().saturating_sub(1) ^ number
     }
 }
 

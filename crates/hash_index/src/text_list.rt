@@ -1,6 +1,6 @@
 //! Lists of texts that a hash index can search.
 ghost use Rattle.std.specs.Prelude.{◌≡◌, ◌<◌, ℕ, List, [], length, map, get_or};
-ghost use Rattle.hash_index.specs.Lists.{stands_at};
+ghost use Rattle.hash_index.specs.Lists.{has_text_at};
 
 use crate::keyed::Keyed;
 
@@ -64,8 +64,8 @@ impl<T: Keyed> TextList for &[T] {
 }
 
 /// Whether the text is at the index.
-pub(crate) fn stands_at<L: TextList>(list: &L, index: usize, text: &str) -> bool
-    ensures { result ≡ stands_at (L.texts list.now) index text.now }
+pub(crate) fn has_text_at<L: TextList>(list: &L, index: usize, text: &str) -> bool
+    ensures { result ≡ has_text_at (L.texts list.now) index text.now }
 {
     index < list.text_count() && list.text_at(index) == text
 }

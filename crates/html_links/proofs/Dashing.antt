@@ -1,5 +1,5 @@
 -- The comment states: those after `<` behave like those without it, and a run without a dash is one jump.
-use Rattle.html_links.proofs.Prelude.{◌≡◌, ℕ, ◌+◌, ◌-◌, ◌<◌, ◌≤◌, ◌==◌, Bool, true, false, not, cond, List, [], ◌∷◌, length, drop, None, Some, refl, ap, sym, ◌∙◌, arith, not-true, behind, Stopped}
+use Rattle.html_links.proofs.Prelude.{◌≡◌, ℕ, ◌+◌, ◌-◌, ◌<◌, ◌≤◌, ◌==◌, Bool, true, false, not, cond, List, [], ◌∷◌, length, drop, None, Some, refl, ap, sym, ◌∙◌, arith, not-true, following, Stopped}
 use Rattle.html_links.specs.Comments.{Dash, mark_of, State, Comment, LessThan, LessThanBang, LessThanBangDash, LessThanBangDashDash, EndDash, End, EndBang, Next, step, follow, run}
 use Rattle.html_links.proofs.Jumps.{shorter}
 
@@ -22,25 +22,25 @@ no_dash c other is = grind arith
 jump_at : (b : Bool) (c : ℕ) (rest more : List ℕ) → (b ≡ true → mark_of c ≡ Dash → ⊥) → run Comment rest ≡ run Comment more → run Comment (c ∷ rest) ≡ run Comment (cond b more (c ∷ rest))
 jump_at b c rest more dash later = grind (arith, same)
 
-pub to_dash : (bytes : List ℕ) → run Comment bytes ≡ run Comment (behind (λ c. not (c == 45)) bytes)
+pub to_dash : (bytes : List ℕ) → run Comment bytes ≡ run Comment (following (λ c. not (c == 45)) bytes)
 to_dash [] = refl
-to_dash (c ∷ rest) = jump_at (not (c == 45)) c rest (behind (λ c. not (c == 45)) rest) (λ e. no_dash c (not-true (c == 45) e)) (to_dash rest)
+to_dash (c ∷ rest) = jump_at (not (c == 45)) c rest (following (λ c. not (c == 45)) rest) (λ e. no_dash c (not-true (c == 45) e)) (to_dash rest)
 
-pub read_dash : (bytes dashed : List ℕ) → 45 ∷ dashed ≡ behind (λ c. not (c == 45)) bytes → run Comment bytes ≡ run EndDash dashed
+pub read_dash : (bytes dashed : List ℕ) → 45 ∷ dashed ≡ following (λ c. not (c == 45)) bytes → run Comment bytes ≡ run EndDash dashed
 read_dash bytes dashed cut = to_dash bytes ∙ ap (run Comment) (sym cut)
 
-pub read_no_dash : (bytes : List ℕ) → behind (λ c. not (c == 45)) bytes ≡ [] → run Comment bytes ≡ None
+pub read_no_dash : (bytes : List ℕ) → following (λ c. not (c == 45)) bytes ≡ [] → run Comment bytes ≡ None
 read_no_dash bytes none = to_dash bytes ∙ ap (run Comment) none
 
-pub dash_shorter : (bytes dashed : List ℕ) → 45 ∷ dashed ≡ behind (λ c. not (c == 45)) bytes → length dashed < length bytes
+pub dash_shorter : (bytes dashed : List ℕ) → 45 ∷ dashed ≡ following (λ c. not (c == 45)) bytes → length dashed < length bytes
 dash_shorter bytes dashed cut =
-    let e : length (45 ∷ dashed) ≡ length (behind (λ c. not (c == 45)) bytes) = ap length cut in
-    let le : length (behind (λ c. not (c == 45)) bytes) ≤ length bytes = shorter (λ c. not (c == 45)) bytes in
+    let e : length (45 ∷ dashed) ≡ length (following (λ c. not (c == 45)) bytes) = ap length cut in
+    let le : length (following (λ c. not (c == 45)) bytes) ≤ length bytes = shorter (λ c. not (c == 45)) bytes in
     omega arith
 
 -- further dashes
 
-pub over_dashes : (bytes : List ℕ) → run End bytes ≡ run End (behind (λ c. c == 45) bytes)
+pub over_dashes : (bytes : List ℕ) → run End bytes ≡ run End (following (λ c. c == 45) bytes)
 over_dashes [] = refl
 over_dashes (c ∷ rest) = grind (arith, over_dashes rest)
 
@@ -52,7 +52,7 @@ no_bang_end bytes greater = grind arith
 
 -- the bytes after a dash
 
-pub to_end : (bytes dashed more : List ℕ) → bytes ≡ 45 ∷ dashed → more ≡ behind (λ c. c == 45) dashed → run EndDash bytes ≡ run End more
+pub to_end : (bytes dashed more : List ℕ) → bytes ≡ 45 ∷ dashed → more ≡ following (λ c. c == 45) dashed → run EndDash bytes ≡ run End more
 to_end bytes dashed more is skipped = ap (run EndDash) is ∙ over_dashes dashed ∙ ap (run End) (sym skipped)
 
 -- the bytes after a comment are the last of its bytes

@@ -1,5 +1,5 @@
 -- The document's machine over runs, over a whole tag and over a whole comment.
-use Rattle.html_links.proofs.Prelude.{common_steps, ◌≡◌, ℕ, ◌+◌, ◌-◌, ◌<◌, ◌≤◌, ◌==◌, Bool, true, false, not, ◌&&◌, cond, List, [], ◌∷◌, ◌++◌, length, take, drop, map, Option, None, Some, refl, ap, sym, ◌∙◌, arith, append_assoc, append-nil, cond-false, not-true, take_while, take_rest, map-append, Class, Space, Slash, Greater, Attribute, Tag, class_of, lower, BeforeName, tag_of, front, behind, in_tag_name, led_front, led_behind, rest_of, read_rest, start_tag_at, tag_context, inner_context, outer_context, ends_template, element_at, Element, Wanted, wanted_of, Values, values_of, values_in, tag_with, Context, Html, Bor}
+use Rattle.html_links.proofs.Prelude.{common_steps, ◌≡◌, ℕ, ◌+◌, ◌-◌, ◌<◌, ◌≤◌, ◌==◌, Bool, true, false, not, ◌&&◌, cond, List, [], ◌∷◌, ◌++◌, length, take, drop, map, Option, None, Some, refl, ap, sym, ◌∙◌, arith, append_assoc, append-nil, cond-false, not-true, take_while, take_rest, map-append, Class, Space, Slash, Greater, Attribute, Tag, class_of, lower, BeforeName, tag_of, front, following, in_tag_name, led_front, led_after, rest_of, read_rest, start_tag_at, tag_context, inner_context, outer_context, ends_template, element_at, Element, AttributeNames, names_of_attributes, Values, values_of, values_in, tag_with, Context, Html, Bor}
 use Rattle.html_links.specs.Comments.{mark_of, bytes_at}
 use Rattle.html_links.specs.declared.document.Opening.{Opening}
 use Rattle.html_links.specs.declared.document.Opening.TheVariants as opening
@@ -21,40 +21,40 @@ use Rattle.html_links.specs.declared.script.State.TheVariants as script
 use Rattle.html_links.specs.declared.script.Next as nexts
 use Rattle.html_links.specs.Script as scripts
 use Rattle.html_links.proofs.Scripts.{left}
-use Rattle.html_links.specs.Document.{State, Data, TagOpen, EndTagOpen, TagName, InTag, Bogus, MarkupDeclaration, InComment, InCdata, InRaw, behind_start, behind_tag, content_at, content_of, raw_step, InScript, InPlain, script_step, Go, StartTag, Token, Start, TemplateEnd, end_tag, entered, passed, start_tags, emitted, bogus_step, open_step, end_open_step, opening_of, name_step, tag_step, comment_step, cdata_step, step, follow, read}
+use Rattle.html_links.specs.Document.{State, Data, TagOpen, EndTagOpen, TagName, InTag, Bogus, MarkupDeclaration, InComment, InCdata, InRaw, after_start, past_tag, content_at, content_of, raw_step, InScript, InPlain, script_step, Go, StartTag, Token, Start, TemplateEnd, end_tag, entered, passed, start_tags, emitted, bogus_step, open_step, end_open_step, opening_of, name_step, tag_step, comment_step, cdata_step, step, follow, read}
 use Rattle.html_links.specs.declared.document.StartTagAt.{StartTagAt}
-use Rattle.html_links.proofs.Cuts.{front_cut, behind_cut, tail_front, tail_behind}
+use Rattle.html_links.proofs.Cuts.{front_cut, after_cut, tail_front, tail_after}
 use Rattle.html_links.proofs.Jumps.{stopped, shorter}
 
 pub led_cut : (test : ℕ → Bool) (bytes : List ℕ) (n : ℕ) → 0 < length bytes → n ≡ length (take_while test (take (length bytes - 1) (drop 1 bytes))) →
-    (take (1 + n) bytes ≡ led_front test bytes) × (drop (1 + n) bytes ≡ led_behind test bytes)
-led_cut test bytes n some len = grind (arith, common_steps, take_rest, tail_front, front_cut, tail_behind, behind_cut)
+    (take (1 + n) bytes ≡ led_front test bytes) × (drop (1 + n) bytes ≡ led_after test bytes)
+led_cut test bytes n some len = grind (arith, common_steps, take_rest, tail_front, front_cut, tail_after, after_cut)
 
-pub led_shorter : (test : ℕ → Bool) (bytes : List ℕ) → length (led_behind test bytes) ≤ length bytes
+pub led_shorter : (test : ℕ → Bool) (bytes : List ℕ) → length (led_after test bytes) ≤ length bytes
 led_shorter test bytes = grind (arith, shorter)
 
 -- if the machine stays in a state over a run, the run is one jump
 
-jump : (at : Context) (here : State) (test : ℕ → Bool) → ((c : ℕ) → test c ≡ true → step at here c ≡ Go here) → (bytes : List ℕ) → read at here bytes ≡ read at here (behind test bytes)
+jump : (at : Context) (here : State) (test : ℕ → Bool) → ((c : ℕ) → test c ≡ true → step at here c ≡ Go here) → (bytes : List ℕ) → read at here bytes ≡ read at here (following test bytes)
 jump at here test stays [] = refl
 jump at here test stays (c ∷ rest) = grind (arith, jump at here test stays rest)
 
-to_less : (at : Context) (bytes : List ℕ) → read at Data bytes ≡ read at Data (behind (λ c. not (c == 60)) bytes)
+to_less : (at : Context) (bytes : List ℕ) → read at Data bytes ≡ read at Data (following (λ c. not (c == 60)) bytes)
 to_less at = jump at Data (λ c. not (c == 60)) (λ c e. cond-false (c == 60) (Go TagOpen) (Go Data) (not-true (c == 60) e))
 
-pub read_less : (at : Context) (bytes opened : List ℕ) → 60 ∷ opened ≡ behind (λ c. not (c == 60)) bytes → read at Data bytes ≡ read at TagOpen opened
+pub read_less : (at : Context) (bytes opened : List ℕ) → 60 ∷ opened ≡ following (λ c. not (c == 60)) bytes → read at Data bytes ≡ read at TagOpen opened
 read_less at bytes opened cut = to_less at bytes ∙ ap (read at Data) (sym cut)
 
-pub read_text : (at : Context) (bytes : List ℕ) → behind (λ c. not (c == 60)) bytes ≡ [] → read at Data bytes ≡ []
+pub read_text : (at : Context) (bytes : List ℕ) → following (λ c. not (c == 60)) bytes ≡ [] → read at Data bytes ≡ []
 read_text at bytes none = to_less at bytes ∙ ap (read at Data) none
 
-pub to_greater : (at : Context) (bytes : List ℕ) → read at Bogus bytes ≡ read at Bogus (behind (λ c. not (c == 62)) bytes)
+pub to_greater : (at : Context) (bytes : List ℕ) → read at Bogus bytes ≡ read at Bogus (following (λ c. not (c == 62)) bytes)
 to_greater at = jump at Bogus (λ c. not (c == 62)) (λ c e. cond-false (c == 62) (Go Data) (Go Bogus) (not-true (c == 62) e))
 
-pub cut_shorter : (test : ℕ → Bool) (bytes rest : List ℕ) (c : ℕ) → c ∷ rest ≡ behind test bytes → length rest < length bytes
+pub cut_shorter : (test : ℕ → Bool) (bytes rest : List ℕ) (c : ℕ) → c ∷ rest ≡ following test bytes → length rest < length bytes
 cut_shorter test bytes rest c cut =
-    let e : length (c ∷ rest) ≡ length (behind test bytes) = ap length cut in
-    let le : length (behind test bytes) ≤ length bytes = shorter test bytes in
+    let e : length (c ∷ rest) ≡ length (following test bytes) = ap length cut in
+    let le : length (following test bytes) ≤ length bytes = shorter test bytes in
     omega arith
 
 -- a tag's name
@@ -75,15 +75,15 @@ name_jump_at at ends true name c rest some more stays later =
     ap (λ n. follow at n rest (λ at here. read at here rest)) (stays refl) ∙ later ∙ ap (λ n. read at (TagName ends n) more) (append_assoc name (lower c ∷ []) (map lower some))
 name_jump_at at ends false name c rest some more stays later = ap (λ n. read at (TagName ends n) (c ∷ rest)) (sym (append-nil name))
 
-name_jump : (at : Context) (ends : Bool) (name bytes : List ℕ) → read at (TagName ends name) bytes ≡ read at (TagName ends (name ++ map lower (front in_tag_name bytes))) (behind in_tag_name bytes)
+name_jump : (at : Context) (ends : Bool) (name bytes : List ℕ) → read at (TagName ends name) bytes ≡ read at (TagName ends (name ++ map lower (front in_tag_name bytes))) (following in_tag_name bytes)
 name_jump at ends name [] = refl
 name_jump at ends name (c ∷ rest) =
-    name_jump_at at ends (in_tag_name c) name c rest (front in_tag_name rest) (behind in_tag_name rest) (λ e. name_stays at (class_of c) ends name c e) (name_jump at ends (name ++ lower c ∷ []) rest)
+    name_jump_at at ends (in_tag_name c) name c rest (front in_tag_name rest) (following in_tag_name rest) (λ e. name_stays at (class_of c) ends name c e) (name_jump at ends (name ++ lower c ∷ []) rest)
 
 -- from a state in which a letter begins a name
 pub read_tag_name : (at : Context) (here : State) (ends : Bool) (bytes : List ℕ) (first : ℕ) (more name rest : List ℕ) → bytes ≡ first ∷ more → step at here first ≡ Go (TagName ends (lower first ∷ [])) →
-    name ≡ led_front in_tag_name bytes → rest ≡ led_behind in_tag_name bytes → read at here bytes ≡ read at (InTag ends (map lower name) BeforeName []) rest
-read_tag_name at here ends bytes first more name rest is begins front_is behind_is = grind (arith, name_jump, stopped, name_ends)
+    name ≡ led_front in_tag_name bytes → rest ≡ led_after in_tag_name bytes → read at here bytes ≡ read at (InTag ends (map lower name) BeforeName []) rest
+read_tag_name at here ends bytes first more name rest is begins front_is after_is = grind (arith, name_jump, stopped, name_ends)
 
 pub letter_opens : (at : Context) (first : ℕ) → opening.Letter ≡ opening_of first → step at TagOpen first ≡ Go (TagName false (lower first ∷ []))
 letter_opens at first letter = ap (λ k. open_step k first) (sym letter)
@@ -121,7 +121,7 @@ bogus_leaves (Some x) bytes leaves = leaves
 
 abbrev pub tag_then : Context → Bool → List ℕ → Option Tag → List Token
 tag_then at ends name None = []
-tag_then at ends name (Some t) = emitted at ends name t.attributes t.self_closing t.rest ++ read (passed at ends name t.attributes t.self_closing) (behind_tag at ends name) t.rest
+tag_then at ends name (Some t) = emitted at ends name t.attributes t.self_closing t.rest ++ read (passed at ends name t.attributes t.self_closing) (past_tag at ends name) t.rest
 
 in_tag_at : (at : Context) (ends : Bool) (name : List ℕ) (next : tags.Next) (rest : List ℕ) → ((s : tags.State) (all : List Attribute) → read at (InTag ends name s all) rest ≡ tag_then at ends name (tags.run s all rest)) →
     follow at (tag_step at ends name next) rest (λ at here. read at here rest) ≡ tag_then at ends name (tags.follow next (λ s all. tags.run s all rest) rest)
@@ -198,24 +198,24 @@ last_one found whole more inv none = sym (append-nil found) ∙ ap (λ m. found 
 pub end_then : (at : Context) (name : List ℕ) (o : Option Tag) (left : List ℕ) → Some left ≡ rest_of o → tag_then at true name o ≡ end_tag at name ++ read (outer_context at name) Data left
 end_then at name o left e = grind (arith, left)
 
-pub read_end_tag : (at : Context) (rest opened name more left : List ℕ) → 60 ∷ opened ≡ behind (λ c. not (c == 60)) rest → read at TagOpen opened ≡ read at (InTag true name BeforeName []) more → Some left ≡ rest_of (tag_of more) →
+pub read_end_tag : (at : Context) (rest opened name more left : List ℕ) → 60 ∷ opened ≡ following (λ c. not (c == 60)) rest → read at TagOpen opened ≡ read at (InTag true name BeforeName []) more → Some left ≡ rest_of (tag_of more) →
     read at Data rest ≡ end_tag at name ++ read (outer_context at name) Data left
 read_end_tag at rest opened name more left cut reads ends = read_less at rest opened cut ∙ reads ∙ in_tag at true name BeforeName [] more ∙ end_then at name (tag_of more) left ends
 
-pub read_open_end_tag : (at : Context) (rest opened name more : List ℕ) → 60 ∷ opened ≡ behind (λ c. not (c == 60)) rest → read at TagOpen opened ≡ read at (InTag true name BeforeName []) more → None ≡ rest_of (tag_of more) →
+pub read_open_end_tag : (at : Context) (rest opened name more : List ℕ) → 60 ∷ opened ≡ following (λ c. not (c == 60)) rest → read at TagOpen opened ≡ read at (InTag true name BeforeName []) more → None ≡ rest_of (tag_of more) →
     read at Data rest ≡ []
 read_open_end_tag at rest opened name more cut reads ends = grind (arith, read_less, in_tag)
 
-pub read_start_tag : (at : Context) (rest opened name more : List ℕ) (t : Tag) → 60 ∷ opened ≡ behind (λ c. not (c == 60)) rest → read at TagOpen opened ≡ read at (InTag false name BeforeName []) more → Some t ≡ tag_of more →
+pub read_start_tag : (at : Context) (rest opened name more : List ℕ) (t : Tag) → 60 ∷ opened ≡ following (λ c. not (c == 60)) rest → read at TagOpen opened ≡ read at (InTag false name BeforeName []) more → Some t ≡ tag_of more →
     read at Data rest ≡ Start (tag_context at name) (record { name = name; attributes = t.attributes; self_closing = t.self_closing }) t.rest ∷
-    read (entered (tag_context at name) name t.attributes t.self_closing) (behind_tag at false name) t.rest
+    read (entered (tag_context at name) name t.attributes t.self_closing) (past_tag at false name) t.rest
 read_start_tag at rest opened name more t cut reads ends = read_less at rest opened cut ∙ reads ∙ in_tag at false name BeforeName [] more ∙ ap (tag_then at false name) (sym ends)
 
-pub read_open_start_tag : (at : Context) (rest opened name more : List ℕ) → 60 ∷ opened ≡ behind (λ c. not (c == 60)) rest → read at TagOpen opened ≡ read at (InTag false name BeforeName []) more → None ≡ tag_of more →
+pub read_open_start_tag : (at : Context) (rest opened name more : List ℕ) → 60 ∷ opened ≡ following (λ c. not (c == 60)) rest → read at TagOpen opened ≡ read at (InTag false name BeforeName []) more → None ≡ tag_of more →
     read at Data rest ≡ []
 read_open_start_tag at rest opened name more cut reads ends = read_less at rest opened cut ∙ reads ∙ in_tag at false name BeforeName [] more ∙ ap (tag_then at false name) (sym ends)
 
-pub start_less : (rest opened more : List ℕ) (t : Tag) → 60 ∷ opened ≡ behind (λ c. not (c == 60)) rest → length more ≤ length opened → Some t ≡ tag_of more → length t.rest < length rest
+pub start_less : (rest opened more : List ℕ) (t : Tag) → 60 ∷ opened ≡ following (λ c. not (c == 60)) rest → length more ≤ length opened → Some t ≡ tag_of more → length t.rest < length rest
 start_less rest opened more t cut leaves ends = grind (arith, cut_shorter, tag_less)
 
 pub rest_less : (o : Option Tag) (more left : List ℕ) → ((t : Tag) → o ≡ Some t → length t.rest < length more) → Some left ≡ rest_of o → length left < length more
@@ -224,7 +224,7 @@ rest_less o more left less e = grind (arith, left)
 pub tag_rest_less : (bytes left : List ℕ) → Some left ≡ rest_of (tag_of bytes) → length left < length bytes
 tag_rest_less bytes left ends = rest_less (tag_of bytes) bytes left (λ t e. tag_less BeforeName [] bytes t e) ends
 
-pub end_less : (rest opened more left : List ℕ) → 60 ∷ opened ≡ behind (λ c. not (c == 60)) rest → length more ≤ length opened → Some left ≡ rest_of (tag_of more) → length left < length rest
+pub end_less : (rest opened more left : List ℕ) → 60 ∷ opened ≡ following (λ c. not (c == 60)) rest → length more ≤ length opened → Some left ≡ rest_of (tag_of more) → length left < length rest
 end_less rest opened more left cut leaves ends = grind (arith, cut_shorter, left, rest_less, tag_less)
 
 no_starts : (b : Bool) (more : List Token) → start_tags (cond b (TemplateEnd ∷ []) [] ++ more) ≡ start_tags more
@@ -232,7 +232,7 @@ no_starts true more = refl
 no_starts false more = refl
 
 -- the start tags after an end tag
-pub end_starts : (at after : Context) (rest opened name more left : List ℕ) → 60 ∷ opened ≡ behind (λ c. not (c == 60)) rest → read at TagOpen opened ≡ read at (InTag true name BeforeName []) more → Some left ≡ rest_of (tag_of more) →
+pub end_starts : (at after : Context) (rest opened name more left : List ℕ) → 60 ∷ opened ≡ following (λ c. not (c == 60)) rest → read at TagOpen opened ≡ read at (InTag true name BeforeName []) more → Some left ≡ rest_of (tag_of more) →
     after ≡ outer_context at name → start_tags (read after Data left) ≡ start_tags (read at Data rest)
 end_starts at after rest opened name more left cut reads ends here =
     ap (λ at. start_tags (read at Data left)) here ∙ sym (no_starts (ends_template at name) (read (outer_context at name) Data left))
@@ -244,18 +244,18 @@ abbrev value_or : Values → Option TagValues → Values
 value_or v None = v
 value_or v (Some x) = x.values
 
-pub none_tag : (w : Wanted) (o : Option Tag) → None ≡ values_in w o → None ≡ o
+pub none_tag : (w : AttributeNames) (o : Option Tag) → None ≡ values_in w o → None ≡ o
 none_tag w None e = refl
 none_tag w (Some t) e = absurd (cc)
 
 pub start_content : (at own after : Context) (name more : List ℕ) (element : Element) (v : Values) (text : List ℕ) (t : Tag) → own ≡ tag_context at name → element ≡ element_at own name → after ≡ inner_context own name element v →
-    Some t ≡ tag_of more → Some (tag_with v text) ≡ values_in (wanted_of element) (tag_of more) →
-    read (entered (tag_context at name) name t.attributes t.self_closing) (behind_tag at false name) t.rest ≡ read after (behind_start (content_at own name) name) t.rest
+    Some t ≡ tag_of more → Some (tag_with v text) ≡ values_in (names_of_attributes element) (tag_of more) →
+    read (entered (tag_context at name) name t.attributes t.self_closing) (past_tag at false name) t.rest ≡ read after (after_start (content_at own name) name) t.rest
 start_content at own after name more element v text t here is inner ends found =
-    ap (λ own. read (entered own name t.attributes t.self_closing) (behind_start (content_at own name) name) t.rest) (sym here)
-    ∙ ap (λ element. read (inner_context own name element (values_of (wanted_of element) t.attributes t.self_closing)) (behind_start (content_at own name) name) t.rest) (sym is)
-    ∙ ap (λ v. read (inner_context own name element v) (behind_start (content_at own name) name) t.rest) (sym (ap (value_or v) (found ∙ ap (values_in (wanted_of element)) (sym ends))))
-    ∙ ap (λ at. read at (behind_start (content_at own name) name) t.rest) (sym inner)
+    ap (λ own. read (entered own name t.attributes t.self_closing) (after_start (content_at own name) name) t.rest) (sym here)
+    ∙ ap (λ element. read (inner_context own name element (values_of (names_of_attributes element) t.attributes t.self_closing)) (after_start (content_at own name) name) t.rest) (sym is)
+    ∙ ap (λ v. read (inner_context own name element v) (after_start (content_at own name) name) t.rest) (sym (ap (value_or v) (found ∙ ap (values_in (names_of_attributes element)) (sym ends))))
+    ∙ ap (λ at. read at (after_start (content_at own name) name) t.rest) (sym inner)
 
 -- an end tag whose name is left out
 
@@ -314,7 +314,7 @@ in_plain at (c ∷ rest) = in_plain at rest
 
 -- the content of an element, by its kind
 
-pub foreign_markup : (own : Context) (name bytes : List ℕ) → is_foreign own ≡ true → (at : Context) → read at (behind_start (content_at own name) name) bytes ≡ read at Data bytes
+pub foreign_markup : (own : Context) (name bytes : List ℕ) → is_foreign own ≡ true → (at : Context) → read at (after_start (content_at own name) name) bytes ≡ read at Data bytes
 foreign_markup (Html points) name bytes foreign at = absurd (cc)
 foreign_markup (Svg points nested) name bytes foreign at = refl
 foreign_markup (Math points nested) name bytes foreign at = refl
@@ -326,17 +326,17 @@ html_content_at (Svg points nested) name html = absurd (cc)
 html_content_at (Math points nested) name html = absurd (cc)
 html_content_at Xml name html = absurd (cc)
 
-pub to_markup : (k : Content) (name bytes : List ℕ) → content.Markup ≡ k → (at : Context) → read at (behind_start k name) bytes ≡ read at Data bytes
-to_markup k name bytes e at = ap (λ k. read at (behind_start k name) bytes) (sym e)
+pub to_markup : (k : Content) (name bytes : List ℕ) → content.Markup ≡ k → (at : Context) → read at (after_start k name) bytes ≡ read at Data bytes
+to_markup k name bytes e at = ap (λ k. read at (after_start k name) bytes) (sym e)
 
-pub to_plain : (k : Content) (name bytes : List ℕ) → content.Plain ≡ k → (at : Context) → read at (behind_start k name) bytes ≡ []
-to_plain k name bytes e at = ap (λ k. read at (behind_start k name) bytes) (sym e) ∙ in_plain at bytes
+pub to_plain : (k : Content) (name bytes : List ℕ) → content.Plain ≡ k → (at : Context) → read at (after_start k name) bytes ≡ []
+to_plain k name bytes e at = ap (λ k. read at (after_start k name) bytes) (sym e) ∙ in_plain at bytes
 
-pub to_raw : (k : Content) (name bytes : List ℕ) → content.Raw ≡ k → (at : Context) → read at (behind_start k name) bytes ≡ read at (InRaw name raw.Text) bytes
-to_raw k name bytes e at = ap (λ k. read at (behind_start k name) bytes) (sym e)
+pub to_raw : (k : Content) (name bytes : List ℕ) → content.Raw ≡ k → (at : Context) → read at (after_start k name) bytes ≡ read at (InRaw name raw.Text) bytes
+to_raw k name bytes e at = ap (λ k. read at (after_start k name) bytes) (sym e)
 
-pub to_script : (k : Content) (name bytes : List ℕ) → content.Script ≡ k → (at : Context) → read at (behind_start k name) bytes ≡ read at (InScript script.Text) bytes
-to_script k name bytes e at = ap (λ k. read at (behind_start k name) bytes) (sym e)
+pub to_script : (k : Content) (name bytes : List ℕ) → content.Script ≡ k → (at : Context) → read at (after_start k name) bytes ≡ read at (InScript script.Text) bytes
+to_script k name bytes e at = ap (λ k. read at (after_start k name) bytes) (sym e)
 
 in_script_at : (at : Context) (c : ℕ) (n : nexts.Next) (rest : List ℕ) → ((s : code.State) → read at (InScript s) rest ≡ raw_then at (scripts.run s rest)) →
     follow at (script_step at c n) rest (λ at here. read at here rest) ≡ raw_then at (scripts.follow n (λ s. scripts.run s rest) (c ∷ rest))

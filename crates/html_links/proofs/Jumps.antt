@@ -1,5 +1,5 @@
 -- The machine over runs of bytes: a run over which it stays in a state is one jump.
-use Rattle.html_links.proofs.Prelude.{◌≡◌, ℕ, ◌+◌, ◌<◌, ◌≤◌, ◌==◌, Bool, true, false, not, List, [], ◌∷◌, ◌++◌, length, map, reverse, None, Some, refl, ap, sym, ◌∙◌, arith, append_assoc, append-nil, subst, codes, Class, Space, Slash, Greater, Equals, Quote, Apostrophe, front, behind, is_space, in_name, in_unquoted, begins, BeginsName, name_front, name_behind, Stopped, Leaves}
+use Rattle.html_links.proofs.Prelude.{◌≡◌, ℕ, ◌+◌, ◌<◌, ◌≤◌, ◌==◌, Bool, true, false, not, List, [], ◌∷◌, ◌++◌, length, map, reverse, None, Some, refl, ap, sym, ◌∙◌, arith, append_assoc, append-nil, subst, codes, Class, Space, Slash, Greater, Equals, Quote, Apostrophe, front, following, is_space, in_name, in_unquoted, begins, BeginsName, name_front, following_name, Stopped, Leaves}
 use Rattle.html_links.specs.Tags.{Attribute, State, BeforeName, Name, AfterName, BeforeValue, DoubleQuoted, SingleQuoted, Unquoted, AfterQuoted, SelfClosing, Go, step, start, to_name, to_value, lower, class_of, run, follow}
 use Rattle.html_links.specs.declared.tag.Piece.{Piece}
 
@@ -11,7 +11,7 @@ written write all (c ∷ rest) = written write (write c all) rest
 -- if the machine stays in s over bytes that pass a test, they are one jump
 pub jump : (s : State) (test : ℕ → Bool) (write : ℕ → List Attribute → List Attribute) →
     ((c : ℕ) (all : List Attribute) → test c ≡ true → step s (class_of c) c all ≡ Go s (write c all)) →
-    (all : List Attribute) (bytes : List ℕ) → run s all bytes ≡ run s (written write all (front test bytes)) (behind test bytes)
+    (all : List Attribute) (bytes : List ℕ) → run s all bytes ≡ run s (written write all (front test bytes)) (following test bytes)
 jump s test write stays all [] = refl
 jump s test write stays all (c ∷ rest) = grind (arith, stays, jump s test write stays (write c all) rest)
 
@@ -19,7 +19,7 @@ jump s test write stays all (c ∷ rest) = grind (arith, stays, jump s test writ
 pub same_at : (s t : State) (c : ℕ) (rest : List ℕ) (all : List Attribute) → step s (class_of c) c all ≡ step t (class_of c) c all → run s all (c ∷ rest) ≡ run t all (c ∷ rest)
 same_at s t c rest all same = ap (λ n. follow n (λ state all. run state all rest) rest) same
 
-pub stopped : (test : ℕ → Bool) (bytes : List ℕ) → Stopped test (behind test bytes)
+pub stopped : (test : ℕ → Bool) (bytes : List ℕ) → Stopped test (following test bytes)
 stopped test [] = tt
 stopped test (c ∷ rest) = grind (arith, stopped test rest)
 
@@ -28,7 +28,7 @@ pub same_stopped : (s t : State) (test : ℕ → Bool) → ((c : ℕ) (all : Lis
     (all : List Attribute) (bytes : List ℕ) → Stopped test bytes → run s all bytes ≡ run t all bytes
 same_stopped s t test same all bytes ends = grind (arith, same_at)
 
-pub shorter : (test : ℕ → Bool) (bytes : List ℕ) → length (behind test bytes) ≤ length bytes
+pub shorter : (test : ℕ → Bool) (bytes : List ℕ) → length (following test bytes) ≤ length bytes
 shorter test [] = omega arith
 shorter test (c ∷ rest) = grind (arith, shorter test rest)
 
@@ -39,8 +39,8 @@ nothing_written all [] = refl
 nothing_written all (c ∷ rest) = nothing_written all rest
 
 skip : (s : State) → ((c : ℕ) (all : List Attribute) → is_space c ≡ true → step s (class_of c) c all ≡ Go s all) →
-    (all : List Attribute) (bytes : List ℕ) → run s all bytes ≡ run s all (behind is_space bytes)
-skip s stays all bytes = jump s is_space (λ c a. a) stays all bytes ∙ ap (λ a. run s a (behind is_space bytes)) (nothing_written all (front is_space bytes))
+    (all : List Attribute) (bytes : List ℕ) → run s all bytes ≡ run s all (following is_space bytes)
+skip s stays all bytes = jump s is_space (λ c a. a) stays all bytes ∙ ap (λ a. run s a (following is_space bytes)) (nothing_written all (front is_space bytes))
 
 abbrev spaces : Class → Bool
 spaces k = elim k [ Space ↦ true | _ ↦ false ]
@@ -54,13 +54,13 @@ space_after_name k c all is = grind arith
 space_before_value : (k : Class) (c : ℕ) (all : List Attribute) → spaces k ≡ true → step BeforeValue k c all ≡ Go BeforeValue all
 space_before_value k c all is = grind arith
 
-pub skip_before_name : (all : List Attribute) (bytes : List ℕ) → run BeforeName all bytes ≡ run BeforeName all (behind is_space bytes)
+pub skip_before_name : (all : List Attribute) (bytes : List ℕ) → run BeforeName all bytes ≡ run BeforeName all (following is_space bytes)
 skip_before_name = skip BeforeName (λ c all. space_before_name (class_of c) c all)
 
-pub skip_after_name : (all : List Attribute) (bytes : List ℕ) → run AfterName all bytes ≡ run AfterName all (behind is_space bytes)
+pub skip_after_name : (all : List Attribute) (bytes : List ℕ) → run AfterName all bytes ≡ run AfterName all (following is_space bytes)
 skip_after_name = skip AfterName (λ c all. space_after_name (class_of c) c all)
 
-pub skip_before_value : (all : List Attribute) (bytes : List ℕ) → run BeforeValue all bytes ≡ run BeforeValue all (behind is_space bytes)
+pub skip_before_value : (all : List Attribute) (bytes : List ℕ) → run BeforeValue all bytes ≡ run BeforeValue all (following is_space bytes)
 skip_before_value = skip BeforeValue (λ c all. space_before_value (class_of c) c all)
 
 -- names
@@ -84,16 +84,16 @@ name_written name value all (c ∷ rest) = name_written (name ++ lower c ∷ [])
 
 -- an attribute's name, and the white space after it
 pub read_name : (bytes : List ℕ) → BeginsName bytes → (all : List Attribute) →
-    run BeforeName all bytes ≡ run AfterName (record { name = map lower (name_front bytes); value = [] } ∷ all) (behind is_space (name_behind bytes))
+    run BeforeName all bytes ≡ run AfterName (record { name = map lower (name_front bytes); value = [] } ∷ all) (following is_space (following_name bytes))
 read_name [] begins all = absurd begins
 read_name (c ∷ rest) begins all =
     ap (λ n. follow n (λ state all. run state all rest) rest) (name_begins (class_of c) c all begins)
     ∙ jump Name in_name to_name (λ c all. name_stays (class_of c) c all) (start c all) rest
-    ∙ ap (λ a. run Name a (behind in_name rest)) (name_written (lower c ∷ []) [] all (front in_name rest))
-    ∙ same_stopped Name AfterName in_name (λ c all. name_ends (class_of c) c all) _ (behind in_name rest) (stopped in_name rest)
-    ∙ skip_after_name _ (behind in_name rest)
+    ∙ ap (λ a. run Name a (following in_name rest)) (name_written (lower c ∷ []) [] all (front in_name rest))
+    ∙ same_stopped Name AfterName in_name (λ c all. name_ends (class_of c) c all) _ (following in_name rest) (stopped in_name rest)
+    ∙ skip_after_name _ (following in_name rest)
 
-pub name_shorter : (bytes : List ℕ) → BeginsName bytes → length (behind is_space (name_behind bytes)) < length bytes
+pub name_shorter : (bytes : List ℕ) → BeginsName bytes → length (following is_space (following_name bytes)) < length bytes
 name_shorter bytes begins = grind (arith, shorter)
 
 -- the class of a byte determines the byte
@@ -123,11 +123,11 @@ pub read_no_value : (all : List Attribute) (bytes : List ℕ) → Stopped is_spa
 read_no_value all bytes space equals = grind (arith, same_at, no_value, other_equals)
 
 -- a slash that is not before `>`
-slash_alone : (k : Class) (c : ℕ) (all : List Attribute) → (k ≡ Greater → ⊥) → step SelfClosing k c all ≡ step BeforeName k c all
-slash_alone k c all greater = grind arith
+only_slash : (k : Class) (c : ℕ) (all : List Attribute) → (k ≡ Greater → ⊥) → step SelfClosing k c all ≡ step BeforeName k c all
+only_slash k c all greater = grind arith
 
 pub read_slash : (all : List Attribute) (bytes : List ℕ) → Stopped (λ c. c == 62) bytes → run SelfClosing all bytes ≡ run BeforeName all bytes
-read_slash all bytes greater = grind (arith, same_at, slash_alone, other_greater)
+read_slash all bytes greater = grind (arith, same_at, only_slash, other_greater)
 
 -- a quoted value
 
@@ -150,40 +150,40 @@ abbrev pub before : ℕ → ℕ → Bool
 before quote c = not (c == quote)
 
 double_jump : (name : List ℕ) (all : List Attribute) (bytes : List ℕ) →
-    run DoubleQuoted (record { name = name; value = [] } ∷ all) bytes ≡ run DoubleQuoted (record { name = name; value = front (before 34) bytes } ∷ all) (behind (before 34) bytes)
+    run DoubleQuoted (record { name = name; value = [] } ∷ all) bytes ≡ run DoubleQuoted (record { name = name; value = front (before 34) bytes } ∷ all) (following (before 34) bytes)
 double_jump name all bytes =
     jump DoubleQuoted (before 34) to_value (λ c all passes. double_stays (class_of c) c all (other_quote c passes)) _ bytes
-    ∙ ap (λ a. run DoubleQuoted a (behind (before 34) bytes)) (value_written name [] all (front (before 34) bytes))
+    ∙ ap (λ a. run DoubleQuoted a (following (before 34) bytes)) (value_written name [] all (front (before 34) bytes))
 
 single_jump : (name : List ℕ) (all : List Attribute) (bytes : List ℕ) →
-    run SingleQuoted (record { name = name; value = [] } ∷ all) bytes ≡ run SingleQuoted (record { name = name; value = front (before 39) bytes } ∷ all) (behind (before 39) bytes)
+    run SingleQuoted (record { name = name; value = [] } ∷ all) bytes ≡ run SingleQuoted (record { name = name; value = front (before 39) bytes } ∷ all) (following (before 39) bytes)
 single_jump name all bytes =
     jump SingleQuoted (before 39) to_value (λ c all passes. single_stays (class_of c) c all (other_apostrophe c passes)) _ bytes
-    ∙ ap (λ a. run SingleQuoted a (behind (before 39) bytes)) (value_written name [] all (front (before 39) bytes))
+    ∙ ap (λ a. run SingleQuoted a (following (before 39) bytes)) (value_written name [] all (front (before 39) bytes))
 
 pub read_double : (name bytes : List ℕ) (first : ℕ) (more value rest : List ℕ) → bytes ≡ first ∷ more → Quote ≡ class_of first →
-    (value ≡ front (before 34) more) × (34 ∷ rest ≡ behind (before 34) more) →
+    (value ≡ front (before 34) more) × (34 ∷ rest ≡ following (before 34) more) →
     (all : List Attribute) → run BeforeValue (record { name = name; value = [] } ∷ all) bytes ≡ run BeforeName (record { name = name; value = value } ∷ all) rest
 read_double name bytes first more value rest is quote cut all = grind (arith, at_class, double_jump, read_after_quoted)
 
-pub read_open_double : (name bytes : List ℕ) (first : ℕ) (more : List ℕ) → bytes ≡ first ∷ more → Quote ≡ class_of first → behind (before 34) more ≡ [] →
+pub read_open_double : (name bytes : List ℕ) (first : ℕ) (more : List ℕ) → bytes ≡ first ∷ more → Quote ≡ class_of first → following (before 34) more ≡ [] →
     (all : List Attribute) → run BeforeValue (record { name = name; value = [] } ∷ all) bytes ≡ None
 read_open_double name bytes first more is quote none all = grind (arith, at_class, double_jump)
 
 pub read_single : (name bytes : List ℕ) (first : ℕ) (more value rest : List ℕ) → bytes ≡ first ∷ more → Apostrophe ≡ class_of first →
-    (value ≡ front (before 39) more) × (39 ∷ rest ≡ behind (before 39) more) →
+    (value ≡ front (before 39) more) × (39 ∷ rest ≡ following (before 39) more) →
     (all : List Attribute) → run BeforeValue (record { name = name; value = [] } ∷ all) bytes ≡ run BeforeName (record { name = name; value = value } ∷ all) rest
 read_single name bytes first more value rest is quote cut all = grind (arith, at_class, single_jump, read_after_quoted)
 
-pub read_open_single : (name bytes : List ℕ) (first : ℕ) (more : List ℕ) → bytes ≡ first ∷ more → Apostrophe ≡ class_of first → behind (before 39) more ≡ [] →
+pub read_open_single : (name bytes : List ℕ) (first : ℕ) (more : List ℕ) → bytes ≡ first ∷ more → Apostrophe ≡ class_of first → following (before 39) more ≡ [] →
     (all : List Attribute) → run BeforeValue (record { name = name; value = [] } ∷ all) bytes ≡ None
 read_open_single name bytes first more is quote none all = grind (arith, at_class, single_jump)
 
-pub quoted_shorter : (test : ℕ → Bool) (bytes : List ℕ) (first quote : ℕ) (more rest : List ℕ) → bytes ≡ first ∷ more → quote ∷ rest ≡ behind test more → length rest < length bytes + 1
+pub quoted_shorter : (test : ℕ → Bool) (bytes : List ℕ) (first quote : ℕ) (more rest : List ℕ) → bytes ≡ first ∷ more → quote ∷ rest ≡ following test more → length rest < length bytes + 1
 quoted_shorter test bytes first quote more rest is cut =
     let a : length bytes ≡ length (first ∷ more) = ap length is in
-    let b : length (quote ∷ rest) ≡ length (behind test more) = ap length cut in
-    let le : length (behind test more) ≤ length more = shorter test more in
+    let b : length (quote ∷ rest) ≡ length (following test more) = ap length cut in
+    let le : length (following test more) ≤ length more = shorter test more in
     omega arith
 
 -- an unquoted value
@@ -201,33 +201,33 @@ unquoted_begins : (k : Class) (c : ℕ) (all : List Attribute) → spaces k ≡ 
 unquoted_begins k c all space greater quote apostrophe = grind arith
 
 unquoted_jump : (name : List ℕ) (all : List Attribute) (bytes : List ℕ) →
-    run Unquoted (record { name = name; value = [] } ∷ all) bytes ≡ run BeforeName (record { name = name; value = front in_unquoted bytes } ∷ all) (behind in_unquoted bytes)
+    run Unquoted (record { name = name; value = [] } ∷ all) bytes ≡ run BeforeName (record { name = name; value = front in_unquoted bytes } ∷ all) (following in_unquoted bytes)
 unquoted_jump name all bytes =
     jump Unquoted in_unquoted to_value (λ c all. unquoted_stays (class_of c) c all) _ bytes
-    ∙ ap (λ a. run Unquoted a (behind in_unquoted bytes)) (value_written name [] all (front in_unquoted bytes))
-    ∙ same_stopped Unquoted BeforeName in_unquoted (λ c all. unquoted_ends (class_of c) c all) _ (behind in_unquoted bytes) (stopped in_unquoted bytes)
+    ∙ ap (λ a. run Unquoted a (following in_unquoted bytes)) (value_written name [] all (front in_unquoted bytes))
+    ∙ same_stopped Unquoted BeforeName in_unquoted (λ c all. unquoted_ends (class_of c) c all) _ (following in_unquoted bytes) (stopped in_unquoted bytes)
 
 pub read_unquoted : (name bytes : List ℕ) (first : ℕ) (more value rest : List ℕ) → bytes ≡ first ∷ more → Stopped is_space bytes →
-    (class_of first ≡ Greater → ⊥) → (class_of first ≡ Quote → ⊥) → (class_of first ≡ Apostrophe → ⊥) → value ≡ front in_unquoted bytes → rest ≡ behind in_unquoted bytes →
+    (class_of first ≡ Greater → ⊥) → (class_of first ≡ Quote → ⊥) → (class_of first ≡ Apostrophe → ⊥) → value ≡ front in_unquoted bytes → rest ≡ following in_unquoted bytes →
     (all : List Attribute) → run BeforeValue (record { name = name; value = [] } ∷ all) bytes ≡ run BeforeName (record { name = name; value = value } ∷ all) rest
 read_unquoted name bytes first more value rest is space greater quote apostrophe cut end all =
     let here : Stopped is_space (first ∷ more) = subst (λ (xs : List ℕ). Stopped is_space xs) is space in
     ap (run BeforeValue _) is
     ∙ same_at BeforeValue Unquoted first more _ (unquoted_begins (class_of first) first _ here greater quote apostrophe)
     ∙ ap (run Unquoted _) (sym is) ∙ unquoted_jump name all bytes
-    ∙ ap (λ v. run BeforeName (record { name = name; value = v } ∷ all) (behind in_unquoted bytes)) (sym cut)
+    ∙ ap (λ v. run BeforeName (record { name = name; value = v } ∷ all) (following in_unquoted bytes)) (sym cut)
     ∙ ap (run BeforeName _) (sym end)
 
 -- an `="` right after a name
 
-stays : (bytes rest more : List ℕ) → rest ≡ name_behind bytes → rest ≡ 61 ∷ 34 ∷ more → rest ≡ behind is_space (name_behind bytes)
-stays bytes rest more cut is = is ∙ sym (ap (behind is_space) is) ∙ ap (behind is_space) cut
+stays : (bytes rest more : List ℕ) → rest ≡ following_name bytes → rest ≡ 61 ∷ 34 ∷ more → rest ≡ following is_space (following_name bytes)
+stays bytes rest more cut is = is ∙ sym (ap (following is_space) is) ∙ ap (following is_space) cut
 
-pub read_quote : (bytes name rest more : List ℕ) → BeginsName bytes → name ≡ name_front bytes → rest ≡ name_behind bytes → rest ≡ 61 ∷ 34 ∷ more → (all : List Attribute) →
+pub read_quote : (bytes name rest more : List ℕ) → BeginsName bytes → name ≡ name_front bytes → rest ≡ following_name bytes → rest ≡ 61 ∷ 34 ∷ more → (all : List Attribute) →
     run BeforeName all bytes ≡ run BeforeValue (record { name = map lower name; value = [] } ∷ all) (34 ∷ more)
 read_quote bytes name rest more begins named cut is all = grind (arith, stays, read_name, skip, space_before_value)
 
-pub quote_within : (bytes rest more : List ℕ) → BeginsName bytes → rest ≡ name_behind bytes → rest ≡ 61 ∷ 34 ∷ more → length more ≤ length bytes
+pub quote_within : (bytes rest more : List ℕ) → BeginsName bytes → rest ≡ following_name bytes → rest ≡ 61 ∷ 34 ∷ more → length more ≤ length bytes
 quote_within bytes rest more begins cut is = grind (arith, stays, name_shorter)
 
 -- a `class`, up to the first quote of its value
@@ -238,23 +238,23 @@ read_class bytes more is all = ap (run BeforeName all) is
 
 -- likewise for a `href`
 
-pub read_bare : (bytes zs : List ℕ) → BeginsName bytes → zs ≡ behind is_space (name_behind bytes) → Stopped is_space zs → Stopped (λ c. c == 61) zs → (all : List Attribute) →
+pub read_bare : (bytes zs : List ℕ) → BeginsName bytes → zs ≡ following is_space (following_name bytes) → Stopped is_space zs → Stopped (λ c. c == 61) zs → (all : List Attribute) →
     run BeforeName all bytes ≡ run BeforeName (record { name = map lower (name_front bytes); value = [] } ∷ all) zs
 read_bare bytes zs begins skipped space equals all = grind (arith, read_name, read_no_value)
 
 -- the pieces that begin at the first byte that is not white space
 
-to_slash : (bytes zs : List ℕ) (first : ℕ) (more : List ℕ) → zs ≡ behind is_space bytes → zs ≡ first ∷ more → Slash ≡ class_of first → (all : List Attribute) →
+to_slash : (bytes zs : List ℕ) (first : ℕ) (more : List ℕ) → zs ≡ following is_space bytes → zs ≡ first ∷ more → Slash ≡ class_of first → (all : List Attribute) →
     run BeforeName all bytes ≡ run SelfClosing all more
 to_slash bytes zs first more skipped is slash all = grind (arith, skip_before_name, at_class)
 
-pub read_self_closing : (bytes zs : List ℕ) (first : ℕ) (more last : List ℕ) → zs ≡ behind is_space bytes → zs ≡ first ∷ more → Slash ≡ class_of first → more ≡ 62 ∷ last → (all : List Attribute) →
+pub read_self_closing : (bytes zs : List ℕ) (first : ℕ) (more last : List ℕ) → zs ≡ following is_space bytes → zs ≡ first ∷ more → Slash ≡ class_of first → more ≡ 62 ∷ last → (all : List Attribute) →
     run BeforeName all bytes ≡ Some (record { attributes = reverse all; self_closing = true; rest = last })
 read_self_closing bytes zs first more last skipped is slash end all = to_slash bytes zs first more skipped is slash all ∙ ap (run SelfClosing all) end
 
-pub read_slash_alone : (bytes zs : List ℕ) (first : ℕ) (more : List ℕ) → zs ≡ behind is_space bytes → zs ≡ first ∷ more → Slash ≡ class_of first → Stopped (λ c. c == 62) more → (all : List Attribute) →
+pub read_only_slash : (bytes zs : List ℕ) (first : ℕ) (more : List ℕ) → zs ≡ following is_space bytes → zs ≡ first ∷ more → Slash ≡ class_of first → Stopped (λ c. c == 62) more → (all : List Attribute) →
     run BeforeName all bytes ≡ run BeforeName all more
-read_slash_alone bytes zs first more skipped is slash alone all = to_slash bytes zs first more skipped is slash all ∙ read_slash all more alone
+read_only_slash bytes zs first more skipped is slash alone all = to_slash bytes zs first more skipped is slash all ∙ read_slash all more alone
 
 -- the rest of a tag, and the attributes so far
 

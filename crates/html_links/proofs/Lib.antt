@@ -6,7 +6,7 @@ pub mod Dashing
 pub mod Documents
 pub mod RawTexts
 pub mod Reading
-pub mod Telling
+pub mod Naming
 pub mod Passing
 pub mod Templates
 pub mod Scripts

@@ -4,7 +4,7 @@ use Rattle.std.specs.Simd.Lanes.{mask_l, top, zip2}
 use Rattle.html_links.specs.Near.{first_set}
 use Rattle.html_links.specs.References.{text_of}
 use Rattle.html_links.proofs.Cuts.{no_first}
-use Rattle.html_links.proofs.Decoding.{plain_text}
+use Rattle.html_links.proofs.Decoding.{unescaped_text}
 
 first_is : (p : ℕ → Bool) (v : List ℕ) (n : ℕ) → length v ≡ n → n ≤ 64 → first_set (mask_l (map p v)) n ≡ prefix_len (λ x. not (p x)) v
 first_is p v n long few = grind (arith, cases_eq, cond-true, eq-eqb, leading_from_mask_l, cond-false, ne_eqb, trailing_mask_l)
@@ -106,4 +106,4 @@ marks_more value at before none k below =
 pub itself : (value : List ℕ) → ((k : ℕ) → k < length value → is_mark (get_or value k 0) ≡ false) → text_of value ≡ value
 itself value none =
     let nowhere : IsFirstByte is_mark value None = λ k low high. λ (p : Passes is_mark value k). false≢true (sym (none k high) ∙ p) in
-    plain_text value (no_first is_mark value nowhere)
+    unescaped_text value (no_first is_mark value nowhere)

@@ -1,5 +1,5 @@
 -- What a reader of links sees, tag by tag, and the tags that it skips because they have no links.
-use Rattle.html_links.proofs.Prelude.{◌≡◌, ◌∙◌, ◌<◌, ◌≤◌, sym, ap, subst, refl, arith, ℕ, Bool, true, false, cond, List, Option, None, [], ◌∷◌, ◌++◌, length, map, Some, not-true, or_from, append-nil, cond-false, cond-true, codes, bytes_eq, bytes_eq-Decides, lower, tag_of, Tag, BeforeName, may_be, element_of, element_at, wanted_of, is_usual, Wanted, Data, InTag, Token, TemplateEnd, ends_template, end_tag, content_of, content_at, read, behind_start, tag_context, inner_context, Context, Html, Values, tag_with, values_in, Seen, seen_with, seen_within, seen_from, opened, links_in, ids_in, base_in, or_later, append_assoc, Element, are_enough, needed_texts, false≢true}
+use Rattle.html_links.proofs.Prelude.{◌≡◌, ◌∙◌, ◌<◌, ◌≤◌, sym, ap, subst, refl, arith, ℕ, Bool, true, false, cond, List, Option, None, [], ◌∷◌, ◌++◌, length, map, Some, not-true, or_from, append-nil, cond-false, cond-true, codes, bytes_eq, bytes_eq-Decides, lower, tag_of, Tag, BeforeName, may_be, element_of, element_at, names_of_attributes, is_usual, AttributeNames, Data, InTag, Token, TemplateEnd, ends_template, end_tag, content_of, content_at, read, after_start, tag_context, inner_context, Context, Html, Values, tag_with, values_in, Seen, seen_with, seen_within, seen_from, opened, links_in, ids_in, base_in, or_later, append_assoc, Element, are_enough, needed_texts, false≢true}
 use Rattle.std.proofs.lemmas.Bool.{leb-true}
 use Rattle.std.proofs.lemmas.List.{take-append-le}
 use Rattle.html_links.specs.declared.element.Element.TheVariants as element
@@ -12,7 +12,7 @@ use Rattle.html_links.specs.Links.{links_at, inner_links_with, inner_links_in, i
 use Rattle.html_links.specs.Passed.{name_nothing, Has}
 use Rattle.html_links.specs.Seen.{raw_sheet, sheet_of}
 use Rattle.html_links.proofs.Documents.{to_markup, in_tag, tag_less, tag_then}
-use Rattle.html_links.proofs.Telling.{other_name, otherwise}
+use Rattle.html_links.proofs.Naming.{other_name, otherwise}
 
 -- a tag, and what is seen of the tags after it
 abbrev pub with_contents : Context → Seen → List Token → List Seen
@@ -22,28 +22,28 @@ with_contents own seen more = seen ∷ seen_within (opened own seen) more
 
 abbrev seen_values : Context → Element → List ℕ → Option TagValues → List Seen
 seen_values own element name None = []
-seen_values own element name (Some x) = with_contents own (seen_with name element x.values (sheet_of own name x.values.self_closing x.rest)) (read (inner_context own name element x.values) (behind_start (content_at own name) name) x.rest)
+seen_values own element name (Some x) = with_contents own (seen_with name element x.values (sheet_of own name x.values.self_closing x.rest)) (read (inner_context own name element x.values) (after_start (content_at own name) name) x.rest)
 
 tag_seen : (at : Context) (name : List ℕ) (o : Option Tag) →
-    seen_within 0 (tag_then at false name o) ≡ seen_values (tag_context at name) (element_at (tag_context at name) name) name (values_in (wanted_of (element_at (tag_context at name) name)) o)
+    seen_within 0 (tag_then at false name o) ≡ seen_values (tag_context at name) (element_at (tag_context at name) name) name (values_in (names_of_attributes (element_at (tag_context at name) name)) o)
 tag_seen at name None = refl
 tag_seen at name (Some t) = refl
 
 -- a start tag whose values were found
 pub seen_start : (at own : Context) (name bytes : List ℕ) (element : Element) (v : Values) (text : List ℕ) (more : List Token) → own ≡ tag_context at name → element ≡ element_at own name →
-    Some (tag_with v text) ≡ values_in (wanted_of element) (tag_of bytes) → read (inner_context own name element v) (behind_start (content_at own name) name) text ≡ more →
+    Some (tag_with v text) ≡ values_in (names_of_attributes element) (tag_of bytes) → read (inner_context own name element v) (after_start (content_at own name) name) text ≡ more →
     seen_within 0 (read at (InTag false name BeforeName []) bytes) ≡ with_contents own (seen_with name element v (sheet_of own name v.self_closing text)) more
-seen_start at own name bytes element v text more here is found behind =
+seen_start at own name bytes element v text more here is found following =
     ap (seen_within 0) (in_tag at false name BeforeName [] bytes) ∙ tag_seen at name (tag_of bytes)
-    ∙ ap (λ own. seen_values own (element_at own name) name (values_in (wanted_of (element_at own name)) (tag_of bytes))) (sym here)
-    ∙ ap (λ element. seen_values own element name (values_in (wanted_of element) (tag_of bytes))) (sym is)
-    ∙ ap (seen_values own element name) (sym found) ∙ ap (with_contents own (seen_with name element v (sheet_of own name v.self_closing text))) behind
+    ∙ ap (λ own. seen_values own (element_at own name) name (values_in (names_of_attributes (element_at own name)) (tag_of bytes))) (sym here)
+    ∙ ap (λ element. seen_values own element name (values_in (names_of_attributes element) (tag_of bytes))) (sym is)
+    ∙ ap (seen_values own element name) (sym found) ∙ ap (with_contents own (seen_with name element v (sheet_of own name v.self_closing text))) following
 
 -- a start tag that does not end
-pub open_start : (at : Context) (name bytes : List ℕ) (w : Wanted) → None ≡ values_in w (tag_of bytes) → seen_within 0 (read at (InTag false name BeforeName []) bytes) ≡ []
+pub open_start : (at : Context) (name bytes : List ℕ) (w : AttributeNames) → None ≡ values_in w (tag_of bytes) → seen_within 0 (read at (InTag false name BeforeName []) bytes) ≡ []
 open_start at name bytes w found = grind (arith, in_tag)
 
-pub text_less : (w : Wanted) (v : Values) (text bytes : List ℕ) → Some (tag_with v text) ≡ values_in w (tag_of bytes) → length text < length bytes
+pub text_less : (w : AttributeNames) (v : Values) (text bytes : List ℕ) → Some (tag_with v text) ≡ values_in w (tag_of bytes) → length text < length bytes
 text_less w v text bytes found = grind (arith, tag_less)
 
 -- names that are not those of elements that name documents or have text
@@ -64,8 +64,8 @@ text_content name other = grind (arith, other_name, otherwise, or_from)
 -- the content of an element other than `svg` and `math` is HTML
 
 stays : (element : Element) (name text : List ℕ) (v : Values) → ((points : ℕ) → html_content points element ≡ Html points) →
-    read (inner_context (Html 0) name element v) (behind_start (content_of name) name) text ≡ read (Html 0) (behind_start (content_of name) name) text
-stays element name text v html = ap (λ at. read at (behind_start (content_of name) name) text) (same v.self_closing)
+    read (inner_context (Html 0) name element v) (after_start (content_of name) name) text ≡ read (Html 0) (after_start (content_of name) name) text
+stays element name text v html = ap (λ at. read at (after_start (content_of name) name) text) (same v.self_closing)
   where
     same : (b : Bool) → cond b (Html 0) (html_content 0 element) ≡ Html 0
     same true = refl
@@ -73,14 +73,14 @@ stays element name text v html = ap (λ at. read at (behind_start (content_of na
 
 -- what is seen of such a tag
 
-pub usual_seen : (name more last : List ℕ) (v : Values) → is_usual name ≡ true → Some (tag_with v last) ≡ values_in (wanted_of element.Other) (tag_of more) →
+pub usual_seen : (name more last : List ℕ) (v : Values) → is_usual name ≡ true → Some (tag_with v last) ≡ values_in (names_of_attributes element.Other) (tag_of more) →
     seen_within 0 (read (Html 0) (InTag false (map lower name) BeforeName []) more) ≡ seen_with (map lower name) element.Other v (sheet_of (Html 0) (map lower name) v.self_closing last) ∷ seen_from (Html 0) last
 usual_seen name more last v usual found =
     seen_start (Html 0) (Html 0) (map lower name) more element.Other v last (read (Html 0) Data last) refl (sym (usual_element name usual)) found
     (stays element.Other (map lower name) last v (λ points. refl) ∙ to_markup (content_of (map lower name)) (map lower name) last (sym (usual_content name usual)) (Html 0))
 
 -- what is seen of an `a`
-pub anchor_seen : (name more last : List ℕ) (v : Values) → bytes_eq (map lower name) (codes "a") ≡ true → Some (tag_with v last) ≡ values_in (wanted_of element.Anchor) (tag_of more) →
+pub anchor_seen : (name more last : List ℕ) (v : Values) → bytes_eq (map lower name) (codes "a") ≡ true → Some (tag_with v last) ≡ values_in (names_of_attributes element.Anchor) (tag_of more) →
     seen_within 0 (read (Html 0) (InTag false (map lower name) BeforeName []) more) ≡ seen_with (map lower name) element.Anchor v (sheet_of (Html 0) (map lower name) v.self_closing last) ∷ seen_from (Html 0) last
 anchor_seen name more last v is found =
     let same : map lower name ≡ codes "a" = (bytes_eq-Decides (map lower name) (codes "a")).0 is in
@@ -124,7 +124,7 @@ pub passes_end : (at after : Context) (rest more name : List ℕ) → read at Da
 passes_end at after rest more name reads = has_same (seen_from at rest) (seen_from after more) (ap (seen_within 0) reads ∙ end_seen (ends_template at name) (read after Data more))
 
 -- a tag that names nothing
-pub passes_tag : (name more last : List ℕ) (v : Values) → is_usual name ≡ true → name_nothing v ≡ true → Some (tag_with v last) ≡ values_in (wanted_of element.Other) (tag_of more) →
+pub passes_tag : (name more last : List ℕ) (v : Values) → is_usual name ≡ true → name_nothing v ≡ true → Some (tag_with v last) ≡ values_in (names_of_attributes element.Other) (tag_of more) →
     Has (seen_within 0 (read (Html 0) (InTag false (map lower name) BeforeName []) more)) (seen_from (Html 0) last)
 passes_tag name more last v usual nothing found =
     has_then _ (seen_with (map lower name) element.Other v (sheet_of (Html 0) (map lower name) v.self_closing last) ∷ seen_from (Html 0) last) (seen_from (Html 0) last) (has_same _ _ (usual_seen name more last v usual found))

@@ -21,12 +21,12 @@ without_commas (c ∷ rest) = if are_commas (c ∷ rest) then [] else c ∷ with
 abbrev pub is_between : ℕ → Bool
 is_between c = is_space c || c == 44
 
-abbrev pub behind_shorter : List ℕ → List ℕ → State
-behind_shorter url candidate = if nat_lt (length url) (length candidate) then Between else Descriptors false
+abbrev pub after_shorter : List ℕ → List ℕ → State
+after_shorter url candidate = if nat_lt (length url) (length candidate) then Between else Descriptors false
 
 -- the state after a URL, which has no descriptors if it ends with a comma
-abbrev pub behind_url : List ℕ → State
-behind_url url = behind_shorter (without_commas url) url
+abbrev pub after_url : List ℕ → State
+after_url url = after_shorter (without_commas url) url
 
 -- the next URLs, and the state after them
 pub data Next : Type 0 where
@@ -34,7 +34,7 @@ pub data Next : Type 0 where
 
 abbrev pub step : State → ℕ → Next
 step Between c = if is_between c then Go [] Between else Go [] (Url (c ∷ []))
-step (Url url) c = if is_space c then Go (without_commas url ∷ []) (behind_url url) else Go [] (Url (url ++ c ∷ []))
+step (Url url) c = if is_space c then Go (without_commas url ∷ []) (after_url url) else Go [] (Url (url ++ c ∷ []))
 step (Descriptors true) c = Go [] (Descriptors (not (c == 41)))
 step (Descriptors false) c = if c == 44 then Go [] Between else Go [] (Descriptors (c == 40))
 

@@ -19,7 +19,7 @@ use Rattle.html_links.specs.declared.cdata.Next.TheVariants as section_next
 use Rattle.html_links.specs.declared.context.Context.{Context}
 use Rattle.html_links.specs.declared.context.Context.TheVariants as context
 use Rattle.html_links.specs.declared.context.Syntax.TheVariants as syntax
-use Rattle.html_links.specs.Elements.{wanted_of}
+use Rattle.html_links.specs.Elements.{names_of_attributes}
 use Rattle.html_links.specs.Values.{values_of}
 use Rattle.html_links.specs.Contexts.{context_of, is_foreign, tag_context, element_at, inner_context, outer_context, ends_template}
 use Rattle.html_links.specs.declared.document.Content.{Content}
@@ -100,7 +100,7 @@ emitted at false name attributes closing rest = Start (tag_context at name) (rec
 
 -- the context of an element's content, by the context of its start tag
 abbrev pub entered : Context → List ℕ → List Attribute → Bool → Context
-entered at name attributes closing = inner_context at name (element_at at name) (values_of (wanted_of (element_at at name)) attributes closing)
+entered at name attributes closing = inner_context at name (element_at at name) (values_of (names_of_attributes (element_at at name)) attributes closing)
 
 -- the context after a tag
 abbrev pub passed : Context → Bool → List ℕ → List Attribute → Bool → Context
@@ -113,15 +113,15 @@ raw_content name = InRaw name raw.Text
 abbrev pub script_content : State
 script_content = InScript script.Text
 
-abbrev pub behind_start : Content → List ℕ → State
-behind_start content.Raw name = raw_content name
-behind_start content.Script name = script_content
-behind_start content.Plain name = InPlain
-behind_start content.Markup name = Data
+abbrev pub after_start : Content → List ℕ → State
+after_start content.Raw name = raw_content name
+after_start content.Script name = script_content
+after_start content.Plain name = InPlain
+after_start content.Markup name = Data
 
-abbrev pub behind_tag : Context → Bool → List ℕ → State
-behind_tag at true name = Data
-behind_tag at false name = behind_start (content_at (tag_context at name) name) name
+abbrev pub past_tag : Context → Bool → List ℕ → State
+past_tag at true name = Data
+past_tag at false name = after_start (content_at (tag_context at name) name) name
 
 abbrev pub data_step : ℕ → Next
 data_step c = if c == 60 then Go TagOpen else Go Data
@@ -143,12 +143,12 @@ end_open_step _ c = bogus_step c
 abbrev pub name_step : Context → Class → Bool → List ℕ → ℕ → Next
 name_step at Space ends name c = Go (InTag ends name BeforeName [])
 name_step at Slash ends name c = Go (InTag ends name SelfClosing [])
-name_step at Greater ends name c = Emit (emitted at ends name [] false) (passed at ends name [] false) (behind_tag at ends name)
+name_step at Greater ends name c = Emit (emitted at ends name [] false) (passed at ends name [] false) (past_tag at ends name)
 name_step at _ ends name c = Go (TagName ends (name ++ lower c ∷ []))
 
 abbrev pub tag_step : Context → Bool → List ℕ → tags.Next → Next
 tag_step at ends name (tags.Go state all) = Go (InTag ends name state all)
-tag_step at ends name (tags.Emit closing all) = Emit (emitted at ends name (reverse all) closing) (passed at ends name (reverse all) closing) (behind_tag at ends name)
+tag_step at ends name (tags.Emit closing all) = Emit (emitted at ends name (reverse all) closing) (passed at ends name (reverse all) closing) (past_tag at ends name)
 
 abbrev pub comment_step : comments.Next → Next
 comment_step (comments.Go state) = Go (InComment state)

@@ -2,7 +2,7 @@
 use Rattle.std.specs.Prelude.{ℕ, ◌||◌, not, Bool, true, false, if◌then◌else◌, List, [], codes, Option, None, Some, bytes_eq}
 use Rattle.html_links.specs.declared.element.Element.{Element}
 use Rattle.html_links.specs.declared.element.Element.TheVariants as element
-use Rattle.html_links.specs.declared.element.Wanted as code
+use Rattle.html_links.specs.declared.element.AttributeNames as code
 use Rattle.html_links.specs.declared.element.TheConstants.{LENGTHS}
 use Rattle.html_links.specs.Lengths.{may_be}
 use Rattle.html_links.specs.RawText.{same_name}
@@ -51,38 +51,38 @@ abbrev pub is_usual : List ℕ → Bool
 is_usual name = not (may_be LENGTHS name)
 
 -- the names of the attributes that are read; an empty name is not that of any attribute
-pub record Wanted : Type 0 where
+pub record AttributeNames : Type 0 where
   pub first : List ℕ
   pub second : List ℕ
   pub third : List ℕ
   pub name : List ℕ
 
-abbrev pub wants : List ℕ → List ℕ → List ℕ → Wanted
-wants first second third = record { first = first; second = second; third = third; name = codes "name" }
+abbrev pub attribute_names : List ℕ → List ℕ → List ℕ → AttributeNames
+attribute_names first second third = record { first = first; second = second; third = third; name = codes "name" }
 
-abbrev pub wanted_of : Element → Wanted
-wanted_of element.Anchor = wants (codes "href") (codes "xlink:href") []
-wanted_of element.Annotation = wants (codes "href") (codes "xlink:href") (codes "encoding")
-wanted_of element.Area = wants (codes "href") [] []
-wanted_of element.Base = wants (codes "href") [] []
-wanted_of element.Background = wants (codes "background") [] []
-wanted_of element.Embedded = wants (codes "src") [] []
-wanted_of element.Button = wants (codes "formaction") [] (codes "type")
-wanted_of element.Font = wants (codes "color") (codes "face") (codes "size")
-wanted_of element.Frame = wants (codes "src") (codes "longdesc") []
-wanted_of element.Image = wants (codes "src") (codes "srcset") (codes "longdesc")
-wanted_of element.InlineFrame = wants (codes "src") (codes "longdesc") (codes "srcdoc")
-wanted_of element.Source = wants (codes "src") (codes "srcset") []
-wanted_of element.Input = wants (codes "src") (codes "formaction") (codes "type")
-wanted_of element.Link = record { first = codes "href"; second = codes "imagesrcset"; third = codes "rel"; name = codes "itemprop" }
-wanted_of element.Math = wants [] [] []
-wanted_of element.Meta = wants (codes "content") (codes "http-equiv") (codes "property")
-wanted_of element.Object = wants (codes "data") [] []
-wanted_of element.Param = wants (codes "value") [] []
-wanted_of element.Svg = wants [] [] []
-wanted_of element.Video = wants (codes "src") (codes "poster") []
-wanted_of element.Template = wants [] [] (codes "shadowrootmode")
-wanted_of element.Other = wants [] [] []
+abbrev pub names_of_attributes : Element → AttributeNames
+names_of_attributes element.Anchor = attribute_names (codes "href") (codes "xlink:href") []
+names_of_attributes element.Annotation = attribute_names (codes "href") (codes "xlink:href") (codes "encoding")
+names_of_attributes element.Area = attribute_names (codes "href") [] []
+names_of_attributes element.Base = attribute_names (codes "href") [] []
+names_of_attributes element.Background = attribute_names (codes "background") [] []
+names_of_attributes element.Embedded = attribute_names (codes "src") [] []
+names_of_attributes element.Button = attribute_names (codes "formaction") [] (codes "type")
+names_of_attributes element.Font = attribute_names (codes "color") (codes "face") (codes "size")
+names_of_attributes element.Frame = attribute_names (codes "src") (codes "longdesc") []
+names_of_attributes element.Image = attribute_names (codes "src") (codes "srcset") (codes "longdesc")
+names_of_attributes element.InlineFrame = attribute_names (codes "src") (codes "longdesc") (codes "srcdoc")
+names_of_attributes element.Source = attribute_names (codes "src") (codes "srcset") []
+names_of_attributes element.Input = attribute_names (codes "src") (codes "formaction") (codes "type")
+names_of_attributes element.Link = record { first = codes "href"; second = codes "imagesrcset"; third = codes "rel"; name = codes "itemprop" }
+names_of_attributes element.Math = attribute_names [] [] []
+names_of_attributes element.Meta = attribute_names (codes "content") (codes "http-equiv") (codes "property")
+names_of_attributes element.Object = attribute_names (codes "data") [] []
+names_of_attributes element.Param = attribute_names (codes "value") [] []
+names_of_attributes element.Svg = attribute_names [] [] []
+names_of_attributes element.Video = attribute_names (codes "src") (codes "poster") []
+names_of_attributes element.Template = attribute_names [] [] (codes "shadowrootmode")
+names_of_attributes element.Other = attribute_names [] [] []
 
 -- some attributes are read only of this element
 abbrev pub has_rare_names : Element → Bool
@@ -90,8 +90,8 @@ has_rare_names element.Annotation = true
 has_rare_names element.Font = true
 has_rare_names _ = false
 
-abbrev pub wanted_at : code.Wanted → Wanted
-wanted_at w = record { first = w.first.now; second = w.second.now; third = w.third.now; name = w.name.now }
+abbrev pub attribute_names_at : code.AttributeNames → AttributeNames
+attribute_names_at w = record { first = w.first.now; second = w.second.now; third = w.third.now; name = w.name.now }
 
 -- whether the value of its attribute, as written, makes a template a shadow root
 abbrev pub is_shadow : Option (List ℕ) → Bool

@@ -23,8 +23,8 @@ abbrev pub byte_text : ℕ → List ℕ
 byte_text c = if c == 0 then encode_utf8 65533 else c ∷ []
 
 -- the text of a byte that is not part of an escape, or that begins one
-abbrev pub plain_text : ℕ → List ℕ
-plain_text c = if c == 92 then [] else byte_text c
+abbrev pub unescaped_text : ℕ → List ℕ
+unescaped_text c = if c == 92 then [] else byte_text c
 
 abbrev pub plain_state : ℕ → State
 plain_state c = if c == 92 then Backslash else Plain
@@ -47,7 +47,7 @@ escaped_with c (Some digit) = Number digit 1
 
 -- the text of a number at its end, and of the byte after it. White space after a number is part of the escape.
 abbrev pub ended_text : ℕ → ℕ → List ℕ
-ended_text n c = encode_utf8 (character_of n) ++ (if is_space c then [] else plain_text c)
+ended_text n c = encode_utf8 (character_of n) ++ (if is_space c then [] else unescaped_text c)
 
 abbrev pub ended_state : ℕ → State
 ended_state c = if c == 13 then Return else if is_space c then Plain else plain_state c
@@ -62,10 +62,10 @@ numbered_with n count c (Some digit) = if nat_lt count 6 then Number (number_aft
 
 -- the text that a byte adds in a state
 abbrev pub step_text : State → ℕ → List ℕ
-step_text Plain c = plain_text c
+step_text Plain c = unescaped_text c
 step_text Backslash c = escaped_text c
 step_text (Number n count) c = numbered_text n count c
-step_text Return c = if c == 10 then [] else plain_text c
+step_text Return c = if c == 10 then [] else unescaped_text c
 
 -- the state after it
 abbrev pub state_after : State → ℕ → State

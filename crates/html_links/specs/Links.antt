@@ -43,15 +43,15 @@ abbrev pub is_link_type : List ℕ → Bool
 is_link_type word = not (same_name word [] || same_name word (codes "preconnect") || same_name word (codes "dns-prefetch"))
 
 -- one of the keywords, which are separated by white space, makes a link; the first keyword begins with these bytes
-abbrev pub types_behind : List ℕ → List ℕ → Bool
-types_behind word [] = is_link_type word
-types_behind word (c ∷ rest) =
-    if is_space c then (if is_link_type word then true else types_behind [] rest) else types_behind (word ++ c ∷ []) rest
+abbrev pub types_after : List ℕ → List ℕ → Bool
+types_after word [] = is_link_type word
+types_after word (c ∷ rest) =
+    if is_space c then (if is_link_type word then true else types_after [] rest) else types_after (word ++ c ∷ []) rest
 
 -- the `rel` of a `link`, or its `itemprop` if it has no `rel`, makes it a link to a document
 abbrev pub is_related : Option (List ℕ) → Option (List ℕ) → Bool
 is_related None item = not (is_absent item)
-is_related (Some rel) item = types_behind [] (text_of rel)
+is_related (Some rel) item = types_after [] (text_of rel)
 
 -- the value of an enumerated attribute is this keyword, in any case
 abbrev pub is_keyword : List ℕ → Option (List ℕ) → Bool

@@ -7,7 +7,7 @@ use Rattle.html_links.specs.declared.document.Markup.TheVariants as markup
 use Rattle.html_links.specs.declared.document.StartTagAt.{StartTagAt}
 use Rattle.html_links.specs.declared.context.Context.{Context}
 use Rattle.html_links.specs.Tags.{class_of, lower, BeforeName, Tag}
-use Rattle.html_links.specs.Shown.{front, behind, attribute_at}
+use Rattle.html_links.specs.Shown.{front, following, attribute_at}
 use Rattle.html_links.specs.Document.{StartTag, Token, Data, InTag, TagOpen, EndTagOpen, read}
 
 abbrev pub in_tag_name : ℕ → Bool
@@ -18,9 +18,9 @@ abbrev pub led_front : (ℕ → Bool) → List ℕ → List ℕ
 led_front test [] = []
 led_front test (c ∷ rest) = c ∷ front test rest
 
-abbrev pub led_behind : (ℕ → Bool) → List ℕ → List ℕ
-led_behind test [] = []
-led_behind test (c ∷ rest) = behind test rest
+abbrev pub led_after : (ℕ → Bool) → List ℕ → List ℕ
+led_after test [] = []
+led_after test (c ∷ rest) = following test rest
 
 abbrev pub start_tag_at : StartTagAt → StartTag
 start_tag_at t = record { name = map lower t.name.now; attributes = map attribute_at t.attributes.items; self_closing = t.self_closing }

@@ -10,7 +10,7 @@ use Rattle.html_links.specs.declared.next_tag.NextTag.{NextTag}
 use Rattle.html_links.specs.Tags.{lower}
 use Rattle.html_links.specs.Document.{StartTag, Token, Start, TemplateEnd, Data, read}
 use Rattle.html_links.specs.Contexts.{context_of, is_foreign, element_at, closes_itself, opens_template}
-use Rattle.html_links.specs.Elements.{wanted_of, is_inert}
+use Rattle.html_links.specs.Elements.{names_of_attributes, is_inert}
 use Rattle.html_links.specs.RawText as raw
 use Rattle.html_links.specs.Shown.{front}
 use Rattle.html_links.specs.Values.{Values, values_of}
@@ -43,7 +43,7 @@ seen_with name element values sheet = record { name = name; element = element; v
 -- what is seen of a start tag with these bytes after it
 abbrev pub seen_of : Context → StartTag → List ℕ → Seen
 seen_of at t bytes =
-    seen_with t.name (element_at at t.name) (values_of (wanted_of (element_at at t.name)) t.attributes t.self_closing) (sheet_of at t.name t.self_closing bytes)
+    seen_with t.name (element_at at t.name) (values_of (names_of_attributes (element_at at t.name)) t.attributes t.self_closing) (sheet_of at t.name t.self_closing bytes)
 
 -- the number of templates that are open after the tag, if none was open before it
 abbrev pub opened : Context → Seen → ℕ

@@ -14,9 +14,9 @@ front test [] = []
 front test (c ∷ rest) = if test c then c ∷ front test rest else []
 
 -- the bytes after that prefix
-abbrev pub behind : (ℕ → Bool) → List ℕ → List ℕ
-behind test [] = []
-behind test (c ∷ rest) = if test c then behind test rest else c ∷ rest
+abbrev pub following : (ℕ → Bool) → List ℕ → List ℕ
+following test [] = []
+following test (c ∷ rest) = if test c then following test rest else c ∷ rest
 
 abbrev pub is_space : ℕ → Bool
 is_space c = elim (class_of c) [ Space ↦ true | _ ↦ false ]
@@ -43,9 +43,9 @@ abbrev pub name_front : List ℕ → List ℕ
 name_front [] = []
 name_front (c ∷ rest) = c ∷ front in_name rest
 
-abbrev pub name_behind : List ℕ → List ℕ
-name_behind [] = []
-name_behind (c ∷ rest) = behind in_name rest
+abbrev pub following_name : List ℕ → List ℕ
+following_name [] = []
+following_name (c ∷ rest) = following in_name rest
 
 abbrev pub attribute_at : AttributeAt → Attribute
 attribute_at a = record { name = map lower a.name.now; value = a.value.now }

@@ -8,8 +8,8 @@ use Rattle.html_links.specs.declared.style.Run.TheVariants as run
 use Rattle.html_links.specs.declared.escapes.State.{State}
 use Rattle.html_links.specs.declared.escapes.State.TheVariants as state
 use Rattle.html_links.specs.Escapes.{is_break, is_escaped, state_after, unescaped}
-use Rattle.html_links.specs.Shown.{behind}
-use Rattle.html_links.specs.Refresh.{behind_letter, and_then, is_quote}
+use Rattle.html_links.specs.Shown.{following}
+use Rattle.html_links.specs.Refresh.{after_letter, and_then, is_quote}
 
 -- white space, including the vertical tab
 abbrev pub is_wide_space : ℕ → Bool
@@ -46,9 +46,9 @@ abbrev pub continues : Run → State → ℕ → Bool
 continues kind here c = is_escaped here c || in_run kind c
 
 -- the bytes after such a run, from those after the bytes of a state
-abbrev pub behind_run : Run → State → List ℕ → List ℕ
-behind_run kind here [] = []
-behind_run kind here (c ∷ rest) = if continues kind here c then behind_run kind (state_after here c) rest else c ∷ rest
+abbrev pub after_run : Run → State → List ℕ → List ℕ
+after_run kind here [] = []
+after_run kind here (c ∷ rest) = if continues kind here c then after_run kind (state_after here c) rest else c ∷ rest
 
 -- the bytes before some at the end
 abbrev pub before : List ℕ → List ℕ → List ℕ
@@ -65,73 +65,73 @@ run_in quote = if quote == 34 then run.Double else run.Single
 -- a text in quotes
 abbrev pub quoted : List ℕ → Option Found
 quoted [] = None
-quoted (c ∷ rest) = if is_quote c then closed c rest (behind_run (run_in c) state.Plain rest) else None
+quoted (c ∷ rest) = if is_quote c then closed c rest (after_run (run_in c) state.Plain rest) else None
 
-abbrev pub behind_closed : ℕ → List ℕ → List ℕ
-behind_closed quote [] = []
-behind_closed quote (c ∷ left) = if c == quote then left else c ∷ left
+abbrev pub after_closed : ℕ → List ℕ → List ℕ
+after_closed quote [] = []
+after_closed quote (c ∷ left) = if c == quote then left else c ∷ left
 
 -- the bytes after it, or from the line break at which it is broken off
-abbrev pub behind_quoted : List ℕ → Option (List ℕ)
-behind_quoted [] = None
-behind_quoted (c ∷ rest) = if is_quote c then Some (behind_closed c (behind_run (run_in c) state.Plain rest)) else None
+abbrev pub after_quoted : List ℕ → Option (List ℕ)
+after_quoted [] = None
+after_quoted (c ∷ rest) = if is_quote c then Some (after_closed c (after_run (run_in c) state.Plain rest)) else None
 
 abbrev pub some_url : List ℕ → List ℕ → Option Found
 some_url [] rest = None
 some_url (c ∷ url) rest = Some (found_with (c ∷ url) rest)
 
 abbrev pub plain : List ℕ → Option Found
-plain bytes = some_url (before bytes (behind_run run.Plain state.Plain bytes)) (behind_run run.Plain state.Plain bytes)
+plain bytes = some_url (before bytes (after_run run.Plain state.Plain bytes)) (after_run run.Plain state.Plain bytes)
 
 abbrev pub in_brackets : List ℕ → Option Found
-in_brackets bytes = or_found (quoted (behind is_wide_space bytes)) (plain (behind is_wide_space bytes))
+in_brackets bytes = or_found (quoted (following is_wide_space bytes)) (plain (following is_wide_space bytes))
 
 -- the bytes after `url(`
-abbrev pub behind_url : List ℕ → Option (List ℕ)
-behind_url bytes =
-    and_then (behind_letter 117 bytes) (λ bytes. and_then (behind_letter 114 bytes) (λ bytes. and_then (behind_letter 108 bytes) (behind_letter 40)))
+abbrev pub after_url : List ℕ → Option (List ℕ)
+after_url bytes =
+    and_then (after_letter 117 bytes) (λ bytes. and_then (after_letter 114 bytes) (λ bytes. and_then (after_letter 108 bytes) (after_letter 40)))
 
 -- the bytes after `@import`
-abbrev pub behind_import : List ℕ → Option (List ℕ)
-behind_import bytes =
-    and_then (behind_letter 64 bytes) (λ bytes. and_then (behind_letter 105 bytes) (λ bytes. and_then (behind_letter 109 bytes) (λ bytes. and_then (behind_letter 112 bytes)
-    (λ bytes. and_then (behind_letter 111 bytes) (λ bytes. and_then (behind_letter 114 bytes) (behind_letter 116))))))
+abbrev pub after_import : List ℕ → Option (List ℕ)
+after_import bytes =
+    and_then (after_letter 64 bytes) (λ bytes. and_then (after_letter 105 bytes) (λ bytes. and_then (after_letter 109 bytes) (λ bytes. and_then (after_letter 112 bytes)
+    (λ bytes. and_then (after_letter 111 bytes) (λ bytes. and_then (after_letter 114 bytes) (after_letter 116))))))
 
 -- the bytes after a `/*`, which begins a comment
 abbrev pub opened : List ℕ → Option (List ℕ)
-opened bytes = and_then (behind_letter 47 bytes) (behind_letter 42)
+opened bytes = and_then (after_letter 47 bytes) (after_letter 42)
 
 -- the bytes after a comment, from bytes inside it; the flag says whether the byte before these is a `*`
-abbrev pub behind_comment : Bool → List ℕ → List ℕ
-behind_comment starred [] = []
-behind_comment starred (c ∷ rest) = if starred && c == 47 then rest else behind_comment (c == 42) rest
+abbrev pub past_comment : Bool → List ℕ → List ℕ
+past_comment starred [] = []
+past_comment starred (c ∷ rest) = if starred && c == 47 then rest else past_comment (c == 42) rest
 
-abbrev pub found_behind : Option (List ℕ) → Bool → List ℕ → Option Found
-found_behind (Some inner) imports bytes = in_brackets inner
-found_behind None imports bytes = if imports then quoted bytes else None
+abbrev pub found_after : Option (List ℕ) → Bool → List ℕ → Option Found
+found_after (Some inner) imports bytes = in_brackets inner
+found_after None imports bytes = if imports then quoted bytes else None
 
 -- the URL with which the bytes begin; the flag says whether a text in quotes there would be that of an `@import`
 abbrev pub found_at : Bool → List ℕ → Option Found
-found_at imports bytes = found_behind (behind_url bytes) imports bytes
+found_at imports bytes = found_after (after_url bytes) imports bytes
 
 -- the bytes after the name that begins with a byte, or after a byte that begins no name
-abbrev pub behind_name : ℕ → List ℕ → List ℕ
-behind_name c rest = if in_word c then behind_run run.Word (state_after state.Plain c) rest else rest
+abbrev pub after_name : ℕ → List ℕ → List ℕ
+after_name c rest = if in_word c then after_run run.Word (state_after state.Plain c) rest else rest
 
 -- likewise with the flag: between an `@import` and its text only white space may be
 abbrev pub pass_byte : Bool → List ℕ → List ℕ × Bool
 pass_byte imports [] = ([], false)
-pass_byte imports (c ∷ rest) = (behind_name c rest, imports && is_wide_space c)
+pass_byte imports (c ∷ rest) = (after_name c rest, imports && is_wide_space c)
 
 abbrev pub passed : Bool → List ℕ → Option (List ℕ) → Option (List ℕ) → Option (List ℕ) → List ℕ × Bool
-passed imports bytes (Some comment) text word = (behind_comment false comment, imports)
+passed imports bytes (Some comment) text word = (past_comment false comment, imports)
 passed imports bytes None (Some rest) word = (rest, false)
 passed imports bytes None None (Some rest) = (rest, true)
 passed imports bytes None None None = pass_byte imports bytes
 
 -- the bytes after those at the start that name no URL, and the flag
 abbrev pub pass : Bool → List ℕ → List ℕ × Bool
-pass imports bytes = passed imports bytes (opened bytes) (behind_quoted bytes) (behind_import bytes)
+pass imports bytes = passed imports bytes (opened bytes) (after_quoted bytes) (after_import bytes)
 
 abbrev pub urls_after : Option Found → List ℕ × Bool → (Bool → List ℕ → List (List ℕ)) → List (List ℕ)
 urls_after None left on = on left.1 left.0

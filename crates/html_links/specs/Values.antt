@@ -6,7 +6,7 @@ use Rattle.std.specs.Borrow.{Bor}
 use Rattle.html_links.specs.declared.found.Values as code
 use Rattle.html_links.specs.Tags.{lower, Attribute, Tag}
 use Rattle.html_links.specs.Comments.{bytes_at}
-use Rattle.html_links.specs.Elements.{Wanted}
+use Rattle.html_links.specs.Elements.{AttributeNames}
 
 -- the value of the first attribute with a name
 abbrev pub first_named : List ℕ → List Attribute → Option (List ℕ)
@@ -27,7 +27,7 @@ is_absent None = true
 is_absent (Some value) = false
 
 -- the values of a tag with these attributes and this self-closing flag
-abbrev pub values_of : Wanted → List Attribute → Bool → Values
+abbrev pub values_of : AttributeNames → List Attribute → Bool → Values
 values_of w all self_closing = record {
   first = first_named w.first all;
   second = first_named w.second all;
@@ -46,7 +46,7 @@ pub record TagValues : Type 0 where
 abbrev pub tag_with : Values → List ℕ → TagValues
 tag_with values rest = record { values = values; rest = rest }
 
-abbrev pub values_in : Wanted → Option Tag → Option TagValues
+abbrev pub values_in : AttributeNames → Option Tag → Option TagValues
 values_in w None = None
 values_in w (Some t) = Some (tag_with (values_of w t.attributes t.self_closing) t.rest)
 
@@ -71,7 +71,7 @@ no_values = record { first = None; second = None; third = None; style = None; id
 abbrev pub or_named : Option (List ℕ) → List ℕ → Attribute → Option (List ℕ)
 or_named value name a = option_or value (if bytes_eq a.name (map lower name) then Some a.value else None)
 
-abbrev pub with_attribute : Values → Wanted → Attribute → Values
+abbrev pub with_attribute : Values → AttributeNames → Attribute → Values
 with_attribute v w a = record {
   first = or_named v.first w.first a;
   second = or_named v.second w.second a;

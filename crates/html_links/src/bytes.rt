@@ -1,7 +1,7 @@
 //! Classes of bytes, and slices up to the first byte of another class.
 ghost use Rattle.std.specs.Prelude.{◌≡◌, ◌∷◌, ◌==◌, [], length, not, MatchOption, take_while};
 ghost use Rattle.html_links.specs.Tags.{class_of};
-ghost use Rattle.html_links.specs.Shown.{front, behind, is_space, in_name, in_unquoted, name_front, name_behind, BeginsName, Stopped};
+ghost use Rattle.html_links.specs.Shown.{front, following, is_space, in_name, in_unquoted, name_front, following_name, BeginsName, Stopped};
 
 use crate::near::{find_byte, near_byte};
 
@@ -99,7 +99,7 @@ pub(crate) fn parts(bytes: &[u8]) -> Option<(u8, &[u8])>
 }
 
 /// The bytes after this byte, if it is the first.
-pub(crate) fn behind_byte(byte: u8, bytes: &[u8]) -> Option<&[u8]>
+pub(crate) fn after_byte(byte: u8, bytes: &[u8]) -> Option<&[u8]>
     ensures { MatchOption result (Stopped (λ c. c == byte) bytes.now) (λ more. bytes.now ≡ byte ∷ more.now) }
 {
     let Some((first, more)) = parts(bytes) else {
@@ -109,9 +109,9 @@ pub(crate) fn behind_byte(byte: u8, bytes: &[u8]) -> Option<&[u8]>
 }
 
 /// The bytes after the white space at the front, if there is any.
-#[tactic(auto, using(std::proofs::lemmas::List::take_rest, crate::proofs::Cuts::behind_cut, crate::proofs::Jumps::stopped))]
+#[tactic(auto, using(std::proofs::lemmas::List::take_rest, crate::proofs::Cuts::after_cut, crate::proofs::Jumps::stopped))]
 pub(crate) fn skip_space(bytes: &[u8]) -> &[u8]
-    ensures skipped { result.now ≡ behind is_space bytes.now }
+    ensures skipped { result.now ≡ following is_space bytes.now }
     ensures stopped { Stopped is_space result.now }
 {
     &bytes[space_len(bytes)..]
@@ -122,16 +122,16 @@ pub(crate) fn skip_space(bytes: &[u8]) -> &[u8]
 pub(crate) fn split_name(bytes: &[u8]) -> (&[u8], &[u8])
     requires { BeginsName bytes.now }
     ensures name { result.0.now ≡ name_front bytes.now }
-    ensures rest { result.1.now ≡ name_behind bytes.now }
+    ensures rest { result.1.now ≡ following_name bytes.now }
 {
     bytes.split_at(1 + name_len(&bytes[1..]))
 }
 
 /// A value without quotes, which may be empty, and the bytes from the white space or `>` that ends it.
-#[tactic(auto, using(crate::proofs::Cuts::front_cut, crate::proofs::Cuts::behind_cut))]
+#[tactic(auto, using(crate::proofs::Cuts::front_cut, crate::proofs::Cuts::after_cut))]
 pub(crate) fn split_unquoted(bytes: &[u8]) -> (&[u8], &[u8])
     ensures value { result.0.now ≡ front in_unquoted bytes.now }
-    ensures rest { result.1.now ≡ behind in_unquoted bytes.now }
+    ensures rest { result.1.now ≡ following in_unquoted bytes.now }
 {
     bytes.split_at(unquoted_len(bytes))
 }
@@ -140,8 +140,8 @@ pub(crate) fn split_unquoted(bytes: &[u8]) -> (&[u8], &[u8])
 #[inline(always)]
 #[tactic(auto, using(std::proofs::lemmas::List::take_rest, crate::proofs::Cuts::quote_cut, crate::proofs::Cuts::no_quote))]
 pub(crate) fn split_quoted(quote: u8, bytes: &[u8]) -> Option<(&[u8], &[u8])>
-    ensures { MatchOption result (behind (λ c. not (c == quote)) bytes.now ≡ [])
-        (λ x. (x.0.now ≡ front (λ c. not (c == quote)) bytes.now) × (quote ∷ x.1.now ≡ behind (λ c. not (c == quote)) bytes.now)) }
+    ensures { MatchOption result (following (λ c. not (c == quote)) bytes.now ≡ [])
+        (λ x. (x.0.now ≡ front (λ c. not (c == quote)) bytes.now) × (quote ∷ x.1.now ≡ following (λ c. not (c == quote)) bytes.now)) }
 {
     match near_byte(quote, bytes) {
         Some(end) => Some((&bytes[..end], &bytes[end + 1..])),
@@ -152,8 +152,8 @@ pub(crate) fn split_quoted(quote: u8, bytes: &[u8]) -> Option<(&[u8], &[u8])>
 /// The bytes after the first such byte, which may be far.
 #[inline(always)]
 #[tactic(auto, using(std::proofs::lemmas::List::take_rest, crate::proofs::Cuts::quote_cut, crate::proofs::Cuts::no_quote))]
-pub(crate) fn behind_first(byte: u8, bytes: &[u8]) -> Option<&[u8]>
-    ensures { MatchOption result (behind (λ c. not (c == byte)) bytes.now ≡ []) (λ rest. byte ∷ rest.now ≡ behind (λ c. not (c == byte)) bytes.now) }
+pub(crate) fn after_first(byte: u8, bytes: &[u8]) -> Option<&[u8]>
+    ensures { MatchOption result (following (λ c. not (c == byte)) bytes.now ≡ []) (λ rest. byte ∷ rest.now ≡ following (λ c. not (c == byte)) bytes.now) }
 {
     match find_byte(byte, bytes) {
         Some(end) => Some(&bytes[end + 1..]),

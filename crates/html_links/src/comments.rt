@@ -1,10 +1,10 @@
 //! The end of a comment.
 ghost use Rattle.std.specs.Prelude.{◌≡◌, ◌≤◌, ◌==◌, length, option_map, IfSome, take_while};
 ghost use Rattle.html_links.specs.Comments.{Comment, run, comment_rest, bytes_at};
-ghost use Rattle.html_links.specs.Shown.{behind, Stopped};
+ghost use Rattle.html_links.specs.Shown.{following, Stopped};
 ghost use Rattle.html_links.specs.Dashes.{Dashed, LeavesRest};
 
-use crate::bytes::{behind_byte, split_quoted};
+use crate::bytes::{after_byte, split_quoted};
 
 /// The bytes after a comment, from those after its `<!--`. `None` if the comment does not end.
 #[inline(always)]
@@ -25,23 +25,23 @@ fn comment_left(bytes: &[u8]) -> Option<usize>
     ensures left { result ≡ option_map length (comment_rest bytes.now) }
     ensures within { IfSome result (λ left. left ≤ length bytes.now) }
 {
-    match behind_comment(bytes) {
+    match past_comment(bytes) {
         Some(rest) => Some(rest.len()),
         None => None,
     }
 }
 
 /// The bytes after a comment, from those after its `<!--`. A `>` or `->` there ends it. `None` if the comment does not end.
-fn behind_comment(bytes: &[u8]) -> Option<&[u8]>
+fn past_comment(bytes: &[u8]) -> Option<&[u8]>
     ensures { bytes_at result ≡ comment_rest bytes.now }
 {
-    if let Some(last) = behind_byte(b'>', bytes) {
+    if let Some(last) = after_byte(b'>', bytes) {
         return Some(last);
     }
-    let Some(more) = behind_byte(b'-', bytes) else {
+    let Some(more) = after_byte(b'-', bytes) else {
         return in_comment(bytes);
     };
-    match behind_byte(b'>', more) {
+    match after_byte(b'>', more) {
         Some(last) => Some(last),
         None => in_comment(bytes),
     }
@@ -70,17 +70,17 @@ fn after_dash(bytes: &[u8]) -> Result<&[u8], &[u8]>
     ensures ends { Dashed result bytes.now }
     ensures leaves { LeavesRest result bytes.now }
 {
-    let Some(dashed) = behind_byte(b'-', bytes) else {
+    let Some(dashed) = after_byte(b'-', bytes) else {
         return Err(bytes);
     };
     let more = skip_dashes(dashed);
-    if let Some(last) = behind_byte(b'>', more) {
+    if let Some(last) = after_byte(b'>', more) {
         return Ok(last);
     }
-    let Some(banged) = behind_byte(b'!', more) else {
+    let Some(banged) = after_byte(b'!', more) else {
         return Err(more);
     };
-    match behind_byte(b'>', banged) {
+    match after_byte(b'>', banged) {
         Some(last) => Ok(last),
         None => Err(banged),
     }
@@ -94,9 +94,9 @@ fn dash_len(bytes: &[u8]) -> usize
 }
 
 /// The bytes from the first one that is not a `-`.
-#[tactic(auto, using(std::proofs::lemmas::List::take_rest, crate::proofs::Cuts::behind_cut, crate::proofs::Jumps::stopped))]
+#[tactic(auto, using(std::proofs::lemmas::List::take_rest, crate::proofs::Cuts::after_cut, crate::proofs::Jumps::stopped))]
 fn skip_dashes(bytes: &[u8]) -> &[u8]
-    ensures skipped { result.now ≡ behind (λ c. c == 45) bytes.now }
+    ensures skipped { result.now ≡ following (λ c. c == 45) bytes.now }
     ensures stopped { Stopped (λ c. c == 45) result.now }
 {
     &bytes[dash_len(bytes)..]

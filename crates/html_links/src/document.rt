@@ -4,10 +4,10 @@ ghost use Rattle.html_links.specs.Tags.{tag_of, lower};
 ghost use Rattle.html_links.specs.Comments.{bytes_at};
 ghost use Rattle.html_links.specs.Shown.{Stopped};
 ghost use Rattle.html_links.specs.declared.context.Context.{Context};
-ghost use Rattle.html_links.specs.Document.{opening_of, read, tags_of, behind_start, content_at, content_of, is_raw, Bogus, MarkupDeclaration, raw_content, script_content};
-ghost use Rattle.html_links.specs.Markup.{in_tag_name, led_front, led_behind, start_tag_at, read_rest, rest_of, MarkupReads, MarkupEnds, other_markup, MarkupLeaves, RestLeaves};
+ghost use Rattle.html_links.specs.Document.{opening_of, read, tags_of, after_start, content_at, content_of, is_raw, Bogus, MarkupDeclaration, raw_content, script_content};
+ghost use Rattle.html_links.specs.Markup.{in_tag_name, led_front, led_after, start_tag_at, read_rest, rest_of, MarkupReads, MarkupEnds, other_markup, MarkupLeaves, RestLeaves};
 
-use crate::bytes::{Class, LAST_MARK, behind_byte, behind_first, class_of, parts, split_quoted};
+use crate::bytes::{Class, LAST_MARK, after_byte, after_first, class_of, parts, split_quoted};
 use crate::cdata::after_cdata;
 use crate::comments::after_comment;
 use crate::context::{
@@ -91,7 +91,7 @@ fn tag_name_len(bytes: &[u8]) -> usize
 fn split_tag_name(bytes: &[u8]) -> (&[u8], &[u8])
     requires { 0 < length bytes.now }
     ensures name { result.0.now ≡ led_front in_tag_name bytes.now }
-    ensures rest { result.1.now ≡ led_behind in_tag_name bytes.now }
+    ensures rest { result.1.now ≡ led_after in_tag_name bytes.now }
 {
     bytes.split_at(1 + tag_name_len(&bytes[1..]))
 }
@@ -104,7 +104,7 @@ fn after_bogus(bytes: &[u8]) -> Option<&[u8]>
     ensures reads { (at : Context) → read at Bogus bytes.now ≡ read_rest at result }
     ensures leaves { RestLeaves result bytes.now }
 {
-    match behind_first(b'>', bytes) {
+    match after_first(b'>', bytes) {
         Some(rest) => Some(rest),
         None => None,
     }
@@ -116,10 +116,10 @@ fn after_declaration(context: Context, bytes: &[u8]) -> Option<&[u8]>
     ensures reads { read context MarkupDeclaration bytes.now ≡ read_rest context result }
     ensures leaves { RestLeaves result bytes.now }
 {
-    let Some(dashed) = behind_byte(b'-', bytes) else {
+    let Some(dashed) = after_byte(b'-', bytes) else {
         return after_marked(context, bytes);
     };
-    match behind_byte(b'-', dashed) {
+    match after_byte(b'-', dashed) {
         Some(text) => after_comment(text),
         None => after_bogus(dashed),
     }
@@ -135,7 +135,7 @@ fn after_marked(context: Context, bytes: &[u8]) -> Option<&[u8]>
     if !is_foreign(context) {
         return after_bogus(bytes);
     }
-    match behind_byte(b'[', bytes) {
+    match after_byte(b'[', bytes) {
         Some(more) => after_cdata(more),
         None => after_bogus(bytes),
     }
@@ -198,7 +198,7 @@ pub(crate) fn next_markup(context: Context, bytes: &[u8]) -> Markup<'_>
 pub(crate) fn after_tag(bytes: &[u8]) -> Option<&[u8]>
     ensures { bytes_at result ≡ rest_of (tag_of bytes.now) }
 {
-    match behind_byte(b'>', bytes) {
+    match after_byte(b'>', bytes) {
         Some(last) => Some(last),
         None => after_pieces(bytes),
     }
@@ -281,7 +281,7 @@ fn after_whole_script(bytes: &[u8]) -> Option<&[u8]>
 
 /// The bytes after a start tag in this context, or after the end tag of its element if the content is text.
 pub(crate) fn after_element<'a>(context: Context, name: &[u8], bytes: &'a [u8]) -> Option<&'a [u8]>
-    ensures reads { (at : Context) → read at (behind_start (content_at context (map lower name.now)) (map lower name.now)) bytes.now ≡ read_rest at result }
+    ensures reads { (at : Context) → read at (after_start (content_at context (map lower name.now)) (map lower name.now)) bytes.now ≡ read_rest at result }
     ensures leaves { RestLeaves result bytes.now }
 {
     if is_foreign(context) {

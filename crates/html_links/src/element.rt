@@ -2,7 +2,7 @@
 ghost use Rattle.std.specs.Prelude.{◌≡◌, map};
 ghost use Rattle.html_links.specs.Tags.{lower};
 ghost use Rattle.html_links.specs.Comments.{bytes_at};
-ghost use Rattle.html_links.specs.Elements.{is_anchor, is_background, is_embedded, is_inert, is_shadow, is_usual, element_of, has_rare_names, wanted_at, wanted_of, wants};
+ghost use Rattle.html_links.specs.Elements.{is_anchor, is_background, is_embedded, is_inert, is_shadow, is_usual, element_of, has_rare_names, attribute_names_at, names_of_attributes, attribute_names};
 
 use crate::lengths::may_be;
 use crate::raw_text::same_name;
@@ -36,7 +36,7 @@ pub(crate) enum Element {
 
 /// The names of the attributes that are read of an element. An empty name is that of no attribute.
 #[derive(Clone, Copy)]
-pub(crate) struct Wanted {
+pub(crate) struct AttributeNames {
     pub(crate) first: &'static [u8],
     pub(crate) second: &'static [u8],
     pub(crate) third: &'static [u8],
@@ -137,8 +137,8 @@ pub(crate) fn element_of(name: &[u8]) -> Element
 }
 
 /// The attributes that name documents, in the order of their links, and those that decide whether others do.
-pub(crate) fn wanted_of(element: Element) -> Wanted
-    ensures { wanted_at result ≡ wanted_of element }
+pub(crate) fn names_of_attributes(element: Element) -> AttributeNames
+    ensures { attribute_names_at result ≡ names_of_attributes element }
 {
     match element {
         Element::Anchor => names(b"href", b"xlink:href", b""),
@@ -153,7 +153,7 @@ pub(crate) fn wanted_of(element: Element) -> Wanted
         Element::InlineFrame => names(b"src", b"longdesc", b"srcdoc"),
         Element::Source => names(b"src", b"srcset", b""),
         Element::Input => names(b"src", b"formaction", b"type"),
-        Element::Link => Wanted {
+        Element::Link => AttributeNames {
             first: b"href",
             second: b"imagesrcset",
             third: b"rel",
@@ -177,10 +177,10 @@ pub(crate) fn has_rare_names(element: Element) -> bool
 }
 
 /// The names of the first, second and third attribute that are read, and `name`. An empty name is that of no attribute.
-fn names(first: &'static [u8], second: &'static [u8], third: &'static [u8]) -> Wanted
-    ensures { wanted_at result ≡ wants first.now second.now third.now }
+fn names(first: &'static [u8], second: &'static [u8], third: &'static [u8]) -> AttributeNames
+    ensures { attribute_names_at result ≡ attribute_names first.now second.now third.now }
 {
-    Wanted {
+    AttributeNames {
         first,
         second,
         third,

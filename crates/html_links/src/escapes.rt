@@ -1,6 +1,6 @@
 //! Escapes in the URLs of style sheets.
 ghost use Rattle.std.specs.Prelude.{◌≡◌, ◌++◌, OnOk};
-ghost use Rattle.html_links.specs.Escapes.{at_end, byte_text, character_of, ended_state, escaped_text, escaped_with, is_break, is_escaped, is_hex, numbered_text, numbered_with, plain_state, plain_text, state_after, step_text, unescaped};
+ghost use Rattle.html_links.specs.Escapes.{at_end, byte_text, character_of, ended_state, escaped_text, escaped_with, is_break, is_escaped, is_hex, numbered_text, numbered_with, plain_state, unescaped_text, state_after, step_text, unescaped};
 
 use crate::bytes::{is_space, parts};
 use crate::references::{digit_in, number_after, push_character};
@@ -89,7 +89,7 @@ fn push_end(state: State, out: &mut Vec<u8>) -> Result<(), AllocError>
 
 /// Appends the text of a byte that is not part of an escape, or that begins one.
 fn push_plain(byte: u8, out: &mut Vec<u8>) -> Result<(), AllocError>
-    ensures { OnOk result (out.new.items ≡ out.old.items ++ plain_text byte) }
+    ensures { OnOk result (out.new.items ≡ out.old.items ++ unescaped_text byte) }
 {
     if byte == b'\\' {
         Ok(())

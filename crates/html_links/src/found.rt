@@ -4,11 +4,11 @@ ghost use Rattle.std.specs.Option.{option_or};
 ghost use Rattle.html_links.specs.Tags.{tag_of};
 ghost use Rattle.html_links.specs.Comments.{bytes_at};
 ghost use Rattle.html_links.specs.Shown.{attribute_at};
-ghost use Rattle.html_links.specs.Elements.{wanted_at, wanted_of};
+ghost use Rattle.html_links.specs.Elements.{attribute_names_at, names_of_attributes};
 ghost use Rattle.html_links.specs.Passed.{name_nothing};
 ghost use Rattle.html_links.specs.Values.{is_absent, or_named, values_at, no_values, with_attribute, values_in, tag_values};
 
-use crate::element::{Element, Wanted, has_rare_names, wanted_of};
+use crate::element::{AttributeNames, Element, has_rare_names, names_of_attributes};
 use crate::lengths::may_be;
 use crate::raw_text::same_name;
 use crate::tag::{AttributeAt, Piece, next_piece};
@@ -142,10 +142,10 @@ fn is_link(element: Element, name: &[u8]) -> bool
 
 /// Takes the `href` of an `a`, which has `left` bytes after it.
 #[inline(always)]
-#[tactic(auto, using(crate::proofs::Telling::or_none))]
+#[tactic(auto, using(crate::proofs::Naming::or_none))]
 fn take_link<'a>(values: &mut Values<'a>, attribute: AttributeAt<'a>, left: usize)
     requires { attribute.name.now ≡ codes "href" }
-    ensures { values_at values.new ≡ with_attribute (values_at values.old) (wanted_of Element.Anchor) (attribute_at attribute.entry) }
+    ensures { values_at values.new ≡ with_attribute (values_at values.old) (names_of_attributes Element.Anchor) (attribute_at attribute.entry) }
 {
     if take_value(&mut values.first, attribute.value) {
         values.first_left = left;
@@ -160,7 +160,7 @@ fn take_attribute<'a>(
     attribute: AttributeAt<'a>,
     left: usize,
 )
-    ensures { values_at values.new ≡ with_attribute (values_at values.old) (wanted_of element) (attribute_at attribute.entry) }
+    ensures { values_at values.new ≡ with_attribute (values_at values.old) (names_of_attributes element) (attribute_at attribute.entry) }
 {
     if is_link(element, attribute.name) {
         take_link(values, attribute, left);
@@ -169,33 +169,33 @@ fn take_attribute<'a>(
     if !has_rare_names(element) && !may_be(&LENGTHS, attribute.name) {
         return;
     }
-    take_wanted(values, &wanted_of(element), attribute, left);
+    take_other(values, &names_of_attributes(element), attribute, left);
 }
 
 /// Takes the values of another attribute, by the names that are read.
 #[inline(always)]
-fn take_wanted<'a>(
+fn take_other<'a>(
     values: &mut Values<'a>,
-    wanted: &Wanted,
+    names_to_read: &AttributeNames,
     attribute: AttributeAt<'a>,
     left: usize,
 )
-    ensures { values_at values.new ≡ with_attribute (values_at values.old) (wanted_at wanted.now) (attribute_at attribute.entry) }
+    ensures { values_at values.new ≡ with_attribute (values_at values.old) (attribute_names_at names_to_read.now) (attribute_at attribute.entry) }
 {
-    if take_named(&mut values.first, wanted.first, attribute) {
+    if take_named(&mut values.first, names_to_read.first, attribute) {
         values.first_left = left;
     }
-    if take_named(&mut values.second, wanted.second, attribute) {
+    if take_named(&mut values.second, names_to_read.second, attribute) {
         values.second_left = left;
     }
-    if take_named(&mut values.third, wanted.third, attribute) {
+    if take_named(&mut values.third, names_to_read.third, attribute) {
         values.third_left = left;
     }
     if take_named(&mut values.style, b"style", attribute) {
         values.style_left = left;
     }
     take_named(&mut values.id, b"id", attribute);
-    take_named(&mut values.name, wanted.name, attribute);
+    take_named(&mut values.name, names_to_read.name, attribute);
 }
 
 /// Finds the values of a tag that are read, from the bytes after its name. Returns the bytes after the tag, or nothing if the tag
@@ -206,7 +206,7 @@ pub(crate) fn values_in<'a>(
     bytes: &'a [u8],
     values: &mut Values<'a>,
 ) -> Option<&'a [u8]>
-    ensures { tag_values (values_at values.new) result ≡ values_in (wanted_of element) (tag_of bytes.now) }
+    ensures { tag_values (values_at values.new) result ≡ values_in (names_of_attributes element) (tag_of bytes.now) }
 {
     values.clear();
     let mut rest = bytes;

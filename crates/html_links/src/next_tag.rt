@@ -1,16 +1,16 @@
 //! The next start tag of a document.
 ghost use Rattle.std.specs.Prelude.{◌≡◌, ◌==◌, ◌∷◌, [], map, not, true, false, codes, bytes_eq, Some, IfSome, MatchOption};
 ghost use Rattle.html_links.specs.Tags.{lower, tag_of};
-ghost use Rattle.html_links.specs.Shown.{behind};
-ghost use Rattle.html_links.specs.Elements.{wanted_of, is_usual};
+ghost use Rattle.html_links.specs.Shown.{following};
+ghost use Rattle.html_links.specs.Elements.{names_of_attributes, is_usual};
 ghost use Rattle.html_links.specs.Values.{values_at, values_in, tag_values, tag_with, no_values};
 ghost use Rattle.html_links.specs.declared.context.Context.TheVariants.{Html};
 ghost use Rattle.html_links.specs.Contexts.{inner_context};
-ghost use Rattle.html_links.specs.Document.{behind_start, content_at, read};
+ghost use Rattle.html_links.specs.Document.{after_start, content_at, read};
 ghost use Rattle.html_links.specs.Seen.{ContentLeaves, LeavesTag, opened, seen_from, seen_rest, seen_with, seen_within};
 ghost use Rattle.html_links.specs.Passed.{Finds, Steps, StepsTag};
 
-use crate::bytes::{behind_byte, split_quoted};
+use crate::bytes::{after_byte, split_quoted};
 use crate::context::{
     Context, closes_itself, element_at, inner_context, outer_context, tag_context,
 };
@@ -18,7 +18,7 @@ use crate::document::{Markup, after_element, after_tag, next_markup};
 use crate::element::{Element, is_inert, is_usual};
 use crate::found::{Values, values_in};
 use crate::raw_text::same_name;
-use crate::tag::behind_class;
+use crate::tag::after_class;
 use crate::template::after_template;
 
 /// A start tag: its name, the bytes after the name, its element and context, and the bytes after the tag. If its contents have no
@@ -103,7 +103,7 @@ fn next_inner_tag<'a>(
 fn next_step<'a>(bytes: &'a [u8], values: &mut Values<'a>) -> Step<'a>
     ensures { Steps result (Html 0) (values_at values.new) bytes.now (seen_from (Html 0) bytes.now) }
 {
-    let Some(opened) = behind_less(bytes) else {
+    let Some(opened) = after_less(bytes) else {
         return Step::End;
     };
     match next_markup(Context::Html(0), opened) {
@@ -121,11 +121,11 @@ fn next_step<'a>(bytes: &'a [u8], values: &mut Values<'a>) -> Step<'a>
 fn inner_step<'a>(context: &mut Context, bytes: &'a [u8], values: &mut Values<'a>) -> Step<'a>
     ensures { Steps result context.new (values_at values.new) bytes.now (seen_from context.old bytes.now) }
 {
-    let Some(opened) = behind_less(bytes) else {
+    let Some(opened) = after_less(bytes) else {
         return Step::End;
     };
     match next_markup(*context, opened) {
-        Markup::Start(name, more) => wanted_tag(*context, name, more, values),
+        Markup::Start(name, more) => relevant_tag(*context, name, more, values),
         Markup::End(name, more) => match after_tag(more) {
             Some(last) => {
                 *context = outer_context(*context, name);
@@ -141,10 +141,10 @@ fn inner_step<'a>(context: &mut Context, bytes: &'a [u8], values: &mut Values<'a
 /// The bytes after the first `<`. Tags often follow one another. This case needs no search, so the next step need not wait for
 /// the result of one.
 #[inline(always)]
-fn behind_less(bytes: &[u8]) -> Option<&[u8]>
-    ensures { MatchOption result (behind (λ c. not (c == 60)) bytes.now ≡ []) (λ opened. 60 ∷ opened.now ≡ behind (λ c. not (c == 60)) bytes.now) }
+fn after_less(bytes: &[u8]) -> Option<&[u8]>
+    ensures { MatchOption result (following (λ c. not (c == 60)) bytes.now ≡ []) (λ opened. 60 ∷ opened.now ≡ following (λ c. not (c == 60)) bytes.now) }
 {
-    if let Some(opened) = behind_byte(b'<', bytes) {
+    if let Some(opened) = after_byte(b'<', bytes) {
         return Some(opened);
     }
     match split_quoted(b'<', bytes) {
@@ -163,7 +163,7 @@ fn start_tag<'a>(name: &'a [u8], bytes: &'a [u8], values: &mut Values<'a>) -> St
     } else if same_name(name, b"a") {
         anchor_tag(name, bytes, values)
     } else {
-        wanted_tag(Context::Html(0), name, bytes, values)
+        relevant_tag(Context::Html(0), name, bytes, values)
     }
 }
 
@@ -196,16 +196,16 @@ fn usual_tag<'a>(name: &'a [u8], bytes: &'a [u8], values: &mut Values<'a>) -> St
 /// The bytes after a tag without attributes, or with only a `class`, from those after its name.
 #[inline(always)]
 fn after_plain(bytes: &[u8]) -> Option<&[u8]>
-    ensures { IfSome result (λ last. Some (tag_with no_values last.now) ≡ values_in (wanted_of Element.Other) (tag_of bytes.now)) }
+    ensures { IfSome result (λ last. Some (tag_with no_values last.now) ≡ values_in (names_of_attributes Element.Other) (tag_of bytes.now)) }
 {
-    if let Some(last) = behind_byte(b'>', bytes) {
+    if let Some(last) = after_byte(b'>', bytes) {
         return Some(last);
     }
-    let Some(quoted) = behind_class(bytes) else {
+    let Some(quoted) = after_class(bytes) else {
         return None;
     };
     match split_quoted(b'"', quoted) {
-        Some((_, rest)) => behind_byte(b'>', rest),
+        Some((_, rest)) => after_byte(b'>', rest),
         None => None,
     }
 }
@@ -213,7 +213,7 @@ fn after_plain(bytes: &[u8]) -> Option<&[u8]>
 /// Finds the values of a tag whose element names no documents, from the bytes after its name. Returns the bytes after the tag.
 #[inline(never)]
 fn usual_values<'a>(bytes: &'a [u8], values: &mut Values<'a>) -> Option<&'a [u8]>
-    ensures { tag_values (values_at values.new) result ≡ values_in (wanted_of Element.Other) (tag_of bytes.now) }
+    ensures { tag_values (values_at values.new) result ≡ values_in (names_of_attributes Element.Other) (tag_of bytes.now) }
 {
     values_in(Element::Other, bytes, values)
 }
@@ -243,7 +243,7 @@ fn anchor_tag<'a>(name: &'a [u8], bytes: &'a [u8], values: &mut Values<'a>) -> S
 /// The start tag of an element that may name documents or have text, in this context.
 #[inline(never)]
 #[tactic(auto, using(crate::proofs::Passing::has_same, crate::proofs::Passing::open_start))]
-fn wanted_tag<'a>(
+fn relevant_tag<'a>(
     context: Context,
     name: &'a [u8],
     bytes: &'a [u8],
@@ -289,7 +289,7 @@ fn after_contents<'a>(
     text: &'a [u8],
 ) -> Option<(Context, &'a [u8])>
     ensures reads { seen_within (opened context (seen_with (map lower name.now) element (values_at values.now) []))
-        (read (inner_context context (map lower name.now) element (values_at values.now)) (behind_start (content_at context (map lower name.now)) (map lower name.now)) text.now) ≡ seen_rest result }
+        (read (inner_context context (map lower name.now) element (values_at values.now)) (after_start (content_at context (map lower name.now)) (map lower name.now)) text.now) ≡ seen_rest result }
     ensures leaves { ContentLeaves result text.now }
 {
     let Some(rest) = after_element(context, name, text) else {

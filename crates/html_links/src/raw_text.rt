@@ -2,11 +2,11 @@
 ghost use Rattle.std.specs.Prelude.{◌≡◌, ◌<◌, ◌&&◌, length, map, take_while};
 ghost use Rattle.std.specs.Char.{to_ascii_lowercase};
 ghost use Rattle.html_links.specs.Comments.{bytes_at};
-ghost use Rattle.html_links.specs.Shown.{front, behind};
+ghost use Rattle.html_links.specs.Shown.{front, following};
 ghost use Rattle.html_links.specs.Tags.{is_letter};
 ghost use Rattle.html_links.specs.RawText.{Text, run, ends_at, same_name};
 
-use crate::bytes::{Class, behind_byte, class_of, parts, split_quoted};
+use crate::bytes::{Class, after_byte, class_of, parts, split_quoted};
 
 /// Whether the byte is an ASCII letter.
 pub(crate) fn is_letter(byte: u8) -> bool
@@ -23,10 +23,10 @@ fn letters_len(bytes: &[u8]) -> usize
 }
 
 /// The ASCII letters at the front, and the bytes after them.
-#[tactic(auto, using(crate::proofs::Cuts::front_cut, crate::proofs::Cuts::behind_cut))]
+#[tactic(auto, using(crate::proofs::Cuts::front_cut, crate::proofs::Cuts::after_cut))]
 fn split_letters(bytes: &[u8]) -> (&[u8], &[u8])
     ensures letters { result.0.now ≡ front is_letter bytes.now }
-    ensures rest { result.1.now ≡ behind is_letter bytes.now }
+    ensures rest { result.1.now ≡ following is_letter bytes.now }
 {
     bytes.split_at(letters_len(bytes))
 }
@@ -70,7 +70,7 @@ pub fn after_raw_text<'a>(name: &[u8], bytes: &'a [u8]) -> Option<&'a [u8]>
         let Some((_, opened)) = split_quoted(b'<', rest) else {
             return None;
         };
-        match behind_byte(b'/', opened) {
+        match after_byte(b'/', opened) {
             Some(slashed) => {
                 let (found, more) = split_letters(slashed);
                 if is_end(found, more, name) {

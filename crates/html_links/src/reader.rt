@@ -4,7 +4,7 @@ ghost use Rattle.html_links.specs.Comments.{bytes_at};
 ghost use Rattle.html_links.specs.Tags.{lower};
 ghost use Rattle.html_links.specs.References.{text_of};
 ghost use Rattle.html_links.specs.Values.{values_at};
-ghost use Rattle.html_links.specs.Links.{value_links, text_links, begins_fragment, is_link_type, types_behind, is_related, is_keyword, submits, submits_nothing, is_open_graph, is_card, names_url, is_data, names_data, form_if, meta_form, first_form, second_form, first_links, second_links, third_links, links_with, links_of, ids_with, anchors_with, ids_of, base_of, base_with, or_later, inner_form, inner_third, inner_links_with, inner_links_of, is_base, srcdoc_links};
+ghost use Rattle.html_links.specs.Links.{value_links, text_links, begins_fragment, is_link_type, types_after, is_related, is_keyword, submits, submits_nothing, is_open_graph, is_card, names_url, is_data, names_data, form_if, meta_form, first_form, second_form, first_links, second_links, third_links, links_with, links_of, ids_with, anchors_with, ids_of, base_of, base_with, or_later, inner_form, inner_third, inner_links_with, inner_links_of, is_base, srcdoc_links};
 ghost use Rattle.html_links.specs.Reads.{base_at};
 
 use crate::bytes::parts;
@@ -564,10 +564,10 @@ fn is_link_type(word: &[u8]) -> bool
 /// Whether some keyword of a `rel` makes a link to a document.
 #[tactic(auto, using(crate::proofs::Linking::found_type, crate::proofs::Linking::type_run, crate::proofs::Linking::next_word))]
 fn has_link_type(rel: &[u8]) -> bool
-    ensures { result ≡ types_behind [] rel.now }
+    ensures { result ≡ types_after [] rel.now }
 {
     let mut rest = rel;
-    'words: loop {
+    'keywords: loop {
         let (word, spaced) = split_unspaced(rest);
         if is_link_type(word) {
             return true;

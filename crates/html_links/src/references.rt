@@ -3,11 +3,11 @@ ghost use Rattle.std.specs.Prelude.{◌≡◌, ◌==◌, ◌≤◌, ◌<◌, ◌
 ghost use Rattle.std.specs.List.{take_while, position_or_len};
 ghost use Rattle.std.specs.Char.{is_ascii_alphanumeric, encode_utf8};
 ghost use Rattle.html_links.specs.Names.{bytes_at};
-ghost use Rattle.html_links.specs.Shown.{front, behind, Stopped};
+ghost use Rattle.html_links.specs.Shown.{front, following, Stopped};
 ghost use Rattle.html_links.specs.References.{Text, Reference, Name, Hash, Start, Number, read, text_of, character_of, number_after, digit_in, or_itself};
 ghost use Rattle.html_links.specs.Decoding.{is_mark, is_plain, in_base, decoded_text, Decodes};
 
-use crate::bytes::{behind_byte, parts};
+use crate::bytes::{after_byte, parts};
 use crate::names::named;
 use memchr::memchr2;
 use std::alloc::AllocError;
@@ -68,7 +68,7 @@ fn is_marked(bytes: &[u8]) -> bool
 /// The bytes before the first `&` or NUL, and those from it on.
 fn split_plain(bytes: &[u8]) -> (&[u8], &[u8])
     ensures plain { result.0.now ≡ front is_plain bytes.now }
-    ensures rest { result.1.now ≡ behind is_plain bytes.now }
+    ensures rest { result.1.now ≡ following is_plain bytes.now }
     ensures stopped { Stopped is_plain result.1.now }
 {
     match memchr2(b'&', 0, bytes) {
@@ -203,7 +203,7 @@ fn number<'a>(radix: u32, before: &'static [u8], bytes: &'a [u8]) -> (Decoded<'a
     };
     let (number, rest) = more_digits(radix, u64::from(digit), more);
     let found = Decoded::Character(character_of(number));
-    match behind_byte(b';', rest) {
+    match after_byte(b';', rest) {
         Some(last) => (found, last),
         None => (found, rest),
     }
@@ -269,10 +269,10 @@ fn name_len(bytes: &[u8]) -> usize
 }
 
 /// The ASCII letters and digits at the front, and the bytes after them.
-#[tactic(auto, using(crate::proofs::Cuts::front_cut, crate::proofs::Cuts::behind_cut, crate::proofs::Jumps::stopped))]
+#[tactic(auto, using(crate::proofs::Cuts::front_cut, crate::proofs::Cuts::after_cut, crate::proofs::Jumps::stopped))]
 fn split_name(bytes: &[u8]) -> (&[u8], &[u8])
     ensures name { result.0.now ≡ front is_ascii_alphanumeric bytes.now }
-    ensures rest { result.1.now ≡ behind is_ascii_alphanumeric bytes.now }
+    ensures rest { result.1.now ≡ following is_ascii_alphanumeric bytes.now }
     ensures stopped { Stopped is_ascii_alphanumeric result.1.now }
 {
     bytes.split_at(name_len(bytes))
@@ -285,14 +285,14 @@ fn name(bytes: &[u8]) -> (Decoded<'_>, &[u8])
     ensures leaves { length result.1.now ≤ length bytes.now }
 {
     let (name, rest) = split_name(bytes);
-    match behind_byte(b';', rest) {
+    match after_byte(b';', rest) {
         Some(last) => closed_name(name, rest, last),
         None => open_name(name, rest),
     }
 }
 
 /// What an `&` and a name mean if a `;` is after the name.
-#[tactic(auto, using(crate::proofs::Decoding::text_behind))]
+#[tactic(auto, using(crate::proofs::Decoding::text_after))]
 fn closed_name<'a>(name: &'a [u8], rest: &'a [u8], last: &'a [u8]) -> (Decoded<'a>, &'a [u8])
     requires { rest.now ≡ 59 ∷ last.now }
     ensures reads { Decodes (Name name.now) rest.now result.0 result.1.now }
@@ -305,14 +305,14 @@ fn closed_name<'a>(name: &'a [u8], rest: &'a [u8], last: &'a [u8]) -> (Decoded<'
 }
 
 /// What an `&` and a name mean if no `;` is after the name.
-#[tactic(auto, using(crate::proofs::Decoding::text_behind, crate::proofs::Decoding::open_name))]
+#[tactic(auto, using(crate::proofs::Decoding::text_after, crate::proofs::Decoding::open_name))]
 fn open_name<'a>(name: &'a [u8], rest: &'a [u8]) -> (Decoded<'a>, &'a [u8])
     requires letter { Stopped is_ascii_alphanumeric rest.now }
     requires semicolon { Stopped (λ c. c == 59) rest.now }
     ensures reads { Decodes (Name name.now) rest.now result.0 result.1.now }
     ensures leaves { length result.1.now ≤ length rest.now }
 {
-    match behind_byte(b'=', rest) {
+    match after_byte(b'=', rest) {
         Some(_) => (Decoded::Itself(name), rest),
         None => (or_itself(name, named(false, name)), rest),
     }

@@ -1,8 +1,8 @@
 //! The target of a `meta` refresh.
 ghost use Rattle.std.specs.Prelude.{◌≡◌, length, take_while};
 ghost use Rattle.html_links.specs.Comments.{bytes_at};
-ghost use Rattle.html_links.specs.Shown.{behind};
-ghost use Rattle.html_links.specs.Refresh.{in_time, is_separator, behind_letter, behind_mark, behind_end, behind_number, behind_time, behind_equals, behind_url, is_quote, unquoted, some_bytes, target_of, and_then};
+ghost use Rattle.html_links.specs.Shown.{following};
+ghost use Rattle.html_links.specs.Refresh.{in_time, is_separator, after_letter, after_mark, after_end, after_number, after_time, after_equals, after_url, is_quote, unquoted, some_bytes, target_of, and_then};
 
 use crate::bytes::{is_space, parts, skip_space, split_quoted};
 
@@ -10,8 +10,8 @@ use crate::bytes::{is_space, parts, skip_space, split_quoted};
 pub(crate) fn target_of(content: &[u8]) -> Option<&[u8]>
     ensures { bytes_at result ≡ target_of content.now }
 {
-    match behind_time(content) {
-        Some(text) => some_bytes(unquoted(behind_url(text))),
+    match after_time(content) {
+        Some(text) => some_bytes(unquoted(after_url(text))),
         None => None,
     }
 }
@@ -48,16 +48,16 @@ fn time_len(bytes: &[u8]) -> usize
 }
 
 /// The bytes after the digits and full stops at the front.
-#[tactic(auto, using(std::proofs::lemmas::List::take_rest, crate::proofs::Cuts::behind_cut))]
+#[tactic(auto, using(std::proofs::lemmas::List::take_rest, crate::proofs::Cuts::after_cut))]
 fn skip_time(bytes: &[u8]) -> &[u8]
-    ensures { result.now ≡ behind in_time bytes.now }
+    ensures { result.now ≡ following in_time bytes.now }
 {
     &bytes[time_len(bytes)..]
 }
 
 /// The bytes after one `;` or `,` at the front and the white space after it. If neither is there, all bytes.
-fn behind_mark(bytes: &[u8]) -> &[u8]
-    ensures { result.now ≡ behind_mark bytes.now }
+fn after_mark(bytes: &[u8]) -> &[u8]
+    ensures { result.now ≡ after_mark bytes.now }
 {
     match parts(bytes) {
         Some((first, more)) => if is_separator(first) {
@@ -70,43 +70,43 @@ fn behind_mark(bytes: &[u8]) -> &[u8]
 }
 
 /// The bytes after what separates the time from the target: white space, `;` or `,`. `None` if nothing separates them.
-fn behind_end(bytes: &[u8]) -> Option<&[u8]>
-    ensures { bytes_at result ≡ behind_end bytes.now }
+fn after_end(bytes: &[u8]) -> Option<&[u8]>
+    ensures { bytes_at result ≡ after_end bytes.now }
 {
     let Some((first, _)) = parts(bytes) else {
         return None;
     };
     if is_separator(first) || is_space(first) {
-        Some(behind_mark(skip_space(bytes)))
+        Some(after_mark(skip_space(bytes)))
     } else {
         None
     }
 }
 
 /// The bytes after the time and what separates it from the target. `None` if the bytes do not begin with these.
-fn behind_number(bytes: &[u8]) -> Option<&[u8]>
-    ensures { bytes_at result ≡ behind_number bytes.now }
+fn after_number(bytes: &[u8]) -> Option<&[u8]>
+    ensures { bytes_at result ≡ after_number bytes.now }
 {
     let Some((first, more)) = parts(bytes) else {
         return None;
     };
     if in_time(first) {
-        behind_end(skip_time(more))
+        after_end(skip_time(more))
     } else {
         None
     }
 }
 
 /// The bytes after the time, and after its `;`, `,` or white space.
-fn behind_time(content: &[u8]) -> Option<&[u8]>
-    ensures { bytes_at result ≡ behind_time content.now }
+fn after_time(content: &[u8]) -> Option<&[u8]>
+    ensures { bytes_at result ≡ after_time content.now }
 {
-    behind_number(skip_space(content))
+    after_number(skip_space(content))
 }
 
 /// The bytes after this character at the front, in any case, or `None` if it is not there. A letter must be in lower case.
-pub(crate) fn behind_letter(letter: u8, bytes: &[u8]) -> Option<&[u8]>
-    ensures { bytes_at result ≡ behind_letter letter bytes.now }
+pub(crate) fn after_letter(letter: u8, bytes: &[u8]) -> Option<&[u8]>
+    ensures { bytes_at result ≡ after_letter letter bytes.now }
 {
     match parts(bytes) {
         Some((first, more)) => if first.to_ascii_lowercase() == letter {
@@ -119,8 +119,8 @@ pub(crate) fn behind_letter(letter: u8, bytes: &[u8]) -> Option<&[u8]>
 }
 
 /// The bytes after an `=` at the front and the white space after it. `None` if there is no `=`.
-fn behind_equals(bytes: &[u8]) -> Option<&[u8]>
-    ensures { bytes_at result ≡ behind_equals bytes.now }
+fn after_equals(bytes: &[u8]) -> Option<&[u8]>
+    ensures { bytes_at result ≡ after_equals bytes.now }
 {
     match parts(bytes) {
         Some((first, more)) => if first == b'=' {
@@ -133,19 +133,19 @@ fn behind_equals(bytes: &[u8]) -> Option<&[u8]>
 }
 
 /// The bytes after `url=`, if the text begins with it.
-fn behind_url(text: &[u8]) -> &[u8]
-    ensures { result.now ≡ behind_url text.now }
+fn after_url(text: &[u8]) -> &[u8]
+    ensures { result.now ≡ after_url text.now }
 {
-    let Some(u) = behind_letter(b'u', text) else {
+    let Some(u) = after_letter(b'u', text) else {
         return text;
     };
-    let Some(r) = behind_letter(b'r', u) else {
+    let Some(r) = after_letter(b'r', u) else {
         return text;
     };
-    let Some(l) = behind_letter(b'l', r) else {
+    let Some(l) = after_letter(b'l', r) else {
         return text;
     };
-    match behind_equals(skip_space(l)) {
+    match after_equals(skip_space(l)) {
         Some(target) => target,
         None => text,
     }

@@ -1,7 +1,7 @@
 //! The candidates of a `srcset`.
 ghost use Rattle.std.specs.Prelude.{◌≡◌, ◌≤◌, ◌<◌, ◌∷◌, ◌++◌, [], length, OnOk, MatchOption, false, take_while};
-ghost use Rattle.html_links.specs.Shown.{front, behind, is_space, Stopped};
-ghost use Rattle.html_links.specs.Candidates.{Between, Descriptors, read, candidates_of, are_commas, without_commas, behind_shorter, is_between, is_unspaced};
+ghost use Rattle.html_links.specs.Shown.{front, following, is_space, Stopped};
+ghost use Rattle.html_links.specs.Candidates.{Between, Descriptors, read, candidates_of, are_commas, without_commas, after_shorter, is_between, is_unspaced};
 
 use crate::Links;
 use crate::bytes::{is_space, parts};
@@ -22,9 +22,9 @@ fn between_len(bytes: &[u8]) -> usize
 }
 
 /// The bytes from the start of the next candidate. They are empty if no candidate follows.
-#[tactic(auto, using(std::proofs::lemmas::List::take_rest, crate::proofs::Cuts::behind_cut, crate::proofs::Jumps::stopped))]
+#[tactic(auto, using(std::proofs::lemmas::List::take_rest, crate::proofs::Cuts::after_cut, crate::proofs::Jumps::stopped))]
 fn skip_between(bytes: &[u8]) -> &[u8]
-    ensures skipped { result.now ≡ behind is_between bytes.now }
+    ensures skipped { result.now ≡ following is_between bytes.now }
     ensures stopped { Stopped is_between result.now }
 {
     &bytes[between_len(bytes)..]
@@ -45,10 +45,10 @@ fn unspaced_len(bytes: &[u8]) -> usize
 }
 
 /// The bytes before the first white space, and those from it on.
-#[tactic(auto, using(crate::proofs::Cuts::front_cut, crate::proofs::Cuts::behind_cut))]
+#[tactic(auto, using(crate::proofs::Cuts::front_cut, crate::proofs::Cuts::after_cut))]
 pub(crate) fn split_unspaced(bytes: &[u8]) -> (&[u8], &[u8])
     ensures word { result.0.now ≡ front is_unspaced bytes.now }
-    ensures rest { result.1.now ≡ behind is_unspaced bytes.now }
+    ensures rest { result.1.now ≡ following is_unspaced bytes.now }
 {
     bytes.split_at(unspaced_len(bytes))
 }
@@ -99,8 +99,8 @@ fn skip_descriptors(bytes: &[u8]) -> &[u8]
 }
 
 /// The bytes after the descriptors of a candidate. It has none if its URL ended with a comma.
-fn behind_descriptors<'a>(url: &[u8], candidate: &[u8], bytes: &'a [u8]) -> &'a [u8]
-    ensures reads { read (behind_shorter url.now candidate.now) bytes.now ≡ read Between result.now }
+fn after_descriptors<'a>(url: &[u8], candidate: &[u8], bytes: &'a [u8]) -> &'a [u8]
+    ensures reads { read (after_shorter url.now candidate.now) bytes.now ≡ read Between result.now }
     ensures leaves { length result.now ≤ length bytes.now }
 {
     if url.len() < candidate.len() {
@@ -122,7 +122,7 @@ fn next_candidate(bytes: &[u8]) -> Option<(&[u8], &[u8])>
         return None;
     }
     let url = without_commas(candidate);
-    Some((url, behind_descriptors(url, candidate, more)))
+    Some((url, after_descriptors(url, candidate, more)))
 }
 
 /// Passes on the URLs of a `srcset`.

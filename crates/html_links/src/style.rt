@@ -1,19 +1,19 @@
 //! The documents that a style sheet names, and the style sheets in documents.
 ghost use Rattle.std.specs.Prelude.{◌≡◌, ◌≤◌, ◌<◌, ◌∷◌, ◌++◌, [], length, map, false, OnOk, MatchOption, take_while};
 ghost use Rattle.html_links.specs.Comments.{bytes_at};
-ghost use Rattle.html_links.specs.Shown.{behind};
-ghost use Rattle.html_links.specs.Styles.{is_wide_space, in_plain, in_word, in_run, continues, behind_run, before, run_in, closed, quoted, behind_closed, behind_quoted, plain, in_brackets, behind_url, behind_import, opened, behind_comment, found_at, behind_name, pass_byte, pass, urls_of, style_links_of};
+ghost use Rattle.html_links.specs.Shown.{following};
+ghost use Rattle.html_links.specs.Styles.{is_wide_space, in_plain, in_word, in_run, continues, after_run, before, run_in, closed, quoted, after_closed, after_quoted, plain, in_brackets, after_url, after_import, opened, past_comment, found_at, after_name, pass_byte, pass, urls_of, style_links_of};
 ghost use Rattle.html_links.specs.Escapes.{unescaped};
 ghost use Rattle.html_links.specs.Tags.{lower};
 ghost use Rattle.html_links.specs.Seen.{foreign_sheet, raw_sheet, sheet_of};
 ghost use Rattle.html_links.specs.Styled.{found_bytes, FoundLeaves};
 
-use crate::bytes::{behind_byte, parts, split_quoted};
+use crate::bytes::{after_byte, parts, split_quoted};
 use crate::context::{Context, is_foreign};
 use crate::escapes::{State, is_break, is_escaped, push_unescaped, state_after};
 use crate::links::{Links, PlacedLinks};
 use crate::raw_text::{after_raw_text, same_name};
-use crate::refresh::{behind_letter, is_quote};
+use crate::refresh::{after_letter, is_quote};
 use std::alloc::{AllocError, Global};
 
 /// A run of bytes in a style sheet.
@@ -162,7 +162,7 @@ fn next_url(bytes: &[u8]) -> Option<(&[u8], &[u8])>
 fn found_at(imports: bool, bytes: &[u8]) -> Option<(&[u8], &[u8])>
     ensures { found_bytes result ≡ found_at imports bytes.now }
 {
-    match behind_url(bytes) {
+    match after_url(bytes) {
         Some(inner) => in_brackets(inner),
         None => { if imports { quoted(bytes) } else { None } }
     }
@@ -173,12 +173,12 @@ fn pass(imports: bool, bytes: &[u8]) -> (&[u8], bool)
     ensures { (result.0.now, result.1) ≡ pass imports bytes.now }
 {
     if let Some(comment) = opened(bytes) {
-        return (behind_comment(comment), imports);
+        return (past_comment(comment), imports);
     }
-    if let Some(rest) = behind_quoted(bytes) {
+    if let Some(rest) = after_quoted(bytes) {
         return (rest, false);
     }
-    match behind_import(bytes) {
+    match after_import(bytes) {
         Some(rest) => (rest, true),
         None => pass_byte(imports, bytes),
     }
@@ -190,17 +190,17 @@ fn pass_byte(imports: bool, bytes: &[u8]) -> (&[u8], bool)
     ensures { (result.0.now, result.1) ≡ pass_byte imports bytes.now }
 {
     match parts(bytes) {
-        Some((first, rest)) => (behind_name(first, rest), imports && is_wide_space(first)),
+        Some((first, rest)) => (after_name(first, rest), imports && is_wide_space(first)),
         None => (bytes, false),
     }
 }
 
 /// The bytes after the name that begins with this byte, from those after the byte, which may begin no name.
-fn behind_name(first: u8, bytes: &[u8]) -> &[u8]
-    ensures { result.now ≡ behind_name first bytes.now }
+fn after_name(first: u8, bytes: &[u8]) -> &[u8]
+    ensures { result.now ≡ after_name first bytes.now }
 {
     if in_word(first) {
-        behind_run(Run::Word, state_after(State::Plain, first), bytes)
+        after_run(Run::Word, state_after(State::Plain, first), bytes)
     } else {
         bytes
     }
@@ -210,23 +210,23 @@ fn behind_name(first: u8, bytes: &[u8]) -> &[u8]
 fn opened(bytes: &[u8]) -> Option<&[u8]>
     ensures { bytes_at result ≡ opened bytes.now }
 {
-    match behind_letter(b'/', bytes) {
-        Some(rest) => behind_letter(b'*', rest),
+    match after_letter(b'/', bytes) {
+        Some(rest) => after_letter(b'*', rest),
         None => None,
     }
 }
 
 /// The bytes after a comment, from those after its `/*`.
 #[tactic(auto, using(crate::proofs::Styling::to_star))]
-fn behind_comment(text: &[u8]) -> &[u8]
-    ensures { result.now ≡ behind_comment false text.now }
+fn past_comment(text: &[u8]) -> &[u8]
+    ensures { result.now ≡ past_comment false text.now }
 {
     let mut rest = text;
     'stars: loop {
         let Some((_, starred)) = split_quoted(b'*', rest) else {
             return &[];
         };
-        match behind_byte(b'/', starred) {
+        match after_byte(b'/', starred) {
             Some(more) => return more,
             None => rest = starred,
         }
@@ -234,44 +234,44 @@ fn behind_comment(text: &[u8]) -> &[u8]
 }
 
 /// The bytes after a `url(` at the front, in any case. `None` if it is not there.
-fn behind_url(bytes: &[u8]) -> Option<&[u8]>
-    ensures { bytes_at result ≡ behind_url bytes.now }
+fn after_url(bytes: &[u8]) -> Option<&[u8]>
+    ensures { bytes_at result ≡ after_url bytes.now }
 {
-    let Some(u) = behind_letter(b'u', bytes) else {
+    let Some(u) = after_letter(b'u', bytes) else {
         return None;
     };
-    let Some(r) = behind_letter(b'r', u) else {
+    let Some(r) = after_letter(b'r', u) else {
         return None;
     };
-    let Some(l) = behind_letter(b'l', r) else {
+    let Some(l) = after_letter(b'l', r) else {
         return None;
     };
-    behind_letter(b'(', l)
+    after_letter(b'(', l)
 }
 
 /// The bytes after an `@import` at the front, in any case. `None` if it is not there.
-fn behind_import(bytes: &[u8]) -> Option<&[u8]>
-    ensures { bytes_at result ≡ behind_import bytes.now }
+fn after_import(bytes: &[u8]) -> Option<&[u8]>
+    ensures { bytes_at result ≡ after_import bytes.now }
 {
-    let Some(at) = behind_letter(b'@', bytes) else {
+    let Some(at) = after_letter(b'@', bytes) else {
         return None;
     };
-    let Some(i) = behind_letter(b'i', at) else {
+    let Some(i) = after_letter(b'i', at) else {
         return None;
     };
-    let Some(m) = behind_letter(b'm', i) else {
+    let Some(m) = after_letter(b'm', i) else {
         return None;
     };
-    let Some(p) = behind_letter(b'p', m) else {
+    let Some(p) = after_letter(b'p', m) else {
         return None;
     };
-    let Some(o) = behind_letter(b'o', p) else {
+    let Some(o) = after_letter(b'o', p) else {
         return None;
     };
-    let Some(r) = behind_letter(b'r', o) else {
+    let Some(r) = after_letter(b'r', o) else {
         return None;
     };
-    behind_letter(b't', r)
+    after_letter(b't', r)
 }
 
 /// The URL after a `url(`, with or without quotes, and the bytes after it. A `)` need not follow.
@@ -301,9 +301,9 @@ fn quoted(bytes: &[u8]) -> Option<(&[u8], &[u8])>
 
 /// The text before this quote, and the bytes after it. The text may also end with the sheet, but not with its line.
 fn closed(quote: u8, bytes: &[u8]) -> Option<(&[u8], &[u8])>
-    ensures { found_bytes result ≡ closed quote bytes.now (behind_run (run_in quote) State.Plain bytes.now) }
+    ensures { found_bytes result ≡ closed quote bytes.now (after_run (run_in quote) State.Plain bytes.now) }
 {
-    let left = behind_run(run_in(quote), State::Plain, bytes);
+    let left = after_run(run_in(quote), State::Plain, bytes);
     let text = before(bytes, left);
     match parts(left) {
         Some((last, rest)) => if last == quote {
@@ -316,22 +316,22 @@ fn closed(quote: u8, bytes: &[u8]) -> Option<(&[u8], &[u8])>
 }
 
 /// The bytes after a text in quotes at the front, or from the line break at which it is broken off. `None` if no quote is there.
-fn behind_quoted(bytes: &[u8]) -> Option<&[u8]>
-    ensures { bytes_at result ≡ behind_quoted bytes.now }
+fn after_quoted(bytes: &[u8]) -> Option<&[u8]>
+    ensures { bytes_at result ≡ after_quoted bytes.now }
 {
     let Some((first, more)) = parts(bytes) else {
         return None;
     };
     if is_quote(first) {
-        Some(behind_closed(first, behind_run(run_in(first), State::Plain, more)))
+        Some(after_closed(first, after_run(run_in(first), State::Plain, more)))
     } else {
         None
     }
 }
 
 /// The bytes after this quote, if it is the first byte.
-fn behind_closed(quote: u8, bytes: &[u8]) -> &[u8]
-    ensures { result.now ≡ behind_closed quote bytes.now }
+fn after_closed(quote: u8, bytes: &[u8]) -> &[u8]
+    ensures { result.now ≡ after_closed quote bytes.now }
 {
     match parts(bytes) {
         Some((first, rest)) => if first == quote { rest } else { bytes },
@@ -351,8 +351,8 @@ fn run_in(quote: u8) -> Run
 }
 
 /// The bytes after a run, from those after the bytes of a state.
-fn behind_run(run: Run, state: State, bytes: &[u8]) -> &[u8]
-    ensures rest { result.now ≡ behind_run run state bytes.now }
+fn after_run(run: Run, state: State, bytes: &[u8]) -> &[u8]
+    ensures rest { result.now ≡ after_run run state bytes.now }
     ensures leaves { length result.now ≤ length bytes.now }
 {
     let mut at = state;
@@ -413,7 +413,7 @@ fn in_word(byte: u8) -> bool
 fn plain(bytes: &[u8]) -> Option<(&[u8], &[u8])>
     ensures { found_bytes result ≡ plain bytes.now }
 {
-    let left = behind_run(Run::Plain, State::Plain, bytes);
+    let left = after_run(Run::Plain, State::Plain, bytes);
     let url = before(bytes, left);
     match parts(url) {
         Some(_) => Some((url, left)),
@@ -439,9 +439,9 @@ fn wide_len(bytes: &[u8]) -> usize
 }
 
 /// The bytes after the white space at the front, including vertical tabs.
-#[tactic(auto, using(std::proofs::lemmas::List::take_rest, crate::proofs::Cuts::behind_cut))]
+#[tactic(auto, using(std::proofs::lemmas::List::take_rest, crate::proofs::Cuts::after_cut))]
 fn skip_wide_space(bytes: &[u8]) -> &[u8]
-    ensures { result.now ≡ behind is_wide_space bytes.now }
+    ensures { result.now ≡ following is_wide_space bytes.now }
 {
     &bytes[wide_len(bytes)..]
 }

@@ -4,7 +4,7 @@ ghost use Rattle.html_links.specs.Tags.{tag_of};
 ghost use Rattle.html_links.specs.Shown.{is_space, BeginsName, Stopped, tag_at, Reads, ReadsValue, Leaves};
 
 use crate::bytes::{
-    Class, behind_byte, class_of, parts, skip_space, split_name, split_quoted, split_unquoted,
+    Class, after_byte, class_of, parts, skip_space, split_name, split_quoted, split_unquoted,
 };
 use std::alloc::{AllocError, Global};
 
@@ -34,7 +34,7 @@ pub(crate) enum Piece<'a> {
 
 /// The bytes after an `="`, with which most values begin.
 #[inline(always)]
-fn behind_quote(bytes: &[u8]) -> Option<&[u8]>
+fn after_quote(bytes: &[u8]) -> Option<&[u8]>
     ensures { IfSome result (λ more. bytes.now ≡ 61 ∷ 34 ∷ more.now) }
 {
     match bytes {
@@ -46,7 +46,7 @@ fn behind_quote(bytes: &[u8]) -> Option<&[u8]>
 /// The bytes after the `class="` that follows the name in most tags.
 #[inline(always)]
 #[tactic(auto, using(crate::proofs::Cuts::if_some, std::proofs::lemmas::Slice::Eq::strip_prefix_is))]
-pub(crate) fn behind_class(bytes: &[u8]) -> Option<&[u8]>
+pub(crate) fn after_class(bytes: &[u8]) -> Option<&[u8]>
     ensures { IfSome result (λ more. bytes.now ≡ codes " class=" ++ 34 ∷ more.now) }
 {
     bytes.strip_prefix(b" class=\"")
@@ -55,7 +55,7 @@ pub(crate) fn behind_class(bytes: &[u8]) -> Option<&[u8]>
 /// The bytes after the `href="` of a link.
 #[inline(always)]
 #[tactic(auto, using(crate::proofs::Cuts::if_some, std::proofs::lemmas::Slice::Eq::strip_prefix_is))]
-fn behind_href(bytes: &[u8]) -> Option<&[u8]>
+fn after_href(bytes: &[u8]) -> Option<&[u8]>
     ensures { IfSome result (λ more. bytes.now ≡ codes " href=" ++ 34 ∷ more.now) }
 {
     bytes.strip_prefix(b" href=\"")
@@ -82,11 +82,11 @@ fn attribute(bytes: &[u8]) -> Piece<'_>
     ensures leaves { Leaves result (length bytes.now) }
 {
     let (name, rest) = split_name(bytes);
-    if let Some(more) = behind_quote(rest) {
+    if let Some(more) = after_quote(rest) {
         return quoted(name, more);
     }
     let rest = skip_space(rest);
-    match behind_byte(b'=', rest) {
+    match after_byte(b'=', rest) {
         Some(more) => value(name, skip_space(more)),
         None => Piece::Attribute(AttributeAt { name, value: &[] }, rest),
     }
@@ -125,9 +125,9 @@ pub(crate) fn next_piece(bytes: &[u8]) -> Piece<'_>
     ensures reads { Reads result bytes.now }
     ensures leaves { Leaves result (length bytes.now) }
 {
-    match behind_class(bytes) {
+    match after_class(bytes) {
         Some(more) => quoted(b"class", more),
-        None => match behind_href(bytes) {
+        None => match after_href(bytes) {
             Some(more) => quoted(b"href", more),
             None => any_piece(bytes),
         },
@@ -146,7 +146,7 @@ fn any_piece(bytes: &[u8]) -> Piece<'_>
     };
     match class_of(first) {
         Class::Greater => Piece::End(false, more),
-        Class::Slash => match behind_byte(b'>', more) {
+        Class::Slash => match after_byte(b'>', more) {
             Some(last) => Piece::End(true, last),
             None => Piece::Slash(more),
         },

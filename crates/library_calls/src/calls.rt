@@ -16,7 +16,7 @@
 ghost use Rattle.std.specs.Prelude.{◌≡◌};
 
 use crate::filters::filter_by;
-use crate::hands::{Hand, Part, admit_by, another, finish, go_on, leave, offer, open, push};
+use crate::hands::{Hand, Part, admit_by, another, finish, leave, offer, open, push, take_turn};
 use crate::notes::{Note, Outcome};
 use crate::running::{Plan, run_all};
 use crawl_frontier::{Account, Entry, FinishError, Frontier, FrontierError, Name, Setup, Turn};
@@ -130,7 +130,7 @@ fn call_of<K: Name, R: Print + Wait>(
     match verb {
         "offer" => print_offer(rt, alloc, frontier, &mut hand.part, text),
         "next" => {
-            go_on(rt, frontier, &mut hand.part);
+            take_turn(rt, frontier, &mut hand.part);
             print_part(rt, &hand.part);
         }
         "admit" => print_admit(rt, alloc, frontier, &mut hand.part, text),
@@ -251,7 +251,7 @@ fn print_end<R: Print>(rt: &R, end: Result<Account, FinishError>) {
             print_outcome(rt, Outcome::word("account"));
             print_account(rt, &account);
         }
-        Err(fault) => print_outcome(rt, Outcome::of_end(fault)),
+        Err(error) => print_outcome(rt, Outcome::of_end(error)),
     }
 }
 
@@ -283,8 +283,8 @@ where
     print_end(rt, finish(alloc, frontier, hands));
 }
 
-fn print_fault<R: Print>(rt: &R, fault: FrontierError) {
-    let _ = println!(rt; "{fault}");
+fn print_error<R: Print>(rt: &R, error: FrontierError) {
+    let _ = println!(rt; "{error}");
 }
 
 // Makes the calls of a block, or returns nothing if an allocation fails first.
@@ -298,7 +298,7 @@ fn run_block<R: Print + Threads + Wait + Sync>(rt: &R, alloc: Global, block: &st
     let workers = u32::try_from(workers).unwrap_or(u32::MAX);
     match Setup::new(alloc, workers, max_pending) {
         Ok(setup) => calls::<Brand, R>(rt, alloc, setup, &filter, &Lines { text }),
-        Err(fault) => print_fault(rt, fault),
+        Err(error) => print_error(rt, error),
     }
     Some(())
 }

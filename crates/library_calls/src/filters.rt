@@ -26,14 +26,14 @@ fn bytes_within(filter: &Filter, urls: &[CanonUrl], count: u32) -> u64 {
 /// The filter of the suffixes in a text, with a space between two of them.
 pub fn filter_by(alloc: Global, text: &str) -> Option<Filter> {
     let mut list = Vec::new(alloc);
-    if put_words(text, &mut list) {
+    if push_suffixes(text, &mut list) {
         Filter::new(alloc, list.as_slice()).ok()
     } else {
         None
     }
 }
 
-fn put_words<'a>(text: &'a str, list: &mut Vec<&'a str>) -> bool {
+fn push_suffixes<'a>(text: &'a str, list: &mut Vec<&'a str>) -> bool {
     for word in text.split(' ') {
         if !word.is_empty() && list.push(word).is_err() {
             return false;

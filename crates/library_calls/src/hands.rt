@@ -117,7 +117,7 @@ fn next_part<K: Name, R: Wait>(rt: &R, frontier: &Frontier<K>, part: Part<K>) ->
 
 /// The next turn of an idle worker. A busy worker is done with its URL, and the seeder ends the seeds. Any other hand stays as it
 /// is.
-pub fn go_on<K: Name, R: Wait>(rt: &R, frontier: &Frontier<K>, part: &mut Part<K>) {
+pub fn take_turn<K: Name, R: Wait>(rt: &R, frontier: &Frontier<K>, part: &mut Part<K>) {
     let before = mem::replace(part, Part::Gone);
     drop(mem::replace(part, next_part(rt, frontier, before)));
 }

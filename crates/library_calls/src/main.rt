@@ -10,6 +10,7 @@
 //! them, and is done with each).
 #![tactic(auto)]
 
+mod arguments;
 mod calls;
 mod crawler;
 mod escape;
@@ -22,8 +23,8 @@ mod running;
 mod threads;
 mod urls;
 mod vectors;
-mod words;
 
+use arguments::{number, word};
 use std::alloc::Global;
 use std::process::ExitCode;
 use std::sync::Wait;
@@ -31,7 +32,6 @@ use std::sync::atomic::Ordering;
 use std::thread::Threads;
 use std::{fs, io};
 use threads::Tally;
-use words::{number, word};
 
 /// How many pieces of work there are at most.
 const MOST: usize = 8;

@@ -1,5 +1,5 @@
 //! Hands in threads of their own: workers that offer the links of the pages that they take, and senders that offer the same pages.
-use crate::hands::{Hand, Part, go_on, leave, offer};
+use crate::hands::{Hand, Part, leave, offer, take_turn};
 use crate::notes::{Notes, Outcome};
 use crate::urls::canonical_of;
 use crawl_frontier::{Frontier, Name, Turn};
@@ -123,7 +123,7 @@ fn end_page<K: Name, R: Wait>(
     notes: &mut Notes,
     page: usize,
 ) {
-    go_on(rt, frontier, part);
+    take_turn(rt, frontier, part);
     notes.push(page, Outcome::word("done"), false);
 }
 
@@ -199,7 +199,7 @@ fn turn<K: Name, R: Wait>(
     part: &mut Part<K>,
     notes: &mut Notes,
 ) -> bool {
-    go_on(rt, frontier, part);
+    take_turn(rt, frontier, part);
     match state_of(part) {
         State::Busy => work_on_page(rt, frontier, run, part, notes),
         State::Idle => pause(rt, frontier, run.plan, part, notes),
@@ -235,9 +235,9 @@ fn send_round<K: Name, R: Wait>(
     notes: &mut Notes,
 ) -> bool {
     let sent = run.urls.get(..run.plan.sent).unwrap_or(&[]);
-    let goes_on = !notes.closed & run.plan.until_closed;
+    let continues = !notes.closed & run.plan.until_closed;
     offer_each(rt, frontier, &run.closed, part, notes, sent);
-    goes_on
+    continues
 }
 
 fn send<K: Name, R: Wait>(
@@ -275,7 +275,7 @@ fn seed<K: Name, R: Wait>(
     wait_a_while();
     offer_each(rt, frontier, &run.closed, part, notes, seeds);
     wait_a_while();
-    go_on(rt, frontier, part);
+    take_turn(rt, frontier, part);
 }
 
 // What the hand does in its thread.

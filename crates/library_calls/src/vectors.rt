@@ -12,9 +12,9 @@ pub fn run(rt: &impl Print, alloc: Global, table: &str) {
         if let Some(text) = line.strip_prefix("base ") {
             page = canonical(alloc, text).ok();
         } else if !line.is_empty() && !line.starts_with("-- ") {
-            let answered = ask(rt, alloc, page.as_ref(), line).unwrap_or(false);
+            let as_expected = ask(rt, alloc, page.as_ref(), line).unwrap_or(false);
             vectors = vectors.saturating_add(1);
-            differing = differing.saturating_add(u64::from(!answered));
+            differing = differing.saturating_add(u64::from(!as_expected));
         }
     }
     let _ = println!(rt; "{vectors} vectors, {differing} differ");
@@ -37,7 +37,7 @@ fn ask_for(
     let text = unescape(alloc, input)?;
     match page {
         Some(page) => ask_link(rt, alloc, page, text.as_str(), expected),
-        None => is_answered(rt, alloc, canonical(alloc, text.as_str()), input, expected),
+        None => is_expected(rt, alloc, canonical(alloc, text.as_str()), input, expected),
     }
 }
 
@@ -49,21 +49,21 @@ fn ask_link(
     text: &str,
     expected: &str,
 ) -> Option<bool> {
-    let by_page = is_answered(rt, alloc, resolve(alloc, page, text), text, expected)?;
+    let by_page = is_expected(rt, alloc, resolve(alloc, page, text), text, expected)?;
     let base = Base::new(alloc, page).ok()?;
-    let by_base = is_answered(rt, alloc, base.resolve(alloc, text), text, expected);
+    let by_base = is_expected(rt, alloc, base.resolve(alloc, text), text, expected);
     Some(by_page && by_base?)
 }
 
 /// Whether a result is the one expected; if not, it is printed.
-fn is_answered(
+fn is_expected(
     rt: &impl Print,
     alloc: Global,
-    answer: Result<CanonUrl, KeyError>,
+    result: Result<CanonUrl, KeyError>,
     input: &str,
     expected: &str,
 ) -> Option<bool> {
-    let shown = shown(alloc, answer)?;
+    let shown = shown(alloc, result)?;
     let same = shown.as_str() == expected;
     if !same {
         let _ = println!(rt; "{input} => {shown}, and not {expected}");
@@ -72,8 +72,8 @@ fn is_answered(
 }
 
 /// A result as the table writes it.
-fn shown(alloc: Global, answer: Result<CanonUrl, KeyError>) -> Option<String> {
-    match answer {
+fn shown(alloc: Global, result: Result<CanonUrl, KeyError>) -> Option<String> {
+    match result {
         Ok(url) => format!(in alloc; "{url} {}", url.host_key()).ok(),
         Err(error) => format!(in alloc; "{error:?}").ok(),
     }

@@ -147,16 +147,16 @@ fn new_path(
 fn path_to(alloc: Global, page: LinkPage<'_>, form: Form, to: &str) -> Result<Vec<u8>, AllocError> {
     match form {
         Form::Url => to.as_bytes().to_vec(alloc),
-        Form::Host => behind_scheme(to).to_vec(alloc),
+        Form::Host => after_scheme(to).to_vec(alloc),
         Form::Root => root_path(alloc, page.root, to),
         Form::Relative => relative(alloc, page.base.folder().as_bytes(), to.as_bytes()),
     }
 }
 
 /// A URL without its scheme.
-fn behind_scheme(url: &str) -> &[u8] {
+fn after_scheme(url: &str) -> &[u8] {
     match url.split_once(':') {
-        Some((_, behind)) => behind.as_bytes(),
+        Some((_, following)) => following.as_bytes(),
         None => &[],
     }
 }

@@ -5,19 +5,19 @@ use std::alloc::{AllocError, Global};
 pub(crate) fn relative(alloc: Global, folder: &[u8], target: &[u8]) -> Result<Vec<u8>, AllocError> {
     let shared = shared_length(folder, target);
     let mut path = Vec::new(alloc);
-    let left = behind(folder, shared);
+    let left = following(folder, shared);
     for byte in left {
         if *byte == b'/' {
             path.extend_from_slice(b"../")?;
         }
     }
-    let rest = behind(target, shared);
+    let rest = following(target, shared);
     path.extend_from_slice(rest)?;
     Ok(path)
 }
 
 /// The text from a position on.
-fn behind(text: &[u8], position: usize) -> &[u8] {
+fn following(text: &[u8], position: usize) -> &[u8] {
     text.get(position..).unwrap_or(&[])
 }
 

@@ -1,3 +1,3 @@
 pub mod Prelude
-pub mod LinkAnswers
+pub mod LinkResults
 pub mod Logs

@@ -4,7 +4,7 @@ pub use Rattle.crawl_frontier.specs.declared.offer.Offer.{Offer}
 pub use Rattle.crawl_keys.specs.HostFilter.{allows}
 pub use Rattle.crawl_queues.specs.declared.book.Logged.{Logged}
 pub use Rattle.link_offers.specs.Logs.{AllLogged, Grows, HasLine, line_of}
-pub use Rattle.link_offers.specs.Offers.{AllAnswered, Answer, Answers, IsOffer, LinkAnswers, listed, losses_by, with_losses}
+pub use Rattle.link_offers.specs.Offers.{HaveResults, LinkResult, HasResult, IsOffer, LinkResults, listed, losses_by, with_losses}
 pub use Rattle.link_offers.specs.Recent.{AllKnown, Knows, url_in}
 pub use Rattle.link_offers.specs.declared.recent.RecentUrls.{RecentUrls}
 pub use Rattle.link_offers.specs.declared.recent.Slot.{Slot}

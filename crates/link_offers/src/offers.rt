@@ -4,11 +4,11 @@ ghost use Rattle.crawl_keys.specs.HostFilter.{allows};
 ghost use Rattle.crawl_pages.specs.Pages.{links_of};
 ghost use Rattle.crawl_queues.specs.declared.book.Logged.{Logged};
 ghost use Rattle.link_offers.specs.Losses.{no_losses};
-ghost use Rattle.link_offers.specs.Offers.{LinkAnswers};
+ghost use Rattle.link_offers.specs.Offers.{LinkResults};
 ghost use Rattle.link_offers.specs.Recent.{Knows};
 
 use crate::losses::{Losses, loss_of};
-use crate::recent::{READ_AT_ONCE, RecentUrls};
+use crate::recent::{READ_TOGETHER, RecentUrls};
 use crawl_frontier::{BusyWorker, Frontier, Name, Offer, OfferError};
 use crawl_keys::CanonUrl;
 use crawl_pages::{Links, Page};
@@ -45,7 +45,7 @@ impl LinkOffers {
         page: Page,
     ) -> Page
         ensures page { result ≡ page }
-        ensures offered { Knows K.workers busy.old.worker.book.log self.old.recent → LinkAnswers K.workers (allows K.filter) (links_of page) busy.old busy.new self.old self.new }
+        ensures offered { Knows K.workers busy.old.worker.book.log self.old.recent → LinkResults K.workers (allows K.filter) (links_of page) busy.old busy.new self.old self.new }
     {
         match page {
             Page::Found { links, skipped } => {
@@ -72,11 +72,11 @@ impl LinkOffers {
         links: &mut [CanonUrl],
     )
         ensures links { links.new ≡ links.old }
-        ensures offered { Knows K.workers busy.old.worker.book.log self.old.recent → LinkAnswers K.workers (allows K.filter) links.old busy.old busy.new self.old self.new }
+        ensures offered { Knows K.workers busy.old.worker.book.log self.old.recent → LinkResults K.workers (allows K.filter) links.old busy.old busy.new self.old self.new }
     {
         let mut marks = 0;
         for index in 0..links.len() {
-            let bit = index % READ_AT_ONCE;
+            let bit = index % READ_TOGETHER;
             if bit == 0 {
                 marks = self.recent.marks(links, index);
             }
@@ -100,13 +100,13 @@ impl LinkOffers {
         url: &mut CanonUrl,
     )
         ensures url { url.new ≡ url.old }
-        ensures offered { Knows K.workers busy.old.worker.book.log self.old.recent → LinkAnswers K.workers (allows K.filter) (url.old ∷ []) busy.old busy.new self.old self.new }
+        ensures offered { Knows K.workers busy.old.worker.book.log self.old.recent → LinkResults K.workers (allows K.filter) (url.old ∷ []) busy.old busy.new self.old self.new }
     {
         if self.recent.has_marked(marked, url) {
             return;
         }
         match busy.offer_shared(rt, frontier, url) {
-            Ok(answer) => self.recent.remember(self.alloc, url, is_seen(&answer)),
+            Ok(outcome) => self.recent.remember(self.alloc, url, is_seen(&outcome)),
             Err(OfferError::Filtered) => {}
             Err(refused) => self.losses.count(loss_of(refused)),
         }
@@ -114,6 +114,6 @@ impl LinkOffers {
 }
 
 // Whether the URL had been accepted before.
-fn is_seen(answer: &Offer) -> bool {
-    matches!(answer, Offer::Seen)
+fn is_seen(outcome: &Offer) -> bool {
+    matches!(outcome, Offer::Seen)
 }

@@ -15,7 +15,7 @@ const FEWEST_SLOTS: usize = 1_024;
 const MOST_SLOTS: usize = 1 << 22;
 
 /// The number of URLs whose slots are read together.
-pub(crate) const READ_AT_ONCE: usize = 64;
+pub(crate) const READ_TOGETHER: usize = 64;
 
 // A slot. Next to the URL is half of its hash, the mark, which selects the slot and differs for most other URLs, so that few
 // texts are compared.
@@ -103,7 +103,7 @@ impl RecentUrls {
             return 0;
         }
         let urls = &urls[from..];
-        let urls = &urls[..urls.len().min(READ_AT_ONCE)];
+        let urls = &urls[..urls.len().min(READ_TOGETHER)];
         let marked = self.marked(urls);
         self.hashed(urls, marked)
     }
@@ -155,7 +155,7 @@ impl RecentUrls {
         ensures { (workers : ℕ) (log : List Logged) → Knows workers log self.old → HasLine workers log url.now → Knows workers log self.new }
     {
         self.missed = self.missed.saturating_add(usize::from(again));
-        self.grow_where_missed(alloc);
+        self.grow_if_missed(alloc);
         if let Ok(copy) = url.copy() {
             let mark = mark_of(url);
             self.put(Slot::Taken { mark, url: copy });
@@ -163,7 +163,7 @@ impl RecentUrls {
     }
 
     // Grows if enough URLs were forgotten, and enough URLs were offered since then that had been accepted before.
-    fn grow_where_missed(&mut self, alloc: Global)
+    fn grow_if_missed(&mut self, alloc: Global)
         ensures { (workers : ℕ) (log : List Logged) → Knows workers log self.old → Knows workers log self.new }
     {
         let slots = self.slots.len();

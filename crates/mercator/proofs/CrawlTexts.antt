@@ -4,10 +4,10 @@ use Rattle.crawl_report.specs.Json.{printed_line}
 use Rattle.crawl_report.specs.Rows.{rows_with}
 use Rattle.crawl_sources.specs.Tallies.{pointed}
 
-pub unreached_told : (urls suffixes : List (List ℕ)) (pages given : List PageResult) (found shown : List (Bor (List ℕ))) → given ≡ pages → shown ≡ found
+pub unreached_listed : (urls suffixes : List (List ℕ)) (pages given : List PageResult) (found shown : List (Bor (List ℕ))) → given ≡ pages → shown ≡ found
     → IsPermutation (unreached_of (allows suffixes) given urls) (pointed found) → IsSortedByKey (λ url. url) (slice_cmp nat_cmp) (pointed found) → AreUnreached urls suffixes pages (pointed shown)
-unreached_told urls suffixes pages given found shown same_pages same_shown moved ascends = grind arith
+unreached_listed urls suffixes pages given found shown same_pages same_shown moved ascends = grind arith
 
-pub text_told : {E : Type 0} (result : Result (Vec (Vec ℕ Global) Global) E) (plan : CrawlPlan) (known suffixes : List (List ℕ)) (pages given : List PageResult) (counts shown : List ℕ) (urls : List (List ℕ)) → given ≡ pages → shown ≡ (if plan.queues then counts else [])
+pub text_reported : {E : Type 0} (result : Result (Vec (Vec ℕ Global) Global) E) (plan : CrawlPlan) (known suffixes : List (List ℕ)) (pages given : List PageResult) (counts shown : List ℕ) (urls : List (List ℕ)) → given ≡ pages → shown ≡ (if plan.queues then counts else [])
     → AreUnreached known suffixes pages urls → IfOk result (λ chunks. joined chunks.items ≡ flat_map (printed_line plan.options.json) (rows_with plan.options.sections given shown urls)) → IfOk result (λ chunks. IsTextOf plan known suffixes pages counts (joined chunks.items))
-text_told result plan known suffixes pages given counts shown urls same_pages same_counts unseen printed = grind arith
+text_reported result plan known suffixes pages given counts shown urls same_pages same_counts unseen printed = grind arith

@@ -4,7 +4,7 @@ pub mod CrawlTexts
 pub mod Endings
 pub mod Folders
 pub mod PlanTexts
-pub mod PlainTexts
+pub mod BasicTexts
 pub mod Seeds
 pub mod SiteCrawls
 pub mod Serves

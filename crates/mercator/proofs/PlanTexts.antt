@@ -1,11 +1,11 @@
 -- What a crawl prints; and plans that ask for one text print one.
-use Rattle.mercator.proofs.Prelude.{◌≡◌, ℕ, Bool, true, false, not, ◌&&◌, List, [], ◌∷◌, ◌++◌, Option, Some, None, Ok, String, Global, IsErr, IfSome, IsSomeAnd, ◌<◌, ◌≤◌, length, map, string_bytes, refl, sym, ap, subst, ◌∙◌, arith, IsPermutation, lines, result_urls, unreached_of, PageResult, AreCounts, allows, filter_of, is_good, crawl_of, is_bad_suffix, is_input, known_bytes, known_seeds, lists_input, suffixes_of, AreFiles, AskForOneCrawl, AskForOneReport, AskForOneText, FailsCrawl, Gains, IsToldCrawl, OfFile, OfFiles, AreUnreached, CrawlPlan, asked_pages, IsBegun, IsCrawlText, IsFound, IsTextOf, IsUnbegun, printed_with, Fault, Crawled, Plan, same_number_lists}
+use Rattle.mercator.proofs.Prelude.{◌≡◌, ℕ, Bool, true, false, not, ◌&&◌, List, [], ◌∷◌, ◌++◌, Option, Some, None, Ok, String, Global, IsErr, IfSome, IsSomeAnd, ◌<◌, ◌≤◌, length, map, string_bytes, refl, sym, ap, subst, ◌∙◌, arith, IsPermutation, lines, result_urls, unreached_of, PageResult, AreCounts, allows, filter_of, is_good, crawl_of, is_bad_suffix, is_input, known_bytes, known_seeds, lists_input, suffixes_of, AreFiles, AskForOneCrawl, AskForOneReport, AskForOneText, FailsCrawl, Gains, IsCrawlOutput, OfFile, OfFiles, AreUnreached, CrawlPlan, pages_to_list, IsBegun, IsCrawlText, IsFound, IsTextOf, IsUnbegun, printed_with, CommandError, Crawled, Plan, same_number_lists}
 use Rattle.std.specs.Bool.{if◌then◌else◌}
 use Rattle.crawl_replay.specs.Replay.{IsReplay}
 use Rattle.crawl_replay.specs.Script.{script_of}
 use Rattle.crawl_report.proofs.OneOrder.{one_order}
 use Rattle.mercator.specs.Limits.{most_input_bytes}
-use Rattle.mercator.specs.declared.commands.fault.Fault.TheVariants as wrong
+use Rattle.mercator.specs.declared.commands.error.CommandError.TheVariants as wrong
 use Rattle.mercator.specs.declared.commands.planned.Plan.TheVariants as asks
 use Rattle.std.proofs.lemmas.Option.{get_or_from_slice_get}
 use Rattle.mercator.proofs.SiteCrawls.{one_site_crawl}
@@ -48,9 +48,9 @@ one_text : (crawl other : CrawlPlan) (bytes listed : List ℕ) (texts suffixes :
     → IsCrawlText crawl.workers crawl bytes listed texts suffixes text → IsCrawlText other.workers other bytes listed texts suffixes its → text ≡ its
 one_text crawl other bytes listed texts suffixes text its ask queued many own their =
     let pages : own.pages ≡ their.pages = one_site_crawl bytes listed texts suffixes own.pages their.pages own.crawl their.crawl in
-    let urls : own.told.unreached ≡ their.told.unreached = one_unreached (asked_pages crawl.options.sections (lines bytes)) (asked_pages other.options.sections (lines bytes)) suffixes own.pages their.pages own.told.unreached their.told.unreached (ap (λ sections. asked_pages sections (lines bytes)) ask.sections) pages own.told.unseen their.told.unseen in
+    let urls : own.output.unreached ≡ their.output.unreached = one_unreached (pages_to_list crawl.options.sections (lines bytes)) (pages_to_list other.options.sections (lines bytes)) suffixes own.pages their.pages own.output.unreached their.output.unreached (ap (λ sections. pages_to_list sections (lines bytes)) ask.sections) pages own.output.unseen their.output.unseen in
     let counts = one_counts crawl.queues crawl.workers other.workers own.pages their.pages own.counts their.counts many pages own.counted their.counted ∙ ap (λ q. if q then their.counts else []) queued in
-    own.told.written ∙ one_print crawl other own.pages their.pages own.counts their.counts own.told.unreached their.told.unreached ask pages counts urls ∙ sym their.told.written
+    own.output.written ∙ one_print crawl other own.pages their.pages own.counts their.counts own.output.unreached their.output.unreached ask pages counts urls ∙ sym their.output.written
   where
     one_counts : (queues : Bool) (workers others : ℕ) (pages those : List PageResult) (counts other : List ℕ) → (queues ≡ true → workers ≡ others) → pages ≡ those → AreCounts workers (result_urls pages) counts → AreCounts others (result_urls those) other
         → (if queues then counts else []) ≡ (if queues then other else [])
@@ -59,7 +59,7 @@ one_text crawl other bytes listed texts suffixes text its ask queued many own th
         one_count others (result_urls those) counts other (subst (λ n. AreCounts n (result_urls those) counts) (many refl) (subst (λ p. AreCounts workers (result_urls p) counts) same own)) their
 
 -- what such crawls print of the same bytes
-one_crawl : (crawl other : CrawlPlan) (bytes text its : List ℕ) → AskForOneCrawl crawl other → IsToldCrawl crawl (Some bytes) text → IsToldCrawl other (Some bytes) its → text ≡ its
+one_crawl : (crawl other : CrawlPlan) (bytes text its : List ℕ) → AskForOneCrawl crawl other → IsCrawlOutput crawl (Some bytes) text → IsCrawlOutput other (Some bytes) its → text ≡ its
 one_crawl crawl other bytes text its ask own their =
     let (own_input, other_input, own_none, other_none, seeded, filtered, sections, queued, many) = ask in
     let texts = map string_bytes crawl.seeds.items in
@@ -72,7 +72,7 @@ one_crawl crawl other bytes text its ask own their =
 
 pub one_output : (plan other : Plan) (bytes before after its : List ℕ) → AskForOneText plan other → Gains plan (Some bytes) (Some before) (Some after) → Gains other (Some bytes) (Some before) (Some its) → after ≡ its
 one_output (asks.Crawl workers max queues file seeds options) (asks.Crawl others most counts from those settings) bytes before after its ask own their =
-    own.gained ∙ ap (λ t. before ++ t) (one_crawl (crawl_of workers max queues file seeds options) (crawl_of others most counts from those settings) bytes own.text their.text ask own.told their.told) ∙ sym their.gained
+    own.gained ∙ ap (λ t. before ++ t) (one_crawl (crawl_of workers max queues file seeds options) (crawl_of others most counts from those settings) bytes own.text their.text ask own.output their.output) ∙ sym their.gained
 one_output plan other_plan bytes before after its ask own other = absurd ask
 
 -- the filter of a crawl is that of its suffix, which is good
@@ -107,17 +107,17 @@ of_files : (crawl : CrawlPlan) (input : Option (List ℕ)) (bytes list : List �
 of_files crawl input bytes list P are holds = grind arith
 
 -- what is printed of what was found in these files, by this filter, is the text of the plan's crawl
-pub told_of : (crawl : CrawlPlan) (input : Option (List ℕ)) (bytes list : List ℕ) (filter known : List (List ℕ)) (found : Crawled) (text : List ℕ) → (is_bad_suffix crawl.options.within ≡ false) × (filter ≡ suffixes_of crawl.options.within) → AreFiles crawl input bytes list
-    → IsBegun bytes list (map string_bytes crawl.seeds.items) → IsFound crawl.workers bytes list (map string_bytes crawl.seeds.items) filter found → known ≡ asked_pages crawl.options.sections (lines bytes) → IsTextOf crawl known filter found.result found.counts.items text
-    → IsToldCrawl crawl input text
-told_of crawl input bytes list filter known found text suffix are begun own same written = grind (arith, of_files)
+pub output_of : (crawl : CrawlPlan) (input : Option (List ℕ)) (bytes list : List ℕ) (filter known : List (List ℕ)) (found : Crawled) (text : List ℕ) → (is_bad_suffix crawl.options.within ≡ false) × (filter ≡ suffixes_of crawl.options.within) → AreFiles crawl input bytes list
+    → IsBegun bytes list (map string_bytes crawl.seeds.items) → IsFound crawl.workers bytes list (map string_bytes crawl.seeds.items) filter found → known ≡ pages_to_list crawl.options.sections (lines bytes) → IsTextOf crawl known filter found.result found.counts.items text
+    → IsCrawlOutput crawl input text
+output_of crawl input bytes list filter known found text suffix are begun own same written = grind (arith, of_files)
 
 -- why nothing is found of the plan's files
-fails : (crawl : CrawlPlan) (input : Option (List ℕ)) (fault : Fault) → is_bad_suffix crawl.options.within ≡ false
-    → OfFiles crawl input (λ bytes list. IsUnbegun crawl.workers crawl.max bytes list (map string_bytes crawl.seeds.items) (suffixes_of crawl.options.within) fault) → FailsCrawl crawl input fault
-fails crawl input fault good of = grind arith
+fails : (crawl : CrawlPlan) (input : Option (List ℕ)) (error : CommandError) → is_bad_suffix crawl.options.within ≡ false
+    → OfFiles crawl input (λ bytes list. IsUnbegun crawl.workers crawl.max bytes list (map string_bytes crawl.seeds.items) (suffixes_of crawl.options.within) error) → FailsCrawl crawl input error
+fails crawl input error good of = grind arith
 
 -- and of these files
-pub fails_in_files : (crawl : CrawlPlan) (input : Option (List ℕ)) (bytes list : List ℕ) (filter : List (List ℕ)) (fault : Fault) → (is_bad_suffix crawl.options.within ≡ false) × (filter ≡ suffixes_of crawl.options.within) → AreFiles crawl input bytes list
-    → IsUnbegun crawl.workers crawl.max bytes list (map string_bytes crawl.seeds.items) filter fault → FailsCrawl crawl input fault
-fails_in_files crawl input bytes list filter fault suffix are unbegun = grind (arith, fails, of_files)
+pub fails_in_files : (crawl : CrawlPlan) (input : Option (List ℕ)) (bytes list : List ℕ) (filter : List (List ℕ)) (error : CommandError) → (is_bad_suffix crawl.options.within ≡ false) × (filter ≡ suffixes_of crawl.options.within) → AreFiles crawl input bytes list
+    → IsUnbegun crawl.workers crawl.max bytes list (map string_bytes crawl.seeds.items) filter error → FailsCrawl crawl input error
+fails_in_files crawl input bytes list filter error suffix are unbegun = grind (arith, fails, of_files)

@@ -10,11 +10,11 @@ pub use Rattle.crawl_run.specs.declared.crawled.Crawled.{Crawled}
 pub use Rattle.crawl_run.specs.declared.error.CrawlError.{CrawlError}
 pub use Rattle.crawl_run.specs.declared.failure.CrawlFailure.{CrawlFailure}
 pub use Rattle.mercator.specs.Ending.{Begins, EndsByText}
-pub use Rattle.mercator.specs.Faults.{of_crawl, of_crawl_by, of_log, of_logged, of_seed, of_session, of_site, status_of_fault}
+pub use Rattle.mercator.specs.Errors.{of_crawl, of_crawl_by, of_log, of_logged, of_seed, of_session, of_site, status_of_error}
 pub use Rattle.mercator.specs.Plans.{IsVisible, IsWithinLimits, crawl_of, has_notices, is_bad_suffix, is_input, known_bytes, known_seeds, lists_input, plan_of, suffixes_of}
-pub use Rattle.mercator.specs.Told.{AreFiles, AskForOneCrawl, AskForOneReport, AskForOneText, CannotTell, EndsBy, FailsCrawl, FailsList, FailsLog, Gains, GainsAs, HasLog, IsBroken, IsCheckText, IsChecked, IsDiff, IsDoneWithNote, IsTold, IsToldCrawl, MayNote, OfFile, OfFiles, Resumes, TellsFault, TellsInUse, no_identity, reports, settings_of, told_lines}
-pub use Rattle.mercator.specs.WebCrawl.{AreAllSeeds, AreSeeds, AreUnreached, ComesOf, CrawlPlan, IsBegun, IsCrawlReport, IsCrawlText, IsFirstBadSeed, IsFound, IsPlain, IsPlainText, IsRefused, IsSeedFault, IsSiteCrawl, IsSiteFailure, IsTextOf, IsUnbegun, IsUnread, asked_pages, printed_with}
-pub use Rattle.mercator.specs.declared.commands.fault.Fault.{Fault}
+pub use Rattle.mercator.specs.Outputs.{AreFiles, AskForOneCrawl, AskForOneReport, AskForOneText, HasNoOutput, EndsBy, FailsCrawl, FailsList, FailsLog, Gains, GainsAs, HasLog, IsBroken, IsCheckText, IsChecked, IsDiff, IsDoneWithNote, IsOutput, IsCrawlOutput, MayNote, OfFile, OfFiles, Resumes, ReportsError, ReportsInUse, no_identity, reports, settings_of, error_lines}
+pub use Rattle.mercator.specs.WebCrawl.{AreAllSeeds, AreSeeds, AreUnreached, ComesOf, CrawlPlan, IsBegun, IsCrawlReport, IsCrawlText, IsFirstBadSeed, IsFound, IsPlain, IsBasicText, IsRefused, IsSeedError, IsSiteCrawl, IsSiteFailure, IsTextOf, IsUnbegun, IsUnread, pages_to_list, printed_with}
+pub use Rattle.mercator.specs.declared.commands.error.CommandError.{CommandError}
 pub use Rattle.mercator.specs.declared.commands.planned.Plan.{Plan}
 pub use Rattle.saved_pages.specs.SavedWeb.{page_of, page_urls}
 pub use Rattle.saved_web.specs.KnownPages.{page_at}

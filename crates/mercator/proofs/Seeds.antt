@@ -1,5 +1,5 @@
 -- The first seed that has no canonical URL.
-use Rattle.mercator.proofs.Prelude.{◌≡◌, ◌⊎◌, ℕ, ◌+◌, ◌<◌, List, ◌∷◌, ◌++◌, length, map, take, drop, get_or, Err, refl, ap, ◌∙◌, arith, drop-cons, add-one, KeyError, of_seed, AreSeeds, IsFirstBadSeed, IsSeedFault}
+use Rattle.mercator.proofs.Prelude.{◌≡◌, ◌⊎◌, ℕ, ◌+◌, ◌<◌, List, ◌∷◌, ◌++◌, length, map, take, drop, get_or, Err, refl, ap, ◌∙◌, arith, drop-cons, add-one, KeyError, of_seed, AreSeeds, IsFirstBadSeed, IsSeedError}
 use Rattle.std.proofs.lemmas.List.{map-append, length-map, length-take-le, take-append-drop}
 use Rattle.crawl_keys.specs.CanonicalText.{canonical}
 use Rattle.crawl_keys.specs.declared.error.KeyError.TheVariants as key
@@ -20,5 +20,5 @@ bad_at text texts index one seeds refusal within is named refused = record {
 }
 
 -- its error, unless memory ran out
-pub seed_fault : {S : Type 0} (text : S → List ℕ) (texts : List S) (index : ℕ) (one : S) (seeds : List (List ℕ)) (refusal : KeyError) → index < length texts → one ≡ get_or texts index one → AreSeeds (map text (take index texts)) seeds → (canonical (text one) ≡ Err refusal) ⊎ (refusal ≡ key.NoMemory) → IsSeedFault (map text texts) (of_seed (index + 1) refusal)
-seed_fault text texts index one seeds refusal within is named why = grind (arith, bad_at)
+pub seed_error : {S : Type 0} (text : S → List ℕ) (texts : List S) (index : ℕ) (one : S) (seeds : List (List ℕ)) (refusal : KeyError) → index < length texts → one ≡ get_or texts index one → AreSeeds (map text (take index texts)) seeds → (canonical (text one) ≡ Err refusal) ⊎ (refusal ≡ key.NoMemory) → IsSeedError (map text texts) (of_seed (index + 1) refusal)
+seed_error text texts index one seeds refusal within is named why = grind (arith, bad_at)

@@ -1,5 +1,5 @@
 -- What a session prints, by its plan.
-use Rattle.mercator.proofs.Prelude.{◌≡◌, ◌⊎◌, ℕ, List, Bool, true, false, if◌then◌else◌, Option, String, Global, refl, subst, ◌∙◌, arith, lines, Begins, of_log, of_logged, of_session, status_of_fault, IsWithinLimits, has_notices, is_bad_suffix, suffixes_of, EndsBy, FailsList, FailsLog, Gains, HasLog, IsDoneWithNote, MayNote, Resumes, TellsFault, TellsInUse, no_identity, settings_of, told_lines, Fault, Plan}
+use Rattle.mercator.proofs.Prelude.{◌≡◌, ◌⊎◌, ℕ, List, Bool, true, false, if◌then◌else◌, Option, String, Global, refl, subst, ◌∙◌, arith, lines, Begins, of_log, of_logged, of_session, status_of_error, IsWithinLimits, has_notices, is_bad_suffix, suffixes_of, EndsBy, FailsList, FailsLog, Gains, HasLog, IsDoneWithNote, MayNote, Resumes, ReportsError, ReportsInUse, no_identity, settings_of, error_lines, CommandError, Plan}
 use Rattle.std.proofs.lemmas.List.{append-nil}
 use Rattle.crawl_session.specs.Frontiers.{Shows, start}
 use Rattle.crawl_session.specs.Answers.{answer_lines}
@@ -9,16 +9,16 @@ use Rattle.crawl_session.specs.Sessions.{answers, state_after}
 use Rattle.crawl_session.specs.Settings.{SessionView}
 use Rattle.crawl_session.specs.declared.serving.ServeError.{ServeError}
 use Rattle.crawl_session.specs.declared.serving.ServeError.TheVariants as serving
-use Rattle.session_log.specs.Faults.{status_of_log}
-use Rattle.session_log.specs.LogFile.{IsBreak, IsReadFault, IsUseFault}
+use Rattle.session_log.specs.Errors.{status_of_log}
+use Rattle.session_log.specs.LogFile.{IsBreak, IsReadError, IsUseError}
 use Rattle.session_log.specs.Plans.{part_of, queues_of}
-use Rattle.session_log.specs.declared.fault.LogFault.{LogFault}
-use Rattle.session_log.specs.declared.fault.LogFault.TheVariants as unlogged
-use Rattle.session_log.specs.declared.fault.LoggedFault.{LoggedFault}
-use Rattle.session_log.specs.declared.fault.LoggedFault.TheVariants as ends
+use Rattle.session_log.specs.declared.error.LogError.{LogError}
+use Rattle.session_log.specs.declared.error.LogError.TheVariants as unlogged
+use Rattle.session_log.specs.declared.error.LoggedError.{LoggedError}
+use Rattle.session_log.specs.declared.error.LoggedError.TheVariants as ends
 use Rattle.session_log.specs.declared.plan.LogPlan.{LogPlan}
 use Rattle.session_log.specs.declared.plan.SessionPlan.{SessionPlan}
-use Rattle.mercator.specs.declared.commands.fault.Fault.TheVariants as wrong
+use Rattle.mercator.specs.declared.commands.error.CommandError.TheVariants as wrong
 use Rattle.mercator.specs.declared.commands.planned.Plan.TheVariants as asks
 
 -- a session that was made for a plan has its settings
@@ -51,36 +51,36 @@ resumes session plan identity resumed shown is log =
 pub gains_on : (plan : LogPlan) (resumed : SessionView) (input out_old out_new : Option (List ℕ)) (new : SessionView) → is_bad_suffix plan.session.within ≡ false → Resumes plan resumed → ServesInput resumed input out_old out_new new → Gains (asks.ServeLog plan) input out_old out_new
 gains_on plan resumed input out_old out_new new good log served =
     let state = state_after (settings_of plan.session log.identity) (start (queues_of plan.session) plan.session.max) (lines log.log) in
-    let told : served.text ≡ answer_lines (answers resumed.settings state (lines served.bytes)) = (served.serves.comes state log.shown).0 in
+    let output : served.text ≡ answer_lines (answers resumed.settings state (lines served.bytes)) = (served.serves.comes state log.shown).0 in
     record {
       text = served.text;
-      told = (
+      output = (
         good,
         record {
           identity = log.identity;
           log = log.log;
           bytes = served.bytes;
           read = served.read;
-          answered = subst (λ s. served.text ≡ answer_lines (answers s state (lines served.bytes))) log.settings told;
+          is_text = subst (λ s. served.text ≡ answer_lines (answers s state (lines served.bytes))) log.settings output;
         },
       );
       gained = served.written;
     }
 
 -- one that broke off
-pub ends_logged : (plan : LogPlan) (input : Option (List ℕ)) (why : LoggedFault) (Unwritten : Type 0) → is_bad_suffix plan.session.within ≡ false → IsBreak why → EndsBy (asks.ServeLog plan) input (of_logged why) Unwritten
+pub ends_logged : (plan : LogPlan) (input : Option (List ℕ)) (why : LoggedError) (Unwritten : Type 0) → is_bad_suffix plan.session.within ≡ false → IsBreak why → EndsBy (asks.ServeLog plan) input (of_logged why) Unwritten
 ends_logged plan input why Unwritten good is = grind arith
 
 -- it has status 1
-pub plain_break : (why : LoggedFault) → IsBreak why → status_of_fault (of_logged why) ≡ 1
+pub plain_break : (why : LoggedError) → IsBreak why → status_of_error (of_logged why) ≡ 1
 plain_break why is = grind arith
 
 -- an open log that cannot be used has status 1
-pub plain_use : (why : LogFault) → IsUseFault why → status_of_fault (of_log why) ≡ 1
+pub plain_use : (why : LogError) → IsUseError why → status_of_error (of_log why) ≡ 1
 plain_use why is = grind arith
 
 -- a log that is not listed
-pub plain_list : (why : LogFault) → IsReadFault why → status_of_fault (of_log why) ≡ 1
+pub plain_list : (why : LogError) → IsReadError why → status_of_error (of_log why) ≡ 1
 plain_list unlogged.CannotOpen is = refl
 plain_list unlogged.CannotRead is = refl
 plain_list unlogged.NotALog is = refl
@@ -88,7 +88,7 @@ plain_list (unlogged.Damaged last first) is = refl
 plain_list unlogged.NoMemory is = refl
 plain_list why is = absurd is
 
-pub list_fails : (why : LogFault) → IsReadFault why → FailsList (of_log why)
+pub list_fails : (why : LogError) → IsReadError why → FailsList (of_log why)
 list_fails unlogged.CannotOpen is = tt
 list_fails unlogged.CannotRead is = tt
 list_fails unlogged.NotALog is = tt
@@ -97,41 +97,41 @@ list_fails unlogged.NoMemory is = tt
 list_fails why is = absurd is
 
 -- one that did not begin
-pub log_fails : (within : Option (String Global)) (why : LogFault) → is_bad_suffix within ≡ false → FailsLog within (of_log why)
+pub log_fails : (within : Option (String Global)) (why : LogError) → is_bad_suffix within ≡ false → FailsLog within (of_log why)
 log_fails within why good = grind arith
 
 -- it has status 1 if the suffix is bad
-pub plain_fails : (within : Option (String Global)) (fault : Fault) → is_bad_suffix within ≡ true → FailsLog within fault → status_of_fault fault ≡ 1
-plain_fails within fault bad fails = grind arith
+pub plain_fails : (within : Option (String Global)) (error : CommandError) → is_bad_suffix within ≡ true → FailsLog within error → status_of_error error ≡ 1
+plain_fails within error bad fails = grind arith
 
 -- an error of a log does not have status 2
-complete_why : (why : LogFault) → status_of_log why ≡ 2 → ⊥
+complete_why : (why : LogError) → status_of_log why ≡ 2 → ⊥
 complete_why why two = grind arith
 
-pub complete_fails : (within : Option (String Global)) (fault : Fault) → FailsLog within fault → status_of_fault fault ≡ 2 → ⊥
-complete_fails within fault fails two = grind (arith, complete_why)
+pub complete_fails : (within : Option (String Global)) (error : CommandError) → FailsLog within error → status_of_error error ≡ 2 → ⊥
+complete_fails within error fails two = grind (arith, complete_why)
 
 -- status 5 is that of a log in use
-in_use_why : (why : LogFault) → status_of_log why ≡ 5 → why ≡ unlogged.InUse
+in_use_why : (why : LogError) → status_of_log why ≡ 5 → why ≡ unlogged.InUse
 in_use_why why five = grind arith
 
 pub in_use_crawl : (b : Bool) → ◌≡◌ {A = ℕ} (if b then 2 else 1) 5 → ⊥
 in_use_crawl b five = grind arith
 
-pub in_use : (fault : Fault) → status_of_fault fault ≡ 5 → fault ≡ wrong.Log unlogged.InUse
-in_use fault five = grind (arith, in_use_why, in_use_crawl)
+pub in_use : (error : CommandError) → status_of_error error ≡ 5 → error ≡ wrong.Log unlogged.InUse
+in_use error five = grind (arith, in_use_why, in_use_crawl)
 
 -- the line of a log in use
-pub tells_in_use : (plan : Plan) (fault : Fault) (old new : Option (List ℕ)) → HasLog plan → status_of_fault fault ≡ 5 → Begins old new (told_lines plan fault) → TellsInUse plan old new
-tells_in_use (asks.ServeLog plan) fault old new has five told =
-    subst (λ t. Begins old new t) (append-nil _) (subst (λ f. Begins old new (told_lines (asks.ServeLog plan) f)) (in_use fault five) told)
-tells_in_use (asks.Compact asked) fault old new has five told =
-    subst (λ t. Begins old new t) (append-nil _) (subst (λ f. Begins old new (told_lines (asks.Compact asked) f)) (in_use fault five) told)
-tells_in_use plan fault old new has five told = absurd has
+pub reports_in_use : (plan : Plan) (error : CommandError) (old new : Option (List ℕ)) → HasLog plan → status_of_error error ≡ 5 → Begins old new (error_lines plan error) → ReportsInUse plan old new
+reports_in_use (asks.ServeLog plan) error old new has five output =
+    subst (λ t. Begins old new t) (append-nil _) (subst (λ f. Begins old new (error_lines (asks.ServeLog plan) f)) (in_use error five) output)
+reports_in_use (asks.Compact given) error old new has five output =
+    subst (λ t. Begins old new t) (append-nil _) (subst (λ f. Begins old new (error_lines (asks.Compact given) f)) (in_use error five) output)
+reports_in_use plan error old new has five output = absurd has
 
 -- the line of an error is printed after what a session with a log may have printed
-pub tells_fault : (plan : Plan) (old middle new : Option (List ℕ)) (line : List ℕ) → (has_notices plan ≡ false → middle ≡ old) → MayNote plan old middle → Begins middle new line → TellsFault plan old new line
-tells_fault plan old middle new line silent noted told = grind arith
+pub reports_error : (plan : Plan) (old middle new : Option (List ℕ)) (line : List ℕ) → (has_notices plan ≡ false → middle ≡ old) → MayNote plan old middle → Begins middle new line → ReportsError plan old new line
+reports_error plan old middle new line silent noted output = grind arith
 
 -- `err` after a success: what holds for a plan holds for the arguments that it comes from
 pub done_words : {E : Type 0} (plan : Plan) (contents : E → Option (List ℕ)) (input out_old out_new : Option (List ℕ)) (old new : E) → IsWithinLimits plan → Gains plan input out_old out_new → (has_notices plan ≡ false → new ≡ old) → MayNote plan (contents old) (contents new)

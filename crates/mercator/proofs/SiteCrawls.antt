@@ -1,12 +1,12 @@
 -- The pages of a saved web that can be reached are one list, and so its report is one text.
-use Rattle.mercator.proofs.Prelude.{◌≡◌, ℕ, ◌≤◌, Bool, List, [], ◌∷◌, length, map, Result, Ok, refl, sym, ap, subst, ◌∙◌, arith, IsCrawl, result_urls, allows, KeyError, page_of, PageResult, lines, AreCounts, ComesIn, CrawlFails, IsJudgedAt, AreAllSeeds, ComesOf, IsBegun, IsCrawlReport, IsFound, IsRefused, IsSiteCrawl, IsSiteFailure, IsUnbegun, IsUnread, of_crawl, of_crawl_by, Fault, Crawled, CrawlError, CrawlFailure}
+use Rattle.mercator.proofs.Prelude.{◌≡◌, ℕ, ◌≤◌, Bool, List, [], ◌∷◌, length, map, Result, Ok, refl, sym, ap, subst, ◌∙◌, arith, IsCrawl, result_urls, allows, KeyError, page_of, PageResult, lines, AreCounts, ComesIn, CrawlFails, IsJudgedAt, AreAllSeeds, ComesOf, IsBegun, IsCrawlReport, IsFound, IsRefused, IsSiteCrawl, IsSiteFailure, IsUnbegun, IsUnread, of_crawl, of_crawl_by, CommandError, Crawled, CrawlError, CrawlFailure}
 use Rattle.crawl_certificate.proofs.OneCrawl.{one_crawl}
 use Rattle.crawl_pages.specs.declared.page.Page.{Page}
-use Rattle.saved_pages.specs.WebFaults.{IsSound}
+use Rattle.saved_pages.specs.WebErrors.{IsSound}
 use Rattle.crawl_report.specs.ReportText.{report}
 use Rattle.crawl_run.specs.JudgedRuns.{CountsLosses}
 use Rattle.crawl_run.specs.Losses.{IsLost}
-use Rattle.mercator.specs.declared.commands.fault.Fault.TheVariants as wrong
+use Rattle.mercator.specs.declared.commands.error.CommandError.TheVariants as wrong
 use Rattle.crawl_run.specs.declared.error.CrawlError.TheVariants as crawl
 use Rattle.crawl_run.specs.declared.settings.Mode.{Mode}
 
@@ -80,8 +80,8 @@ refused_of workers max bytes texts suffixes meaning seeds failure sound same nam
       counted = subst (λ m. CountsLosses workers (allows suffixes) m seeds failure.error failure.culprit failure.losses) both counted;
     })
 
-pub unread_refused : (workers max : ℕ) (bytes : List ℕ) (texts suffixes : List (List ℕ)) (fault : Fault) → IsUnread bytes [] texts fault → IsRefused workers max bytes texts suffixes fault
-unread_refused workers max bytes texts suffixes fault is = grind arith
+pub unread_refused : (workers max : ℕ) (bytes : List ℕ) (texts suffixes : List (List ℕ)) (error : CommandError) → IsUnread bytes [] texts error → IsRefused workers max bytes texts suffixes error
+unread_refused workers max bytes texts suffixes error is = grind arith
 
 -- the error of a crawl in a mode
 comes_by : (mode : Mode) (failure : CrawlFailure) (error : CrawlError) → failure.error ≡ error → ComesIn mode failure.error → ComesOf mode (of_crawl_by error failure)
@@ -90,12 +90,12 @@ comes_by mode failure error is comes = grind arith
 pub comes_of : (mode : Mode) (failure : CrawlFailure) → ComesIn mode failure.error → ComesOf mode (of_crawl failure)
 comes_of mode failure comes = comes_by mode failure failure.error refl comes
 
-pub unread_comes : (mode : Mode) (bytes : List ℕ) (texts : List (List ℕ)) (fault : Fault) → IsUnread bytes [] texts fault → ComesOf mode fault
-unread_comes mode bytes texts fault is = grind arith
+pub unread_comes : (mode : Mode) (bytes : List ℕ) (texts : List (List ℕ)) (error : CommandError) → IsUnread bytes [] texts error → ComesOf mode error
+unread_comes mode bytes texts error is = grind arith
 
 -- why there are no web and seeds is why there is no crawl of them
-pub unread_unbegun : (workers max : ℕ) (bytes listed : List ℕ) (texts suffixes : List (List ℕ)) (fault : Fault) → IsUnread bytes listed texts fault → IsUnbegun workers max bytes listed texts suffixes fault
-unread_unbegun workers max bytes listed texts suffixes fault is = grind arith
+pub unread_unbegun : (workers max : ℕ) (bytes listed : List ℕ) (texts suffixes : List (List ℕ)) (error : CommandError) → IsUnread bytes listed texts error → IsUnbegun workers max bytes listed texts suffixes error
+unread_unbegun workers max bytes listed texts suffixes error is = grind arith
 
 -- a file of seeds and texts have one list of seeds
 one_seeds : (listed : List ℕ) (texts seeds others : List (List ℕ)) → AreAllSeeds listed texts seeds → AreAllSeeds listed texts others → seeds ≡ others

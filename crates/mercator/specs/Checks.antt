@@ -3,7 +3,7 @@ use Rattle.std.specs.Prelude.{◌≡◌, ◌==◌, ◌⊎◌, ℕ, Bool, true, f
 use Rattle.std.specs.Io.KnownBytes.{Appends}
 use Rattle.std.specs.List.{list_any, starts_with}
 use Rattle.std.specs.declared.alloc.Global.{Global}
-use Rattle.mercator.specs.Told.{EndsByFault, FailsWithoutPlan, IsCheckText, TellsWords, is_off}
+use Rattle.mercator.specs.Outputs.{EndsByError, FailsWithoutPlan, IsCheckText, ReportsArguments, is_off}
 use Rattle.mercator.specs.declared.commands.plan_error.PlanError.{PlanError}
 use Rattle.mercator.specs.declared.commands.plan_error.PlanError.TheVariants as unplanned
 use Rattle.mercator.specs.declared.commands.planned.Plan.{Plan}
@@ -14,12 +14,12 @@ use Rattle.mercator_site.specs.declared.options.CheckOptions.{CheckOptions}
 
 -- one of the arguments is this text
 abbrev pub has_word : List (String Global) → List ℕ → Bool
-has_word words text = list_any (λ word. bytes_eq (string_bytes word) text) words
+has_word arguments text = list_any (λ word. bytes_eq (string_bytes word) text) arguments
 
 -- the first argument is `check`
 abbrev pub names_check : List (String Global) → Bool
 names_check [] = false
-names_check (word ∷ words) = bytes_eq (string_bytes word) (codes "check")
+names_check (word ∷ arguments) = bytes_eq (string_bytes word) (codes "check")
 
 -- the argument begins with the short form of `--help` or `--version`
 abbrev pub has_help_letter : List ℕ → Bool
@@ -30,26 +30,26 @@ abbrev pub is_help : List ℕ → Bool
 is_help word = bytes_eq word (codes "help") || (bytes_eq word (codes "--help") || (bytes_eq word (codes "--version") || has_help_letter word))
 
 abbrev pub asks_help : List (String Global) → Bool
-asks_help words = list_any (λ word. is_help (string_bytes word)) words
+asks_help arguments = list_any (λ word. is_help (string_bytes word)) arguments
 
 -- the arguments are those of a check: the first is `check`, and none asks for help
 abbrev pub is_check : List (String Global) → Bool
-is_check words = names_check words && not (asks_help words)
+is_check arguments = names_check arguments && not (asks_help arguments)
 
 -- the arguments say that no configuration file is read. After `--`, no argument is an option
 abbrev pub has_no_config : List (String Global) → Bool
-has_no_config words = has_word words (codes "--no-config") && not (has_word words (codes "--"))
+has_no_config arguments = has_word arguments (codes "--no-config") && not (has_word arguments (codes "--"))
 
 -- the argument begins like an option, and is not `--no-config`
 abbrev pub is_option : List ℕ → Bool
 is_option word = starts_with nat_eq word (codes "-") && not (bytes_eq word (codes "--no-config"))
 
 abbrev pub has_option : List (String Global) → Bool
-has_option words = list_any (λ word. is_option (string_bytes word)) words
+has_option arguments = list_any (λ word. is_option (string_bytes word)) arguments
 
 -- a configuration file or an argument may set options
 abbrev pub may_set_options : List (String Global) → Bool
-may_set_options words = not (has_no_config words) || has_option words
+may_set_options arguments = not (has_no_config arguments) || has_option arguments
 
 -- ---- the plan
 
@@ -63,16 +63,16 @@ is_plain options ignores = not (is_some ignores) && ((length options.maps.items 
 
 -- there is no BASE, or BASE is one of the arguments, or a configuration file may set it
 abbrev pub agrees_with_base : List (String Global) → CheckOptions → Bool
-agrees_with_base words options = options.paths || (has_word words (string_bytes options.site.base) || not (has_no_config words))
+agrees_with_base arguments options = options.paths || (has_word arguments (string_bytes options.site.base) || not (has_no_config arguments))
 
 -- FOLDER is one of the arguments, and so is BASE; and if nothing sets options, the check reports all that it finds
 abbrev pub agrees_with_check : List (String Global) → CheckOptions → Option (String Global) → Bool
-agrees_with_check words options ignores = has_word words (string_bytes options.site.folder) && (agrees_with_base words options && (is_plain options ignores || may_set_options words))
+agrees_with_check arguments options ignores = has_word arguments (string_bytes options.site.folder) && (agrees_with_base arguments options && (is_plain options ignores || may_set_options arguments))
 
 -- the plan agrees with the arguments. Only that of a check is compared with those of a check
 abbrev pub agrees : List (String Global) → Plan → Bool
-agrees words (asks.Check options ignores) = agrees_with_check words options ignores
-agrees words plan = not (is_check words)
+agrees arguments (asks.Check options ignores) = agrees_with_check arguments options ignores
+agrees arguments plan = not (is_check arguments)
 
 -- the text is help or the version, and not an error
 abbrev pub is_help_text : PlanError → Bool
@@ -81,7 +81,7 @@ is_help_text unplanned.NoMemory = false
 
 -- help and the version are only for arguments that ask for them
 abbrev pub agrees_with_error : List (String Global) → PlanError → Bool
-agrees_with_error words error = not (is_help_text error) || asks_help words
+agrees_with_error arguments error = not (is_help_text error) || asks_help arguments
 
 -- ---- how a check ends
 
@@ -96,15 +96,15 @@ abbrev pub EndsCheck : CheckOptions → Option (String Global) → ℕ → Optio
 EndsCheck options ignores status input out_old out_new err_old err_new Unwritten =
     ((status ≡ 0) × WritesReport options ignores false out_old out_new)
     ⊎ (((status ≡ 4) × WritesReport options ignores true out_old out_new)
-    ⊎ EndsByFault (asks.Check options ignores) status input err_old err_new Unwritten)
+    ⊎ EndsByError (asks.Check options ignores) status input err_old err_new Unwritten)
 
 -- there is no check, and nothing was written but the reason: the command line or the configuration file is bad, or memory ran out
 abbrev pub EndsUnchecked : ℕ → Option (List ℕ) → Option (List ℕ) → Type 0 → Type 0
 EndsUnchecked status err_old err_new Unwritten =
-    ((status ≡ 3) × (Unwritten × ((error : PlanError) × TellsWords error err_old err_new))) ⊎ ((status ≡ 1) × FailsWithoutPlan err_old err_new Unwritten)
+    ((status ≡ 3) × (Unwritten × ((error : PlanError) × ReportsArguments error err_old err_new))) ⊎ ((status ≡ 1) × FailsWithoutPlan err_old err_new Unwritten)
 
 -- the exit status of a check of these arguments says what was written
 abbrev pub ChecksFolder : List (String Global) → ℕ → Option (List ℕ) → Option (List ℕ) → Option (List ℕ) → Option (List ℕ) → Option (List ℕ) → Type 0 → Type 0
-ChecksFolder words status input out_old out_new err_old err_new Unwritten =
+ChecksFolder arguments status input out_old out_new err_old err_new Unwritten =
     EndsUnchecked status err_old err_new Unwritten
-    ⊎ ((options : CheckOptions) × ((ignores : Option (String Global)) × ((agrees_with_check words options ignores ≡ true) × EndsCheck options ignores status input out_old out_new err_old err_new Unwritten)))
+    ⊎ ((options : CheckOptions) × ((ignores : Option (String Global)) × ((agrees_with_check arguments options ignores ≡ true) × EndsCheck options ignores status input out_old out_new err_old err_new Unwritten)))

@@ -1,7 +1,7 @@
 pub mod Checks
 pub mod Ending
-pub mod FaultText
-pub mod Faults
+pub mod ErrorText
+pub mod Errors
 pub mod Formats
 pub mod Hosts
 pub mod Input
@@ -9,5 +9,5 @@ pub mod KeyLine
 pub mod Limits
 pub mod OptionValues
 pub mod Plans
-pub mod Told
+pub mod Outputs
 pub mod WebCrawl

@@ -6,8 +6,8 @@ use Rattle.crawl_limits.specs.Limits.{worker_limit, AreLimits}
 use Rattle.crawl_keys.specs.HostFilter.{is_good}
 use Rattle.session_log.specs.Plans.{IsSessionPlan}
 use Rattle.shown_text.specs.Shown.{is_visible_or_lf}
-use Rattle.mercator.specs.declared.commands.fault.Fault.{Fault}
-use Rattle.mercator.specs.declared.commands.fault.Fault.TheVariants as fault
+use Rattle.mercator.specs.declared.commands.error.CommandError.{CommandError}
+use Rattle.mercator.specs.declared.commands.error.CommandError.TheVariants as error
 use Rattle.mercator.specs.WebCrawl.{CrawlPlan}
 use Rattle.mercator.specs.declared.commands.planned.CrawlOptions.{CrawlOptions}
 use Rattle.mercator.specs.declared.commands.planned.CrawlPlan.{CrawlPlan as Fields}
@@ -46,10 +46,10 @@ IsWithinLimits (asks.Site options) = Unit {0}
 IsWithinLimits (asks.Check options ignores) = (1 ≤ options.workers) × (options.workers ≤ worker_limit)
 IsWithinLimits (asks.Key url workers) = (1 ≤ workers) × (workers ≤ worker_limit)
 IsWithinLimits (asks.Replay file) = Unit {0}
-IsWithinLimits (asks.Serve asked) = IsSessionPlan asked
-IsWithinLimits (asks.ServeLog asked) = IsSessionPlan asked.session
+IsWithinLimits (asks.Serve given) = IsSessionPlan given
+IsWithinLimits (asks.ServeLog given) = IsSessionPlan given.session
 IsWithinLimits (asks.List list) = Unit {0}
-IsWithinLimits (asks.Compact asked) = IsSessionPlan asked.log.session
+IsWithinLimits (asks.Compact given) = IsSessionPlan given.log.session
 
 -- a text of several lines has no hidden character, which could control a terminal
 abbrev pub IsVisible : List ℕ → Type 0
@@ -81,10 +81,10 @@ file_of (asks.Site options) = string_bytes options.folder
 file_of (asks.Check options ignores) = string_bytes options.site.folder
 file_of (asks.Key url workers) = []
 file_of (asks.Replay file) = string_bytes file
-file_of (asks.Serve asked) = codes "-"
-file_of (asks.ServeLog asked) = codes "-"
+file_of (asks.Serve given) = codes "-"
+file_of (asks.ServeLog given) = codes "-"
 file_of (asks.List list) = string_bytes list.file
-file_of (asks.Compact asked) = []
+file_of (asks.Compact given) = []
 
 -- the name of the list if there is one, else FILE
 abbrev pub listed_or : Option (String Global) → List ℕ → List ℕ
@@ -93,14 +93,14 @@ listed_or (Some listed) file = string_bytes listed
 
 -- the file that an error of a plan is about: the file of seeds, the ignore list or the site list if that cannot be read, the log if
 -- that cannot be used, else FILE
-abbrev pub told_file : Plan → Fault → List ℕ
-told_file (asks.Crawl workers max queues file seeds options) fault.CannotReadSeeds = listed_or options.listed (string_bytes file)
-told_file (asks.Check options ignores) fault.CannotReadIgnores = listed_or ignores (string_bytes options.site.folder)
-told_file (asks.Check options ignores) fault.CannotReadIndex = listed_or options.site.index (string_bytes options.site.folder)
-told_file (asks.Site options) fault.CannotReadIndex = listed_or options.index (string_bytes options.folder)
-told_file (asks.ServeLog asked) (fault.Log why) = string_bytes asked.file
-told_file (asks.Compact asked) (fault.Log why) = string_bytes asked.log.file
-told_file plan fault = file_of plan
+abbrev pub file_of_error : Plan → CommandError → List ℕ
+file_of_error (asks.Crawl workers max queues file seeds options) wrong.CannotReadSeeds = listed_or options.listed (string_bytes file)
+file_of_error (asks.Check options ignores) wrong.CannotReadIgnores = listed_or ignores (string_bytes options.site.folder)
+file_of_error (asks.Check options ignores) wrong.CannotReadIndex = listed_or options.site.index (string_bytes options.site.folder)
+file_of_error (asks.Site options) wrong.CannotReadIndex = listed_or options.index (string_bytes options.folder)
+file_of_error (asks.ServeLog given) (wrong.Log why) = string_bytes given.file
+file_of_error (asks.Compact given) (wrong.Log why) = string_bytes given.log.file
+file_of_error plan error = file_of plan
 
 -- the suffixes of the filter of a crawl
 abbrev pub suffixes_of : Option (String Global) → List (List ℕ)
@@ -123,15 +123,15 @@ reads_input (asks.Site options) = false
 reads_input (asks.Check options ignores) = false
 reads_input (asks.Key url workers) = false
 reads_input (asks.Replay file) = is_input (string_bytes file)
-reads_input (asks.Serve asked) = not (is_bad_suffix asked.within)
-reads_input (asks.ServeLog asked) = not (is_bad_suffix asked.session.within)
+reads_input (asks.Serve given) = not (is_bad_suffix given.within)
+reads_input (asks.ServeLog given) = not (is_bad_suffix given.session.within)
 reads_input (asks.List list) = false
-reads_input (asks.Compact asked) = false
+reads_input (asks.Compact given) = false
 
 -- the command may print notices if it succeeds: a session with a log, or a command for a folder
 abbrev pub has_notices : Plan → Bool
-has_notices (asks.ServeLog asked) = true
-has_notices (asks.Compact asked) = true
+has_notices (asks.ServeLog given) = true
+has_notices (asks.Compact given) = true
 has_notices (asks.Site options) = true
 has_notices (asks.Check options ignores) = true
 has_notices plan = false

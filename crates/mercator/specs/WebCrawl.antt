@@ -8,15 +8,15 @@ use Rattle.crawl_keys.specs.CanonicalText.{canonical}
 use Rattle.crawl_report.specs.Json.{printed_line}
 use Rattle.crawl_report.specs.ReportText.{report}
 use Rattle.crawl_report.specs.Rows.{plain_sections, rows_with}
-use Rattle.crawl_report.specs.Today.{told_text}
+use Rattle.crawl_report.specs.Today.{listed_text}
 use Rattle.crawl_report.specs.Unreached.{unreached_of}
 use Rattle.crawl_report.specs.declared.sections.Sections.{Sections}
 use Rattle.crawl_sources.specs.Seeds.{seeds_in}
 use Rattle.saved_pages.specs.SavedWeb.{page_of, page_urls}
 use Rattle.crawl_keys.specs.declared.error.KeyError.{KeyError}
-use Rattle.saved_pages.specs.WebFaults.{IsSound, IsWebFault}
-use Rattle.mercator.specs.declared.commands.fault.Fault.{Fault}
-use Rattle.mercator.specs.declared.commands.fault.Fault.TheVariants as wrong
+use Rattle.saved_pages.specs.WebErrors.{IsSound, IsWebError}
+use Rattle.mercator.specs.declared.commands.error.CommandError.{CommandError}
+use Rattle.mercator.specs.declared.commands.error.CommandError.TheVariants as wrong
 use Rattle.mercator.specs.declared.commands.planned.CrawlOptions.{CrawlOptions}
 use Rattle.crawl_certificate.specs.Certificate.{IsCrawl, result_urls}
 use Rattle.crawl_keys.specs.HostFilter.{allows}
@@ -69,16 +69,16 @@ pub record IsFirstBadSeed (texts : List (List ℕ)) (number : ℕ) (refusal : Ke
   pub refused : canonical text ≡ Err refusal
 
 -- why seeds are refused: by the first that has no canonical URL, or out of memory
-abbrev pub IsSeedFault : List (List ℕ) → Fault → Type 0
-IsSeedFault texts (wrong.Seed number refusal) = IsFirstBadSeed texts number refusal
-IsSeedFault texts wrong.NoMemory = Unit {0}
-IsSeedFault texts _ = ⊥
+abbrev pub IsSeedError : List (List ℕ) → CommandError → Type 0
+IsSeedError texts (wrong.Seed number refusal) = IsFirstBadSeed texts number refusal
+IsSeedError texts wrong.NoMemory = Unit {0}
+IsSeedError texts _ = ⊥
 
 -- why there are no web and seeds, in this order: the bytes are no saved web, by this error; those listed are no seeds file, by
 -- this error; the first text that has no canonical URL, by its refusal; or out of memory
-abbrev pub IsUnread : List ℕ → List ℕ → List (List ℕ) → Fault → Type 0
-IsUnread bytes listed texts (wrong.Web fault) = IsWebFault (lines bytes) fault
-IsUnread bytes listed texts (wrong.Seeds fault) = IsSound (lines bytes) × (seeds_in (lines listed) ≡ Err fault)
+abbrev pub IsUnread : List ℕ → List ℕ → List (List ℕ) → CommandError → Type 0
+IsUnread bytes listed texts (wrong.Web error) = IsWebError (lines bytes) error
+IsUnread bytes listed texts (wrong.Seeds error) = IsSound (lines bytes) × (seeds_in (lines listed) ≡ Err error)
 IsUnread bytes listed texts (wrong.Seed number refusal) = IsSound (lines bytes) × IsOk (seeds_in (lines listed)) × IsFirstBadSeed texts number refusal
 IsUnread bytes listed texts wrong.NoMemory = Unit {0}
 IsUnread bytes listed texts _ = ⊥
@@ -94,18 +94,18 @@ pub record IsSiteFailure (workers : ℕ) (bytes listed : List ℕ) (texts suffix
   pub counted : CountsLosses workers (allows suffixes) (page_of (lines bytes)) seeds failure.error failure.culprit failure.losses
 
 -- why a crawl with these numbers finds no pages, in this order: there are no web and seeds; there is no seed; or the crawl failed
-abbrev pub IsUnbegun : ℕ → ℕ → List ℕ → List ℕ → List (List ℕ) → List (List ℕ) → Fault → Type 0
+abbrev pub IsUnbegun : ℕ → ℕ → List ℕ → List ℕ → List (List ℕ) → List (List ℕ) → CommandError → Type 0
 IsUnbegun workers max bytes listed texts suffixes wrong.NoSeed = IsSound (lines bytes) × AreAllSeeds listed texts []
 IsUnbegun workers max bytes listed texts suffixes (wrong.Crawl failure) = IsBegun bytes listed texts × CrawlFails workers max failure.error × IsSiteFailure workers bytes listed texts suffixes failure
-IsUnbegun workers max bytes listed texts suffixes fault = IsUnread bytes listed texts fault
+IsUnbegun workers max bytes listed texts suffixes error = IsUnread bytes listed texts error
 
 -- why there is no report of a crawl with these numbers, in this order: there are no web and seeds; or the crawl failed
-abbrev pub IsRefused : ℕ → ℕ → List ℕ → List (List ℕ) → List (List ℕ) → Fault → Type 0
+abbrev pub IsRefused : ℕ → ℕ → List ℕ → List (List ℕ) → List (List ℕ) → CommandError → Type 0
 IsRefused workers max bytes texts suffixes (wrong.Crawl failure) = CrawlFails workers max failure.error × IsSiteFailure workers bytes [] texts suffixes failure
-IsRefused workers max bytes texts suffixes fault = IsUnread bytes [] texts fault
+IsRefused workers max bytes texts suffixes error = IsUnread bytes [] texts error
 
 -- an error that a crawl in this mode can end by: workers that take turns never lack a thread
-abbrev pub ComesOf : Mode → Fault → Type 0
+abbrev pub ComesOf : Mode → CommandError → Type 0
 ComesOf mode (wrong.Crawl failure) = ComesIn mode failure.error
 ComesOf mode _ = Unit {0}
 
@@ -131,8 +131,8 @@ pub record IsCrawlReport (bytes : List ℕ) (texts suffixes : List (List ℕ)) (
 -- ---- what is printed of a crawl
 
 -- the URLs of the pages of a saved web with these lines, if the report lists those that no result has
-abbrev pub asked_pages : Sections → List (List ℕ) → List (List ℕ)
-asked_pages sections lines = if sections.unreached then page_urls lines else []
+abbrev pub pages_to_list : Sections → List (List ℕ) → List (List ℕ)
+pages_to_list sections lines = if sections.unreached then page_urls lines else []
 
 -- of these URLs, those that no result has, of hosts that the filter with these suffixes allows, in ascending order
 pub record AreUnreached (known suffixes : List (List ℕ)) (pages : List PageResult) (urls : List (List ℕ)) : Type 0 where
@@ -156,17 +156,17 @@ pub record IsCrawlText (workers : ℕ) (plan : CrawlPlan) (bytes listed : List �
   pub crawl : IsSiteCrawl bytes listed texts suffixes pages
   pub counts : List ℕ
   pub counted : AreCounts workers (result_urls pages) counts
-  pub told : IsTextOf plan (asked_pages plan.options.sections (lines bytes)) suffixes pages counts text
+  pub output : IsTextOf plan (pages_to_list plan.options.sections (lines bytes)) suffixes pages counts text
 
 -- ---- the text of a crawl that asks for no more than the lines of queues and of sources
 
 -- the text is that of such a crawl
-pub record IsPlainText (workers : ℕ) (with_queues with_sources : Bool) (bytes listed : List ℕ) (texts suffixes : List (List ℕ)) (text : List ℕ) : Type 0 where
+pub record IsBasicText (workers : ℕ) (with_queues with_sources : Bool) (bytes listed : List ℕ) (texts suffixes : List (List ℕ)) (text : List ℕ) : Type 0 where
   pub pages : List PageResult
   pub crawl : IsSiteCrawl bytes listed texts suffixes pages
   pub counts : List ℕ
   pub counted : AreCounts workers (result_urls pages) counts
-  pub written : text ≡ told_text with_queues with_sources pages counts
+  pub written : text ≡ listed_text with_queues with_sources pages counts
 
 -- no more is requested
 pub record IsPlain (with_sources : Bool) (plan : CrawlPlan) : Type 0 where

@@ -4,47 +4,49 @@ ghost use Rattle.crawl_limits.specs.Limits.{worker_limit};
 ghost use Rattle.std.specs.Io.KnownBytes.{Appends};
 ghost use Rattle.mercator.specs.Checks.{ChecksFolder, is_check, is_help_text};
 ghost use Rattle.mercator.specs.Ending.{Begins};
-ghost use Rattle.mercator.specs.FaultText.{fault_line};
-ghost use Rattle.mercator.specs.Faults.{status_of_fault};
+ghost use Rattle.mercator.specs.ErrorText.{error_line};
+ghost use Rattle.mercator.specs.Errors.{status_of_error};
 ghost use Rattle.crawl_replay.specs.Replay.{IsReplay};
 ghost use Rattle.mercator.specs.Plans.{IsShown, IsWithinLimits, has_notices, is_input, known_bytes, reads_input};
-ghost use Rattle.mercator.specs.Told.{CannotTell, EndsBy, EndsByFault, FailsReplay, FailsWithoutPlan, Gains, GainsAs, GainsBroken, HasLog, IsDoneWithNote, MayLose, MayNote, OfFile, TellsInUse, TellsWords};
+ghost use Rattle.mercator.specs.Outputs.{HasNoOutput, EndsBy, EndsByError, FailsReplay, FailsWithoutPlan, Gains, GainsAs, GainsBroken, HasLog, IsDoneWithNote, MayLose, MayNote, OfFile, ReportsInUse, ReportsArguments};
 ghost use Rattle.mercator.specs.declared.commands.planned.Plan.{Plan};
 ghost use Rattle.mercator.specs.declared.commands.planned.Plan.TheVariants as asks;
 ghost use Rattle.mercator.specs.declared.commands.plan_error.PlanError.{PlanError};
-ghost use Rattle.mercator.specs.declared.commands.fault.Fault.TheVariants as wrong;
+ghost use Rattle.mercator.specs.declared.commands.error.CommandError.TheVariants as wrong;
 
 mod agreement;
 mod arguments;
-mod check_words;
+mod check_arguments;
 mod command_line;
 mod config;
 mod crawl_text;
-mod fault;
-mod fault_text;
+mod error;
+mod error_text;
 mod fix;
 mod folder;
-mod folder_words;
+mod folder_arguments;
 mod input;
 mod option_values;
 mod plan_error;
+mod plan_parser;
 mod planned;
 mod platform;
-mod report_words;
+mod report_arguments;
 mod sessions;
 mod source;
 mod web_crawl;
 mod web_report;
-mod words;
 mod writing;
 
 use crate::key::key_line;
 use crawl_replay::replay_text;
 use crawl_run::Observe;
-pub use fault::Fault;
+pub use error::CommandError;
 use folder::{run_check, run_site};
 pub use input::{InputLimits, Unread, read_input};
 pub use plan_error::PlanError;
+pub use plan_parser::plan;
+use plan_parser::plan_with_config;
 use planned::CrawlPlan;
 pub use planned::Plan;
 pub use platform::Platform;
@@ -58,10 +60,8 @@ use std::sync::Wait;
 use std::thread::Threads;
 use web_crawl::print_crawl;
 pub use web_report::{Report, report_of_saved_web};
-pub use words::plan;
-use words::plan_with_config;
-pub use writing::fault_line;
-use writing::{begin, end, tell_ended, tell_fault};
+pub use writing::error_line;
+use writing::{begin, end, report_ending, report_error};
 
 /// The exit status of a check that found something broken, or reports a document that no sitemap lists.
 const BROKEN: u8 = 4;
@@ -95,7 +95,7 @@ pub fn run_words<
 >(
     platform: &Platform<'_, R, L, V>,
     alloc: Global,
-    words: &[String],
+    arguments: &[String],
     input: &mut I,
     out: &mut O,
     err: &mut E,
@@ -114,23 +114,23 @@ pub fn run_words<
         ⊎ ((plan : Plan) × IsWithinLimits plan × IsDoneWithNote plan (I.remaining input.old) (O.contents out.old) (O.contents out.new) (E.contents err.old) (E.contents err.new)) }
 
     // An error: help cannot be written, there is no memory for the plan, or the plan's command ends with this error.
-    ensures fault { result ≡ 1 → ((input.new ≡ input.old) × FailsWithoutPlan (E.contents err.old) (E.contents err.new) (out.new ≡ out.old))
-        ⊎ ((plan : Plan) × IsWithinLimits plan × EndsByFault plan result (I.remaining input.old) (E.contents err.old) (E.contents err.new) (out.new ≡ out.old)) }
+    ensures error { result ≡ 1 → ((input.new ≡ input.old) × FailsWithoutPlan (E.contents err.old) (E.contents err.new) (out.new ≡ out.old))
+        ⊎ ((plan : Plan) × IsWithinLimits plan × EndsByError plan result (I.remaining input.old) (E.contents err.old) (E.contents err.new) (out.new ≡ out.old)) }
 
     // Only a crawl can be incomplete, and then nothing is written to `out`.
-    ensures incomplete { result ≡ 2 → (out.new ≡ out.old) × ((plan : Plan) × IsWithinLimits plan × EndsByFault plan result (I.remaining input.old) (E.contents err.old) (E.contents err.new) (out.new ≡ out.old)) }
+    ensures incomplete { result ≡ 2 → (out.new ≡ out.old) × ((plan : Plan) × IsWithinLimits plan × EndsByError plan result (I.remaining input.old) (E.contents err.old) (E.contents err.new) (out.new ≡ out.old)) }
 
     // A log that another program uses: that is reported, and nothing else happens.
-    ensures in_use { result ≡ 5 → (input.new ≡ input.old) × (out.new ≡ out.old) × ((plan : Plan) × IsWithinLimits plan × TellsInUse plan (E.contents err.old) (E.contents err.new)) }
+    ensures in_use { result ≡ 5 → (input.new ≡ input.old) × (out.new ≡ out.old) × ((plan : Plan) × IsWithinLimits plan × ReportsInUse plan (E.contents err.old) (E.contents err.new)) }
 
     // A bad command line: the error is reported, and nothing else happens.
     ensures bad_command { result ≡ 3 → (input.new ≡ input.old) × (out.new ≡ out.old) }
-    ensures bad_words { result ≡ 3 → (error : PlanError) × TellsWords error (E.contents err.old) (E.contents err.new) }
+    ensures bad_arguments { result ≡ 3 → (error : PlanError) × ReportsArguments error (E.contents err.old) (E.contents err.new) }
 
     // A check: the status says what was written. With 0 and 4 it is the report, with any other its error.
-    ensures check { is_check words.now ≡ true → ChecksFolder words.now result (I.remaining input.old) (O.contents out.old) (O.contents out.new) (E.contents err.old) (E.contents err.new) (out.new ≡ out.old) }
+    ensures check { is_check arguments.now ≡ true → ChecksFolder arguments.now result (I.remaining input.old) (O.contents out.old) (O.contents out.new) (E.contents err.old) (E.contents err.new) (out.new ≡ out.old) }
 {
-    match plan_with_config(platform.rt, alloc, words, platform.has_colour) {
+    match plan_with_config(platform.rt, alloc, arguments, platform.has_colour) {
         Ok(plan) => run_plan(platform, alloc, &plan, input, out, err),
         Err(error) => show(alloc, error, out, err),
     }
@@ -173,24 +173,24 @@ pub fn run_plan<
     ensures noted { result ≡ 0 → MayNote plan.now (E.contents err.old) (E.contents err.new) }
 
     // Otherwise it ends with an error, which is reported in its line: the first one, and one by which this plan fails.
-    ensures fault { 0 < result → (result ≡ 4 → ⊥) → EndsByFault plan.now result (I.remaining input.old) (E.contents err.old) (E.contents err.new) (out.new ≡ out.old) }
+    ensures error { 0 < result → (result ≡ 4 → ⊥) → EndsByError plan.now result (I.remaining input.old) (E.contents err.old) (E.contents err.new) (out.new ≡ out.old) }
 
     // A command that cannot have an output ends with an error, and nothing is written.
-    ensures refused { CannotTell plan.now (I.remaining input.old) → (result ≡ 1) × (out.new ≡ out.old) }
+    ensures refused { HasNoOutput plan.now (I.remaining input.old) → (result ≡ 1) × (out.new ≡ out.old) }
 
     // Only a crawl can be incomplete, and then nothing is written.
     ensures incomplete { result ≡ 2 → MayLose plan.now (I.remaining input.old) }
     ensures unreported { result ≡ 2 → out.new ≡ out.old }
 
     // Another program uses the log: nothing is read or written but the line that reports it.
-    ensures in_use { result ≡ 5 → TellsInUse plan.now (E.contents err.old) (E.contents err.new) × (input.new ≡ input.old) × (out.new ≡ out.old) }
+    ensures in_use { result ≡ 5 → ReportsInUse plan.now (E.contents err.old) (E.contents err.new) × (input.new ≡ input.old) × (out.new ≡ out.old) }
     ensures unread { reads_input plan.now ≡ false → input.new ≡ input.old }
 {
     match run(platform, alloc, plan, input, out, err) {
         Ok(is_broken) => verdict(is_broken),
-        Err(fault) => {
-            tell_ended(alloc, err, plan, &fault);
-            fault.status()
+        Err(error) => {
+            report_ending(alloc, err, plan, &error);
+            error.status()
         }
     }
 }
@@ -217,11 +217,11 @@ fn run<
     input: &mut I,
     out: &mut O,
     err: &mut E,
-) -> Result<bool, Fault>
+) -> Result<bool, CommandError>
     requires { IsWithinLimits plan.now }
     ensures done { IfOk result (λ broken. GainsAs broken plan.now (I.remaining input.old) (O.contents out.old) (O.contents out.new)) }
-    ensures fault { IfErr result (λ fault. EndsBy plan.now (I.remaining input.old) fault (out.new ≡ out.old)) }
-    ensures in_use { HasLog plan.now → IfErr result (λ fault. status_of_fault fault ≡ 5 → (input.new ≡ input.old) × (err.new ≡ err.old)) }
+    ensures error { IfErr result (λ error. EndsBy plan.now (I.remaining input.old) error (out.new ≡ out.old)) }
+    ensures in_use { HasLog plan.now → IfErr result (λ error. status_of_error error ≡ 5 → (input.new ≡ input.old) × (err.new ≡ err.old)) }
     ensures unread { reads_input plan.now ≡ false → input.new ≡ input.old }
     ensures silent { has_notices plan.now ≡ false → err.new ≡ err.old }
     ensures noted { MayNote plan.now (E.contents err.old) (E.contents err.new) }
@@ -261,31 +261,36 @@ fn run<
             run_site(platform.rt, alloc, options, out, err)?;
             Ok(false)
         }
-        Plan::Serve(asked) => {
-            serve_plan(alloc, asked, input, out)?;
+        Plan::Serve(given) => {
+            serve_plan(alloc, given, input, out)?;
             Ok(false)
         }
-        Plan::ServeLog(asked) => {
-            serve_log(platform, alloc, asked, input, out, err)?;
+        Plan::ServeLog(given) => {
+            serve_log(platform, alloc, given, input, out, err)?;
             Ok(false)
         }
         Plan::List(list) => {
             list_log(platform.rt, alloc, list, out)?;
             Ok(false)
         }
-        Plan::Compact(asked) => {
-            compact_log(platform, alloc, asked, err)?;
+        Plan::Compact(given) => {
+            compact_log(platform, alloc, given, err)?;
             Ok(false)
         }
     }
 }
 
 /// Prints the key line of a URL.
-fn print_key<O: Write>(alloc: Global, url: &String, workers: u32, out: &mut O) -> Result<(), Fault>
+fn print_key<O: Write>(
+    alloc: Global,
+    url: &String,
+    workers: u32,
+    out: &mut O,
+) -> Result<(), CommandError>
     requires some { 1 ≤ workers }
     requires few { workers ≤ worker_limit }
     ensures done { (input : Option (List ℕ)) → IfOk result (λ _. Gains (asks.Key url.now workers) input (O.contents out.old) (O.contents out.new)) }
-    ensures fault { (input : Option (List ℕ)) → IfErr result (λ fault. EndsBy (asks.Key url.now workers) input fault (out.new ≡ out.old)) }
+    ensures error { (input : Option (List ℕ)) → IfErr result (λ error. EndsBy (asks.Key url.now workers) input error (out.new ≡ out.old)) }
 {
     let line = key_line(alloc, url, workers)?;
     end(out, &line)
@@ -298,9 +303,9 @@ fn print_replies<R: Files, I: Read, O: Write>(
     file: &String,
     input: &mut I,
     out: &mut O,
-) -> Result<(), Fault>
+) -> Result<(), CommandError>
     ensures done { IfOk result (λ _. Gains (asks.Replay file.now) (I.remaining input.old) (O.contents out.old) (O.contents out.new)) }
-    ensures fault { IfErr result (λ fault. EndsBy (asks.Replay file.now) (I.remaining input.old) fault (out.new ≡ out.old)) }
+    ensures error { IfErr result (λ error. EndsBy (asks.Replay file.now) (I.remaining input.old) error (out.new ≡ out.old)) }
     ensures unread { is_input (string_bytes file.now) ≡ false → input.new ≡ input.old }
 {
     let text = replies(rt, alloc, file, input)?;
@@ -313,9 +318,9 @@ fn replies<R: Files, I: Read>(
     alloc: Global,
     file: &str,
     input: &mut I,
-) -> Result<Vec<u8>, Fault>
+) -> Result<Vec<u8>, CommandError>
     ensures text { IfOk result (λ text. OfFile (known_bytes file.now (I.remaining input.old)) (λ bytes. IsReplay bytes text.items)) }
-    ensures fault { IfErr result (FailsReplay file.now (I.remaining input.old)) }
+    ensures error { IfErr result (FailsReplay file.now (I.remaining input.old)) }
     ensures unread { is_input file.now ≡ false → input.new ≡ input.old }
 {
     let bytes = read_file(rt, alloc, file, input)?;
@@ -329,9 +334,9 @@ fn show<O: Write, E: Write>(alloc: Global, error: PlanError, out: &mut O, err: &
     ensures helps { result ≡ 0 → is_help_text error ≡ true }
     ensures shown { result ≡ 0 → (text : List ℕ) × Appends (O.contents out.old) (O.contents out.new) text }
     ensures silent { result ≡ 0 → err.new ≡ err.old }
-    ensures fault { result ≡ 1 → FailsWithoutPlan (E.contents err.old) (E.contents err.new) (out.new ≡ out.old) }
+    ensures error { result ≡ 1 → FailsWithoutPlan (E.contents err.old) (E.contents err.new) (out.new ≡ out.old) }
     ensures bad_command { result ≡ 3 → out.new ≡ out.old }
-    ensures bad_words { result ≡ 3 → TellsWords error (E.contents err.old) (E.contents err.new) }
+    ensures bad_arguments { result ≡ 3 → ReportsArguments error (E.contents err.old) (E.contents err.new) }
 {
     match error {
         PlanError::Shown { text, status: 0 } => show_help(alloc, text, out, err),
@@ -339,7 +344,7 @@ fn show<O: Write, E: Write>(alloc: Global, error: PlanError, out: &mut O, err: &
             begin(err, text.as_bytes());
             status
         }
-        PlanError::NoMemory => fail(alloc, &Fault::NoMemory, err),
+        PlanError::NoMemory => fail(alloc, &CommandError::NoMemory, err),
     }
 }
 
@@ -348,19 +353,19 @@ fn show_help<O: Write, E: Write>(alloc: Global, text: String, out: &mut O, err: 
     ensures statuses { result ≤ 1 }
     ensures shown { result ≡ 0 → Appends (O.contents out.old) (O.contents out.new) (string_bytes text) }
     ensures silent { result ≡ 0 → err.new ≡ err.old }
-    ensures fault { result ≡ 1 → Begins (E.contents err.old) (E.contents err.new) (fault_line [] wrong.CannotWrite) }
+    ensures error { result ≡ 1 → Begins (E.contents err.old) (E.contents err.new) (error_line [] wrong.CannotWrite) }
 {
     match end(out, text.as_bytes()) {
         Ok(()) => 0,
-        Err(fault) => fail(alloc, &fault, err),
+        Err(error) => fail(alloc, &error, err),
     }
 }
 
 /// Reports an error without a plan.
-fn fail<E: Write>(alloc: Global, fault: &Fault, err: &mut E) -> u8
-    ensures status { result ≡ status_of_fault fault.now }
-    ensures told { Begins (E.contents err.old) (E.contents err.new) (fault_line [] fault.now) }
+fn fail<E: Write>(alloc: Global, error: &CommandError, err: &mut E) -> u8
+    ensures status { result ≡ status_of_error error.now }
+    ensures output { Begins (E.contents err.old) (E.contents err.new) (error_line [] error.now) }
 {
-    tell_fault(alloc, err, fault);
-    fault.status()
+    report_error(alloc, err, error);
+    error.status()
 }

@@ -2,8 +2,8 @@
 //! does nothing when it is called.
 ghost use Rattle.std.specs.Prelude.{◌≡◌, ℕ, List, Some, Bool};
 ghost use Rattle.crawl_pages.specs.declared.page.PageResult.{PageResult};
-ghost use Rattle.mercator.specs.Told.{AskForOneText, Gains};
-ghost use Rattle.mercator.specs.WebCrawl.{CrawlPlan, IsCrawlReport, IsCrawlText, IsPlain, IsPlainText, IsSiteCrawl};
+ghost use Rattle.mercator.specs.Outputs.{AskForOneText, Gains};
+ghost use Rattle.mercator.specs.WebCrawl.{CrawlPlan, IsCrawlReport, IsCrawlText, IsPlain, IsBasicText, IsSiteCrawl};
 ghost use Rattle.mercator.specs.declared.commands.planned.Plan.{Plan};
 
 // Laws of the crates below.
@@ -27,8 +27,8 @@ pub fn same_bytes_for_any_workers()
 
 /// If a crawl asks for no more than the lines of queues and of sources, its text is the report of its pages, followed by
 /// these lines.
-#[tactic(auto, using(crate::proofs::PlainTexts::plain_text))]
+#[tactic(auto, using(crate::proofs::BasicTexts::basic_text))]
 pub fn plain_crawls_tell_the_report()
     ensures { (workers : ℕ) (with_sources : Bool) (plan : CrawlPlan) (bytes listed : List ℕ) (seeds suffixes : List (List ℕ)) (text : List ℕ)
-        → IsPlain with_sources plan → IsCrawlText workers plan bytes listed seeds suffixes text → IsPlainText workers plan.queues with_sources bytes listed seeds suffixes text }
+        → IsPlain with_sources plan → IsCrawlText workers plan bytes listed seeds suffixes text → IsBasicText workers plan.queues with_sources bytes listed seeds suffixes text }
 {}

@@ -15,7 +15,7 @@ pub mod laws;
 
 /// Parts of the commands that only tests call.
 pub mod testing {
-    pub use crate::commands::{InputLimits, Unread, fault_line, read_input};
+    pub use crate::commands::{InputLimits, Unread, error_line, read_input};
 }
 
 /// Runs of the workers of a frontier.
@@ -24,7 +24,7 @@ pub mod workers {
 }
 
 pub use commands::{
-    Fault, Plan, PlanError, Platform, Report, plan, report_of_saved_web, run_plan, run_words,
+    CommandError, Plan, PlanError, Platform, Report, plan, report_of_saved_web, run_plan, run_words,
 };
 pub use crawl_certificate::{CertError, CrawlResult, certify};
 pub use crawl_replay::{Script, ScriptError, read_script, replay_text};

@@ -3,7 +3,7 @@
 
 mod progress;
 
-use mercator::{Fault, PlanError, Platform, run_words};
+use mercator::{CommandError, PlanError, Platform, run_words};
 use progress::Progress;
 use std::env::VarError;
 use std::fs::{self, Files};
@@ -15,15 +15,15 @@ use std::{env, io};
 /// Runs the command line that this process was started with, and exits with its status.
 fn main(rt: HostRuntime) -> ExitCode {
     let _placeholders = (placeholder(&rt), placeholder(&rt), placeholder(&rt));
-    let words = match words(&rt) {
-        Ok(words) => words,
-        Err(error) => return ExitCode::from(without_words(&mut rt.stderr(), &error)),
+    let arguments = match arguments(&rt) {
+        Ok(arguments) => arguments,
+        Err(error) => return ExitCode::from(without_arguments(&mut rt.stderr(), &error)),
     };
     let progress = Progress::new(&rt);
     ExitCode::from(run_words(
         &platform_of(&rt, &progress),
         rt.alloc(),
-        &words,
+        &arguments,
         &mut rt.reader(),
         &mut io::writer(&rt),
         &mut rt.stderr(),
@@ -61,14 +61,14 @@ fn has_colour(rt: &(impl Env + AllocGlobal), is_terminal: bool) -> bool {
 }
 
 /// Returns the arguments after the program's name.
-fn words(rt: &(impl Env + AllocGlobal)) -> io::Result<Vec<String>> {
+fn arguments(rt: &(impl Env + AllocGlobal)) -> io::Result<Vec<String>> {
     Ok(env::args(rt)?.skip(1).collect(rt.alloc())?)
 }
 
 /// Reports that the arguments cannot be read, because memory ran out or one is not UTF-8, and returns the exit status.
-fn without_words<E: Write>(err: &mut E, error: &io::Error) -> u8 {
+fn without_arguments<E: Write>(err: &mut E, error: &io::Error) -> u8 {
     let (line, status) = if error.kind() == ErrorKind::OutOfMemory {
-        ("mercator: out of memory\n", Fault::NoMemory.status())
+        ("mercator: out of memory\n", CommandError::NoMemory.status())
     } else {
         (
             "error: the command line is not UTF-8\n",

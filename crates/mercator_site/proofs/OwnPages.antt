@@ -13,9 +13,9 @@ between (x ∷ p) (y ∷ a) (z ∷ b) [] up more first last = grind (arith, nat_
 between (x ∷ p) (y ∷ a) (z ∷ b) (w ∷ c) up more first last = grind (arith, nat_tests, between p a b c)
 
 -- after one that begins so, and one that does not, none does
-none_behind : (p o h : List ℕ) (rs : List PageResult) → begins p o ≡ true → begins p h ≡ false → slice_cmp nat_cmp o h ≡ Less → AllByRecursion (λ url. slice_cmp nat_cmp h url ≡ Less) (result_urls rs) → own_of p rs ≡ []
-none_behind p o h [] own other up all = refl
-none_behind p o h (r ∷ rs) own other up all = grind (arith, between p o h r.url up all.0 own, none_behind p o h rs own other up all.1, other)
+none_after : (p o h : List ℕ) (rs : List PageResult) → begins p o ≡ true → begins p h ≡ false → slice_cmp nat_cmp o h ≡ Less → AllByRecursion (λ url. slice_cmp nat_cmp h url ≡ Less) (result_urls rs) → own_of p rs ≡ []
+none_after p o h [] own other up all = refl
+none_after p o h (r ∷ rs) own other up all = grind (arith, between p o h r.url up all.0 own, none_after p o h rs own other up all.1, other)
 
 -- each is less than all after it
 Rises : List (List ℕ) → Type 0
@@ -34,16 +34,16 @@ rises_of (url ∷ urls) pairs = (
 together : (p o : List ℕ) (rs : List PageResult) → begins p o ≡ true → AllByRecursion (λ url. slice_cmp nat_cmp o url ≡ Less) (result_urls rs) → Rises (result_urls rs) → while_own p rs ≡ own_of p rs
 unfolding Rises
 together p o [] own all rises = refl
-together p o (r ∷ rs) own all rises = grind (arith, common_steps, none_behind, together p r.url rs)
+together p o (r ∷ rs) own all rises = grind (arith, common_steps, none_after, together p r.url rs)
 
-stands : (p : List ℕ) (rs : List PageResult) → Rises (result_urls rs) → while_own p (from_own p rs) ≡ own_of p rs
+holds : (p : List ℕ) (rs : List PageResult) → Rises (result_urls rs) → while_own p (from_own p rs) ≡ own_of p rs
 unfolding Rises
-stands p [] rises = refl
-stands p (r ∷ rs) rises = grind (arith, common_steps, together, stands p rs rises.1)
+holds p [] rises = refl
+holds p (r ∷ rs) rises = grind (arith, common_steps, together, holds p rs rises.1)
 
 -- if results ascend, those below a top are those from the first to the first that is none
-pub own_stand_together : (p : List ℕ) (rs : List PageResult) → IsAscending (result_urls rs) → while_own p (from_own p rs) ≡ own_of p rs
-own_stand_together p rs pairs = stands p rs (rises_of (result_urls rs) pairs)
+pub own_are_together : (p : List ℕ) (rs : List PageResult) → IsAscending (result_urls rs) → while_own p (from_own p rs) ≡ own_of p rs
+own_are_together p rs pairs = holds p rs (rises_of (result_urls rs) pairs)
 
 -- a URL below a top may be added to such URLs
 pub own_with : (top : List ℕ) (urls : List (List ℕ)) (url : List ℕ) → AreOwn top urls → begins top url ≡ true → AreOwn top (urls ++ url ∷ [])

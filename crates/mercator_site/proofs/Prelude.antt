@@ -9,7 +9,7 @@ pub use Rattle.crawl_sources.specs.Tallies.{pointed}
 pub use Rattle.mercator_site.specs.Asks.{Asks, asks_in, asks_of, asks_with, seeds_of}
 pub use Rattle.mercator_site.specs.Checks.{AreAliasesIn, AreOthersListed, AreResults, IsCheck, IsFindings, IsSiteCheck, IsSiteCheckAt, IsTopCrawl}
 pub use Rattle.mercator_site.specs.External.{AreExternal, host_root, outside, outside_links, row_of, runs, runs_from}
-pub use Rattle.mercator_site.specs.Faults.{IsIncompleteAt, IsTopIncomplete, IsUnfinished, is_unfinished, of_crawl, of_crawl_by}
+pub use Rattle.mercator_site.specs.Errors.{IsIncompleteAt, IsTopIncomplete, IsUnfinished, is_unfinished, of_crawl, of_crawl_by}
 pub use Rattle.mercator_site.specs.Own.{AreOwn, from_own, own_of, while_own}
 pub use Rattle.mercator_site.specs.Seeds.{seed_link}
 pub use Rattle.mercator_site.specs.Starts.{AreStarts, is_left_out, starts}

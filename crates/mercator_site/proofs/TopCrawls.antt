@@ -13,7 +13,7 @@ use Rattle.crawl_run.specs.declared.error.CrawlError.TheVariants as crawl
 use Rattle.mercator_site.specs.Checks.{AreReached, reached_by}
 use Rattle.mercator_site.specs.Sources.{IsSourceOf}
 use Rattle.mercator_site.specs.Starts.{documents_in}
-use Rattle.mercator_site.specs.declared.fault.SiteFault.{SiteFault}
+use Rattle.mercator_site.specs.declared.error.FolderError.{FolderError}
 use Rattle.saved_site.specs.Aliases.{AreAliases}
 use Rattle.saved_site.specs.AllPages.{HasAllPages, IsWebOf}
 use Rattle.saved_site.specs.Served.{AreServed, IsServedPage}
@@ -43,7 +43,7 @@ pub starts_in : (meaning : List ℕ → Page) (web : List ℕ) (top : List ℕ) 
 starts_in meaning web top reachable links begun source resolved own = grind (arith, common_steps)
 
 -- what is crawled from the starts and from documents
-pub top_crawl : (answer : Result Crawled SiteFault) (meaning : List ℕ → Page) (top web : List ℕ) (reachable : Bool) (links begun documents seeds : List (List ℕ)) → IsSourceOf meaning web
+pub top_crawl : (answer : Result Crawled FolderError) (meaning : List ℕ → Page) (top web : List ℕ) (reachable : Bool) (links begun documents seeds : List (List ℕ)) → IsSourceOf meaning web
     → AreStarts top web reachable links begun → seeds ≡ begun ++ documents → IfOk answer (λ found. IsCrawl meaning (allows (host_key top ∷ [])) seeds found.result) → IfOk answer (λ found. IsTopCrawl top web reachable links documents found.result)
 top_crawl (Ok found) meaning top web reachable links begun documents seeds source started are is = record {
   begun = begun;
@@ -53,13 +53,13 @@ top_crawl (Ok found) meaning top web reachable links begun documents seeds sourc
       crawl_of_same meaning (page_of (lines web)) (allows (host_key top ∷ [])) (begun ++ documents) found.result source.same
       (subst (λ us. IsCrawl meaning (allows (host_key top ∷ [])) us found.result) are is);
 }
-top_crawl (Err fault) meaning top web reachable links begun documents seeds source started are is = tt
+top_crawl (Err error) meaning top web reachable links begun documents seeds source started are is = tt
 
 -- such a crawl that is incomplete
-pub top_incomplete : (answer : Result Crawled SiteFault) (meaning : List ℕ → Page) (top web : List ℕ) (reachable : Bool) (links begun : List (List ℕ)) (workers : ℕ) → IsSourceOf meaning web → AreStarts top web reachable links begun
-    → IfErr answer (λ fault. is_unfinished fault ≡ true → IsUnfinished workers) → IfErr answer (λ fault. is_unfinished fault ≡ true → IsTopIncomplete top web reachable links workers)
+pub top_incomplete : (answer : Result Crawled FolderError) (meaning : List ℕ → Page) (top web : List ℕ) (reachable : Bool) (links begun : List (List ℕ)) (workers : ℕ) → IsSourceOf meaning web → AreStarts top web reachable links begun
+    → IfErr answer (λ error. is_unfinished error ≡ true → IsUnfinished workers) → IfErr answer (λ error. is_unfinished error ≡ true → IsTopIncomplete top web reachable links workers)
 top_incomplete (Ok found) meaning top web reachable links begun workers source started is = tt
-top_incomplete (Err fault) meaning top web reachable links begun workers source started is = λ two. record { begun = begun; started = started; sound = source.sound; unfinished = is two }
+top_incomplete (Err error) meaning top web reachable links begun workers source started is = λ two. record { begun = begun; started = started; sound = source.sound; unfinished = is two }
 
 -- what the search of two crawls finds, or of one, which has no other starts then
 pub reached_of : (reached : Option Crawled) (whole : List PageResult) (listed reachable : Bool) (site : SiteFiles) (top web : List ℕ) (links : List (List ℕ)) → is_some reached ≡ (not reachable && listed)

@@ -11,7 +11,7 @@ use Rattle.crawl_keys.specs.HostKey.{host_key}
 use Rattle.crawl_certificate.specs.Certificate.{IsCrawl}
 use Rattle.document_links.specs.declared.positions.LinkPlaces.{LinkPlaces}
 use Rattle.saved_pages.specs.SavedWeb.{page_of}
-use Rattle.saved_pages.specs.WebFaults.{IsSound}
+use Rattle.saved_pages.specs.WebErrors.{IsSound}
 use Rattle.crawl_pages.specs.declared.page.PageResult.{PageResult}
 use Rattle.crawl_run.specs.declared.crawled.Crawled.{Crawled}
 use Rattle.mercator_site.specs.Asks.{Asks}
@@ -41,7 +41,7 @@ use Rattle.site_check.specs.Invalid.{texts_if}
 use Rattle.site_check.specs.LinkBase.{base_hint_of}
 use Rattle.site_check.specs.Locations.{IsLocated}
 use Rattle.site_check.specs.Reported.{AreReported}
-use Rattle.site_check.specs.Told.{way_of}
+use Rattle.site_check.specs.RowMeanings.{way_of}
 use Rattle.site_check.specs.Totals.{totals_of}
 use Rattle.site_check.specs.Unreached.{unreached_of}
 use Rattle.site_check.specs.Worst.{file_links, worst_of}

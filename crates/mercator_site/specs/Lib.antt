@@ -2,7 +2,7 @@ pub mod Asks
 pub mod Checks
 pub mod Ends
 pub mod External
-pub mod Faults
+pub mod Errors
 pub mod IndexUrls
 pub mod Inputs
 pub mod Maps

@@ -2,7 +2,7 @@
 use Rattle.std.specs.Prelude.{◌≡◌, ℕ, List}
 use Rattle.std.specs.Str.Lines.{lines}
 use Rattle.saved_pages.specs.SavedWeb.{page_of}
-use Rattle.saved_pages.specs.WebFaults.{IsSound}
+use Rattle.saved_pages.specs.WebErrors.{IsSound}
 use Rattle.crawl_pages.specs.declared.page.Page.{Page}
 
 -- the bytes are a saved web, which has this page at each URL

@@ -5,16 +5,16 @@ ghost use Rattle.crawl_certificate.specs.Certificate.{IsAscending, result_urls};
 ghost use Rattle.mercator_site.specs.Asks.{asks_in};
 ghost use Rattle.mercator_site.specs.Checks.{AreOthersListed, AreResults, IsCheck, IsFindings, IsReport, IsSiteCheck, IsSiteCheckAt, reached_in};
 ghost use Rattle.mercator_site.specs.External.{host_root, row_of};
-ghost use Rattle.mercator_site.specs.Faults.{IsIncompleteAt, IsTopIncomplete, is_unfinished};
+ghost use Rattle.mercator_site.specs.Errors.{IsIncompleteAt, IsTopIncomplete, is_unfinished};
 ghost use Rattle.mercator_site.specs.Inputs.{input_in, input_with};
 ghost use Rattle.mercator_site.specs.Own.{own_of};
 ghost use Rattle.mercator_site.specs.Sources.{IsSourceOf};
 ghost use Rattle.saved_site.specs.Linked.{page_at};
 
 use crate::crawl::{SiteCrawls, crawl_site};
+use crate::error::FolderError;
 use crate::external::external_links;
 use crate::false_miss::has_false_miss;
-use crate::fault::SiteFault;
 use crate::mapped::{names_of, unmapped};
 use crate::notes::push_page_notes;
 use crate::own::own_results;
@@ -71,7 +71,7 @@ pub fn report_of_files<R: Threads + Wait + Sync>(
     base: &str,
     rules: &Rules,
     settings: CheckSettings<'_>,
-) -> Result<CheckReport, SiteFault>
+) -> Result<CheckReport, FolderError>
     ensures { IfOk result (λ report. IsSiteCheckAt files.entry.names.now files.entry.bodies.now rules.now settings.entry.name.now base.now (asks_in settings.entry) report.is_broken report.text.items) }
 {
     let input = SiteNames {
@@ -100,15 +100,15 @@ pub(crate) fn report_of_site<R: Threads + Wait + Sync, B: FileBytes + Sync>(
     bytes: &B,
     settings: CheckSettings<'_>,
     notes: &mut Vec<Note>,
-) -> Result<CheckReport, SiteFault>
+) -> Result<CheckReport, FolderError>
     requires { files.now.site.top_url ≡ string_bytes files.now.site.top }
     ensures checked { IfOk result (λ report. IsSiteCheck files.now (B.reads bytes.now) settings.entry.name.now (asks_in settings.entry) report.is_broken report.text.items) }
-    ensures incomplete { IfErr result (λ fault. is_unfinished fault ≡ true → IsIncompleteAt (string_bytes files.now.site.top) settings.entry.reachable (map string_bytes settings.entry.seeds.now) settings.entry.workers) }
+    ensures incomplete { IfErr result (λ error. is_unfinished error ≡ true → IsIncompleteAt (string_bytes files.now.site.top) settings.entry.reachable (map string_bytes settings.entry.seeds.now) settings.entry.workers) }
 {
     check_starts(alloc, files, settings.seeds, settings.reachable)?;
     let site = site_pages(rt, alloc, files, settings.seeds, bytes)?;
     if !has_all_pages(files, &site.pages) {
-        return Err(SiteFault::PagesLost);
+        return Err(FolderError::PagesLost);
     }
     push_page_notes(alloc, notes, settings.front, site.notes.as_slice())?;
     let report = report_of_pages(rt, alloc, &site, files, bytes, settings)?;
@@ -126,9 +126,9 @@ fn report_of_pages<R: Threads + Wait + Sync, B: FileBytes + Sync>(
     files: &SiteFiles<'_>,
     bytes: &B,
     settings: CheckSettings<'_>,
-) -> Result<CheckReport, SiteFault>
+) -> Result<CheckReport, FolderError>
     ensures checked { (web : List ℕ) → IsSourceOf (page_at site.now.pages) web → IfOk result (λ report. IsCheck files.now (B.reads bytes.now) settings.entry.name.now files.now.site.top_url web site.now.aliases.items (asks_in settings.entry) report.is_broken report.text.items) }
-    ensures incomplete { (web : List ℕ) → IsSourceOf (page_at site.now.pages) web → IfErr result (λ fault. is_unfinished fault ≡ true → IsTopIncomplete files.now.site.top_url web settings.entry.reachable (map string_bytes settings.entry.seeds.now) settings.entry.workers) }
+    ensures incomplete { (web : List ℕ) → IsSourceOf (page_at site.now.pages) web → IfErr result (λ error. is_unfinished error ≡ true → IsTopIncomplete files.now.site.top_url web settings.entry.reachable (map string_bytes settings.entry.seeds.now) settings.entry.workers) }
 {
     let top = files.top_url();
     let crawls = crawl_site(rt, alloc, &site.pages, files, top, settings)?;
@@ -167,13 +167,13 @@ fn report_of_crawled<R: Threads + Sync, B: FileBytes + Sync>(
     files: &SiteFiles<'_>,
     bytes: &B,
     settings: CheckSettings<'_>,
-) -> Result<CheckReport, SiteFault>
+) -> Result<CheckReport, FolderError>
     ensures findings { IfOk result (λ report. IsFindings settings.entry.name.now files.now (B.reads bytes.now) crawled.entry.own.now crawled.entry.pages.now (reached_in crawled.entry.crawls.now settings.entry.report.lists.unreached) crawled.entry.site.now.aliases.items (asks_in settings.entry) report.is_broken report.text.items) }
-    ensures plain { IfErr result (λ fault. is_unfinished fault ≡ false) }
+    ensures plain { IfErr result (λ error. is_unfinished error ≡ false) }
 {
     let is_wrong = has_false_miss(alloc, files, crawled.own)?;
     if is_wrong {
-        return Err(SiteFault::PagesLost);
+        return Err(FolderError::PagesLost);
     }
     let checked = checked_of(rt, alloc, crawled, files, bytes, settings)?;
     let others = others_listed(alloc, settings.report.external, files, crawled.own)?;

@@ -4,12 +4,12 @@ ghost use Rattle.crawl_certificate.specs.Certificate.{IsCrawl};
 ghost use Rattle.crawl_keys.specs.HostFilter.{allows};
 ghost use Rattle.crawl_keys.specs.HostKey.{host_key};
 ghost use Rattle.mercator_site.specs.Checks.{AreReached, IsTopCrawl, reached_in};
-ghost use Rattle.mercator_site.specs.Faults.{IsTopIncomplete, IsUnfinished, is_unfinished};
+ghost use Rattle.mercator_site.specs.Errors.{IsTopIncomplete, IsUnfinished, is_unfinished};
 ghost use Rattle.mercator_site.specs.Sources.{IsSourceOf};
 ghost use Rattle.mercator_site.specs.Starts.{documents_in};
 ghost use Rattle.saved_site.specs.Linked.{page_at};
 
-use crate::fault::SiteFault;
+use crate::error::FolderError;
 use crate::settings::CheckSettings;
 use crate::start::{push_documents, starts};
 use crawl_keys::{CanonUrl, Filter, FilterError};
@@ -40,10 +40,10 @@ pub(crate) fn crawl_site<R: Threads + Wait + Sync>(
     files: &SiteFiles<'_>,
     top: &CanonUrl,
     settings: CheckSettings<'_>,
-) -> Result<SiteCrawls, SiteFault>
+) -> Result<SiteCrawls, FolderError>
     ensures found { (web : List ℕ) → IsSourceOf (page_at pages.now) web → IfOk result (λ crawls. IsTopCrawl top.now web settings.entry.reachable (map string_bytes settings.entry.seeds.now) (documents_in settings.entry.reachable files.now top.now) crawls.whole.result) }
     ensures reached { (web : List ℕ) → IsSourceOf (page_at pages.now) web → IfOk result (λ crawls. AreReached settings.entry.report.lists.unreached top.now web settings.entry.reachable (map string_bytes settings.entry.seeds.now) (reached_in crawls settings.entry.report.lists.unreached)) }
-    ensures incomplete { (web : List ℕ) → IsSourceOf (page_at pages.now) web → IfErr result (λ fault. is_unfinished fault ≡ true → IsTopIncomplete top.now web settings.entry.reachable (map string_bytes settings.entry.seeds.now) settings.entry.workers) }
+    ensures incomplete { (web : List ℕ) → IsSourceOf (page_at pages.now) web → IfErr result (λ error. is_unfinished error ≡ true → IsTopIncomplete top.now web settings.entry.reachable (map string_bytes settings.entry.seeds.now) settings.entry.workers) }
 {
     let reached = crawl_reached(rt, alloc, pages, top, settings)?;
     let whole = crawl_whole(rt, alloc, pages, files, top, settings)?;
@@ -57,10 +57,10 @@ fn crawl_reached<R: Threads + Wait + Sync>(
     pages: &LinkedPages,
     top: &CanonUrl,
     settings: CheckSettings<'_>,
-) -> Result<Option<Crawled>, SiteFault>
+) -> Result<Option<Crawled>, FolderError>
     ensures listed { IfOk result (λ found. is_some found ≡ (not settings.entry.reachable && settings.entry.report.lists.unreached)) }
     ensures found { (web : List ℕ) → IsSourceOf (page_at pages.now) web → IfOk result (λ found. IfSome found (λ crawled. IsTopCrawl top.now web settings.entry.reachable (map string_bytes settings.entry.seeds.now) [] crawled.result)) }
-    ensures incomplete { (web : List ℕ) → IsSourceOf (page_at pages.now) web → IfErr result (λ fault. is_unfinished fault ≡ true → IsTopIncomplete top.now web settings.entry.reachable (map string_bytes settings.entry.seeds.now) settings.entry.workers) }
+    ensures incomplete { (web : List ℕ) → IsSourceOf (page_at pages.now) web → IfErr result (λ error. is_unfinished error ≡ true → IsTopIncomplete top.now web settings.entry.reachable (map string_bytes settings.entry.seeds.now) settings.entry.workers) }
 {
     if settings.reachable {
         return Ok(None);
@@ -81,9 +81,9 @@ fn crawl_whole<R: Threads + Wait + Sync>(
     files: &SiteFiles<'_>,
     top: &CanonUrl,
     settings: CheckSettings<'_>,
-) -> Result<Crawled, SiteFault>
+) -> Result<Crawled, FolderError>
     ensures found { (web : List ℕ) → IsSourceOf (page_at pages.now) web → IfOk result (λ found. IsTopCrawl top.now web settings.entry.reachable (map string_bytes settings.entry.seeds.now) (documents_in settings.entry.reachable files.now top.now) found.result) }
-    ensures incomplete { (web : List ℕ) → IsSourceOf (page_at pages.now) web → IfErr result (λ fault. is_unfinished fault ≡ true → IsTopIncomplete top.now web settings.entry.reachable (map string_bytes settings.entry.seeds.now) settings.entry.workers) }
+    ensures incomplete { (web : List ℕ) → IsSourceOf (page_at pages.now) web → IfErr result (λ error. is_unfinished error ≡ true → IsTopIncomplete top.now web settings.entry.reachable (map string_bytes settings.entry.seeds.now) settings.entry.workers) }
 {
     let mut seeds = starts(alloc, pages, top, settings.seeds, settings.reachable)?;
     push_documents(top, files, settings.reachable, &mut seeds)?;
@@ -99,9 +99,9 @@ fn crawl_source<F: SessionFetch + Sync, R: Threads + Wait + Sync>(
     top: &CanonUrl,
     seeds: &[CanonUrl],
     workers: u32,
-) -> Result<Crawled, SiteFault>
+) -> Result<Crawled, FolderError>
     ensures found { IfOk result (λ found. IsCrawl (F.meaning source.now) (allows (host_key top.now ∷ [])) seeds.now found.result) }
-    ensures incomplete { IfErr result (λ fault. is_unfinished fault ≡ true → IsUnfinished workers) }
+    ensures incomplete { IfErr result (λ error. is_unfinished error ≡ true → IsUnfinished workers) }
 {
     let filter = host_filter(alloc, top.host_key())?;
     let settings = CrawlSettings {
@@ -112,18 +112,18 @@ fn crawl_source<F: SessionFetch + Sync, R: Threads + Wait + Sync>(
     };
     match crawl_with(rt, alloc, source, &settings, seeds) {
         Ok(found) => Ok(found),
-        Err(failure) => Err(SiteFault::from(failure)),
+        Err(failure) => Err(FolderError::from(failure)),
     }
 }
 
 /// The filter for this host and its subdomains. Fails with `BadHost` if a filter does not accept the host.
-fn host_filter(alloc: Global, host: &str) -> Result<Filter, SiteFault>
+fn host_filter(alloc: Global, host: &str) -> Result<Filter, FolderError>
     ensures within { IfOk result (λ filter. filter ≡ host.now ∷ []) }
-    ensures plain { IfErr result (λ fault. is_unfinished fault ≡ false) }
+    ensures plain { IfErr result (λ error. is_unfinished error ≡ false) }
 {
     match Filter::new(alloc, &[host]) {
         Ok(filter) => Ok(filter),
-        Err(FilterError::BadSuffix(_)) => Err(SiteFault::BadHost),
-        Err(FilterError::NoMemory) => Err(SiteFault::NoMemory),
+        Err(FilterError::BadSuffix(_)) => Err(FolderError::BadHost),
+        Err(FilterError::NoMemory) => Err(FolderError::NoMemory),
     }
 }

@@ -2,7 +2,7 @@
 //! the same name.
 use crate::check::{CrawledSite, checked_of, crawled_site};
 use crate::crawl::crawl_site;
-use crate::fault::SiteFault;
+use crate::error::FolderError;
 use crate::folder::{
     FolderInput, FolderSettings, Names, files_of, folder_settings, names_of, settings_of,
 };
@@ -45,7 +45,7 @@ pub fn fixes_of_folder<R: Files<File: Send, Dir: Send> + Threads + Wait + Sync>(
     options: &CheckOptions,
     ignores: &[u8],
     notes: &mut Vec<Note>,
-) -> Result<Vec<FileFix>, SiteFault> {
+) -> Result<Vec<FileFix>, FolderError> {
     let made = folder_settings(alloc, options, ignores)?;
     let folder = options.site.folder.as_str();
     let names = names_of(rt, alloc, folder, &made.rules, None, notes)?;
@@ -60,7 +60,7 @@ fn fixes_of_names<R: Files<File: Send, Dir: Send> + Threads + Wait + Sync>(
     made: &FolderSettings,
     names: &Names,
     notes: &mut Vec<Note>,
-) -> Result<Vec<FileFix>, SiteFault> {
+) -> Result<Vec<FileFix>, FolderError> {
     let files = files_of(alloc, names, options.site.base.as_str(), &made.rules)?;
     // Links that lead out of the site are never rewritten, so the folders of maps are not read.
     let found = FolderInput {
@@ -83,7 +83,7 @@ fn fixes_of_site<R: Threads + Wait + Sync, B: FileBytes + Sync>(
     bytes: &B,
     settings: CheckSettings<'_>,
     notes: &mut Vec<Note>,
-) -> Result<Vec<FileFix>, SiteFault> {
+) -> Result<Vec<FileFix>, FolderError> {
     check_starts(alloc, files, settings.seeds, settings.reachable)?;
     let site = site_pages(rt, alloc, files, settings.seeds, bytes)?;
     push_page_notes(alloc, notes, settings.front, site.notes.as_slice())?;
@@ -98,7 +98,7 @@ fn fixes_of_pages<R: Threads + Wait + Sync, B: FileBytes + Sync>(
     files: &SiteFiles<'_>,
     bytes: &B,
     settings: CheckSettings<'_>,
-) -> Result<Vec<FileFix>, SiteFault> {
+) -> Result<Vec<FileFix>, FolderError> {
     let top = files.top_url();
     let crawls = crawl_site(rt, alloc, &site.pages, files, top, settings)?;
     let crawled = crawled_site(site, &crawls, top);
@@ -113,7 +113,7 @@ fn fixes_of_crawled<R: Threads + Sync, B: FileBytes + Sync>(
     files: &SiteFiles<'_>,
     bytes: &B,
     settings: CheckSettings<'_>,
-) -> Result<Vec<FileFix>, SiteFault> {
+) -> Result<Vec<FileFix>, FolderError> {
     let checked = checked_of(rt, alloc, crawled, files, bytes, settings)?;
     let rows = checked.broken.as_slice();
     let moves = moves_of(alloc, files, settings.front, crawled.own, rows)?;

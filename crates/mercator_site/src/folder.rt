@@ -2,7 +2,7 @@
 ghost use Rattle.std.specs.Prelude.{◌≡◌, IfErr, IfOk, map, string_bytes, false, true};
 ghost use Rattle.mercator_site.specs.Asks.{asks_in, asks_with, seeds_of};
 ghost use Rattle.mercator_site.specs.Ends.{IsCheckOf, IsFolderCheck, front_of, name_of};
-ghost use Rattle.mercator_site.specs.Faults.{IsSiteIncomplete, is_unfinished};
+ghost use Rattle.mercator_site.specs.Errors.{IsSiteIncomplete, is_unfinished};
 ghost use Rattle.mercator_site.specs.IndexUrls.{is_index_url};
 ghost use Rattle.mercator_site.specs.Rules.{AreCheckRules, AreRules};
 ghost use Rattle.saved_site.specs.Below.{IsWebAt, IsWebBelow};
@@ -11,7 +11,7 @@ ghost use Rattle.site_check.specs.Ignored.{entries_in};
 ghost use Rattle.site_files.specs.Below.{IsTop};
 
 use crate::check::{CheckReport, report_of_site};
-use crate::fault::SiteFault;
+use crate::error::FolderError;
 use crate::index_url::is_index_url;
 use crate::mapped::{MapNames, MappedFolder, map_names, mapped_folders, site_names};
 use crate::options::{CheckOptions, SiteOptions};
@@ -136,8 +136,8 @@ pub(crate) fn names_of<R: Files<File: Send, Dir: Send> + Threads + Sync>(
     rules: &Rules,
     list: Option<&[u8]>,
     notes: &mut Vec<Note>,
-) -> Result<Names, SiteFault>
-    ensures { IfErr result (λ fault. is_unfinished fault ≡ false) }
+) -> Result<Names, FolderError>
+    ensures { IfErr result (λ error. is_unfinished error ≡ false) }
 {
     if let Some(bytes) = list {
         return Ok(Names::List(read_site_list(alloc, bytes)?));
@@ -156,15 +156,15 @@ pub(crate) fn files_of<'a>(
     names: &'a Names,
     base: &'a str,
     rules: &'a Rules,
-) -> Result<SiteFiles<'a>, SiteFault>
+) -> Result<SiteFiles<'a>, FolderError>
     ensures top { IfOk result (λ files. IsTop base.now (string_bytes files.site.top)) }
     ensures url { IfOk result (λ files. files.site.top_url ≡ string_bytes files.site.top) }
     ensures by_rules { IfOk result (λ files. files.rules.now ≡ rules.now) }
     ensures folder { IfOk result (λ _. is_index_url base.now rules.now.index_files.items ≡ false) }
-    ensures plain { IfErr result (λ fault. is_unfinished fault ≡ false) }
+    ensures plain { IfErr result (λ error. is_unfinished error ≡ false) }
 {
     if is_index_url(base.as_bytes(), rules.index_files.as_slice()) {
-        return Err(SiteFault::BadBase);
+        return Err(FolderError::BadBase);
     }
     match names {
         Names::Folder(found) => Ok(SiteFiles::new(alloc, site_names(found, base, rules))?),
@@ -184,10 +184,10 @@ pub fn web_of_folder<R: Files<File: Send, Dir: Send> + Threads + Sync>(
     options: &SiteOptions,
     list: Option<&[u8]>,
     notes: &mut Vec<Note>,
-) -> Result<WebText, SiteFault>
+) -> Result<WebText, FolderError>
     ensures web { IfOk result IsSiteWeb }
     ensures below { IfOk result (IsWebAt (string_bytes options.now.base)) }
-    ensures plain { IfErr result (λ fault. is_unfinished fault ≡ false) }
+    ensures plain { IfErr result (λ error. is_unfinished error ≡ false) }
 {
     let rules = rules_of(alloc, options)?;
     let names = names_of(rt, alloc, options.folder.as_str(), &rules, list, notes)?;
@@ -202,10 +202,10 @@ fn web_of_names<R: Files<File: Send, Dir: Send> + Threads + Sync>(
     rules: &Rules,
     names: &Names,
     notes: &mut Vec<Note>,
-) -> Result<WebText, SiteFault>
+) -> Result<WebText, FolderError>
     ensures web { IfOk result IsSiteWeb }
     ensures below { IfOk result (IsWebAt (string_bytes options.now.base)) }
-    ensures plain { IfErr result (λ fault. is_unfinished fault ≡ false) }
+    ensures plain { IfErr result (λ error. is_unfinished error ≡ false) }
 {
     let files = files_of(alloc, names, options.base.as_str(), rules)?;
     web_of_files(rt, alloc, options.folder.as_str(), &files, notes)
@@ -218,10 +218,10 @@ fn web_of_files<R: Files<File: Send, Dir: Send> + Threads + Sync>(
     folder: &str,
     files: &SiteFiles<'_>,
     notes: &mut Vec<Note>,
-) -> Result<WebText, SiteFault>
+) -> Result<WebText, FolderError>
     ensures web { IfOk result IsSiteWeb }
     ensures below { IfOk result (IsWebBelow (string_bytes files.now.site.top)) }
-    ensures plain { IfErr result (λ fault. is_unfinished fault ≡ false) }
+    ensures plain { IfErr result (λ error. is_unfinished error ≡ false) }
 {
     let bytes = OnDisk { rt, alloc, folder };
     let Web {
@@ -246,9 +246,9 @@ pub fn report_of_folder<R: Files<File: Send, Dir: Send> + Threads + Wait + Sync>
     list: Option<&[u8]>,
     ignores: &[u8],
     notes: &mut Vec<Note>,
-) -> Result<CheckReport, SiteFault>
+) -> Result<CheckReport, FolderError>
     ensures folder { IfOk result (λ report. IsFolderCheck options.now ignores.now report.is_broken report.text.items) }
-    ensures incomplete { IfErr result (λ fault. is_unfinished fault ≡ true → IsSiteIncomplete options.now) }
+    ensures incomplete { IfErr result (λ error. is_unfinished error ≡ true → IsSiteIncomplete options.now) }
 {
     let made = folder_settings(alloc, options, ignores)?;
     let folder = options.site.folder.as_str();
@@ -277,11 +277,11 @@ fn report_of_names<R: Files<File: Send, Dir: Send> + Threads + Wait + Sync>(
     options: &CheckOptions,
     read: ReadFolder<'_>,
     notes: &mut Vec<Note>,
-) -> Result<CheckReport, SiteFault>
+) -> Result<CheckReport, FolderError>
     requires rules { AreCheckRules options.now read.made.now.rules }
     requires seeds { map string_bytes read.made.now.seeds.items ≡ seeds_of options.now }
     ensures checked { IfOk result (λ report. IsCheckOf options.now (map (λ one. one.map.now) read.entry.maps.now) (map string_bytes read.entry.made.now.ignores.items) report.is_broken report.text.items) }
-    ensures incomplete { IfErr result (λ fault. is_unfinished fault ≡ true → IsSiteIncomplete options.now) }
+    ensures incomplete { IfErr result (λ error. is_unfinished error ≡ true → IsSiteIncomplete options.now) }
 {
     let base = options.site.base.as_str();
     let files = files_of(alloc, read.names, base, &read.made.rules)?;
@@ -296,13 +296,13 @@ fn report_with_files<'a, R: Files<File: Send, Dir: Send> + Threads + Wait + Sync
     read: ReadFolder<'a>,
     files: &'a SiteFiles<'_>,
     notes: &mut Vec<Note>,
-) -> Result<CheckReport, SiteFault>
+) -> Result<CheckReport, FolderError>
     requires rules { AreCheckRules options.now files.now.rules.now }
     requires seeds { map string_bytes read.made.now.seeds.items ≡ seeds_of options.now }
     requires top { IsTop (string_bytes options.now.site.base) (string_bytes files.now.site.top) }
     requires url { files.now.site.top_url ≡ string_bytes files.now.site.top }
     ensures checked { IfOk result (λ report. IsCheckOf options.now (map (λ one. one.map.now) read.entry.maps.now) (map string_bytes read.entry.made.now.ignores.items) report.is_broken report.text.items) }
-    ensures incomplete { IfErr result (λ fault. is_unfinished fault ≡ true → IsSiteIncomplete options.now) }
+    ensures incomplete { IfErr result (λ error. is_unfinished error ≡ true → IsSiteIncomplete options.now) }
 {
     let made = read.made;
     let folders = mapped_folders(alloc, read.maps, &made.map_rules)?;

@@ -3,9 +3,9 @@
 
 mod check;
 mod crawl;
+mod error;
 mod external;
 mod false_miss;
-mod fault;
 mod fixes;
 mod folder;
 mod index_url;
@@ -21,7 +21,7 @@ mod start;
 
 pub use check::{CheckReport, Files, report_of_files};
 pub use check_report::Lists;
-pub use fault::SiteFault;
+pub use error::FolderError;
 pub use fixes::{FileFix, fixes_of_folder};
 pub use folder::{report_of_folder, web_of_folder};
 pub use link_fixes::DocumentFix;

@@ -1,9 +1,9 @@
 //! The folders of maps: their files, and whether they have a page at a URL out of the site.
 ghost use Rattle.std.specs.Prelude.{◌≡◌, ◌++◌, IfErr, IfOk, OnOk, false, map, nat_lt, length, string_bytes};
-ghost use Rattle.mercator_site.specs.Faults.{is_unfinished};
+ghost use Rattle.mercator_site.specs.Errors.{is_unfinished};
 ghost use Rattle.mercator_site.specs.Maps.{AreMapped, IsMapped, has_nearer, has_page, is_found_in, is_mapped, is_nearer, is_nearest, left_at, left_for, looked_up, names_of, unmapped};
 
-use crate::fault::SiteFault;
+use crate::error::FolderError;
 use crate::maps::FolderMap;
 use crate::own::begins;
 use crate::start::has_page;
@@ -41,9 +41,9 @@ pub(crate) fn map_names<'a, R: Files<File: Send, Dir: Send> + Threads + Sync>(
     alloc: Global,
     maps: &'a [FolderMap],
     rules: &Rules,
-) -> Result<Vec<MapNames<'a>>, SiteFault>
+) -> Result<Vec<MapNames<'a>>, FolderError>
     ensures maps { IfOk result (λ all. map (λ one. one.map.now) all.items ≡ maps.now) }
-    ensures plain { IfErr result (λ fault. is_unfinished fault ≡ false) }
+    ensures plain { IfErr result (λ error. is_unfinished error ≡ false) }
 {
     let mut all = Vec::new(alloc);
     for map in maps {
@@ -59,23 +59,23 @@ fn names_in<R: Files<File: Send, Dir: Send> + Threads + Sync>(
     alloc: Global,
     folder: &str,
     rules: &Rules,
-) -> Result<FolderNames, SiteFault>
-    ensures { IfErr result (λ fault. is_unfinished fault ≡ false) }
+) -> Result<FolderNames, FolderError>
+    ensures { IfErr result (λ error. is_unfinished error ≡ false) }
 {
     match folder_names(rt, alloc, folder, rules) {
         Ok(names) => Ok(names),
-        Err(error) => Err(fault_of(alloc, folder, error)?),
+        Err(error) => Err(error_of(alloc, folder, error)?),
     }
 }
 
 /// The error for an error of the folder of a map.
-fn fault_of(alloc: Global, folder: &str, error: SiteError) -> Result<SiteFault, AllocError>
-    ensures { IfOk result (λ fault. is_unfinished fault ≡ false) }
+fn error_of(alloc: Global, folder: &str, error: SiteError) -> Result<FolderError, AllocError>
+    ensures { IfOk result (λ error. is_unfinished error ≡ false) }
 {
     match error {
-        SiteError::Io(_) => Ok(SiteFault::CannotReadMap(shown(alloc, folder)?)),
-        SiteError::NoFiles => Ok(SiteFault::NoMapFiles(shown(alloc, folder)?)),
-        _ => Ok(SiteFault::from(error)),
+        SiteError::Io(_) => Ok(FolderError::CannotReadMap(shown(alloc, folder)?)),
+        SiteError::NoFiles => Ok(FolderError::NoMapFiles(shown(alloc, folder)?)),
+        _ => Ok(FolderError::from(error)),
     }
 }
 
@@ -88,9 +88,9 @@ pub(crate) fn mapped_folders<'a>(
     alloc: Global,
     maps: &'a [MapNames<'a>],
     rules: &'a Rules,
-) -> Result<Vec<MappedFolder<'a>>, SiteFault>
+) -> Result<Vec<MappedFolder<'a>>, FolderError>
     ensures mapped { IfOk result (λ all. AreMapped (map (λ one. one.map.now) maps.now) all.items) }
-    ensures plain { IfErr result (λ fault. is_unfinished fault ≡ false) }
+    ensures plain { IfErr result (λ error. is_unfinished error ≡ false) }
 {
     let mut all = Vec::new(alloc);
     for one in maps {
@@ -104,9 +104,9 @@ fn mapped_folder<'a>(
     alloc: Global,
     one: &'a MapNames<'a>,
     rules: &'a Rules,
-) -> Result<MappedFolder<'a>, SiteFault>
+) -> Result<MappedFolder<'a>, FolderError>
     ensures mapped { IfOk result (λ folder. IsMapped one.now.map.now folder) }
-    ensures plain { IfErr result (λ fault. is_unfinished fault ≡ false) }
+    ensures plain { IfErr result (λ error. is_unfinished error ≡ false) }
 {
     let prefix = one.map.prefix.as_str();
     let folder = one.map.folder.as_str();
@@ -115,7 +115,7 @@ fn mapped_folder<'a>(
             name: MapName { prefix, folder },
             files,
         }),
-        Err(error) => Err(fault_of(alloc, folder, error)?),
+        Err(error) => Err(error_of(alloc, folder, error)?),
     }
 }
 

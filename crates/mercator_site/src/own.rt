@@ -22,7 +22,7 @@ pub(crate) fn begins(front: &str, url: &CanonUrl) -> bool
 }
 
 /// The results of the site's own URLs. Results are in the order of their URLs, so these are consecutive.
-#[tactic(auto, using(crate::proofs::OwnPages::own_stand_together))]
+#[tactic(auto, using(crate::proofs::OwnPages::own_are_together))]
 pub(crate) fn own_results<'a>(top: &CanonUrl, results: &'a [PageResult]) -> &'a [PageResult]
     ensures { IsAscending (result_urls results.now) → result.now ≡ own_of top.now results.now }
 {

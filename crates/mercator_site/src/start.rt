@@ -1,7 +1,7 @@
 //! The URLs at which the crawl of a check starts.
 ghost use Rattle.std.specs.Prelude.{◌≡◌, ◌++◌, ◌∷◌, [], true, IfErr, IfOk, OnOk, map, string_bytes, Ok, false};
 ghost use Rattle.crawl_keys.specs.CanonicalText.{resolve};
-ghost use Rattle.mercator_site.specs.Faults.{is_unfinished};
+ghost use Rattle.mercator_site.specs.Errors.{is_unfinished};
 ghost use Rattle.mercator_site.specs.Maps.{has_page};
 ghost use Rattle.mercator_site.specs.Own.{AreOwn};
 ghost use Rattle.mercator_site.specs.Starts.{documents_in, if_own, is_left_out, starts};
@@ -9,7 +9,7 @@ ghost use Rattle.saved_site.specs.Linked.{page_at};
 ghost use Rattle.site_files.specs.Below.{begins};
 ghost use Rattle.site_files.specs.Own.{start_at};
 
-use crate::fault::SiteFault;
+use crate::error::FolderError;
 use crate::own::is_own;
 use crawl_keys::{CanonUrl, KeyError, resolve};
 use crawl_pages::Fetch;
@@ -28,19 +28,19 @@ pub(crate) fn check_starts(
     files: &SiteFiles<'_>,
     links: &[String],
     reachable: bool,
-) -> Result<(), SiteFault>
-    ensures plain { IfErr result (λ fault. is_unfinished fault ≡ false) }
+) -> Result<(), FolderError>
+    ensures plain { IfErr result (λ error. is_unfinished error ≡ false) }
 {
     let top = files.top_url();
     check_links(alloc, top, files, links)?;
     if !links.is_empty() || files.find(top.as_str()).is_some() {
         Ok(())
     } else if reachable {
-        Err(SiteFault::NoStart(String::from_str(alloc, "./")?))
+        Err(FolderError::NoStart(String::from_str(alloc, "./")?))
     } else if has_document(files) {
         Ok(())
     } else {
-        Err(SiteFault::NoDocuments)
+        Err(FolderError::NoDocuments)
     }
 }
 
@@ -50,13 +50,13 @@ fn check_links(
     top: &CanonUrl,
     files: &SiteFiles<'_>,
     links: &[String],
-) -> Result<(), SiteFault>
-    ensures plain { IfErr result (λ fault. is_unfinished fault ≡ false) }
+) -> Result<(), FolderError>
+    ensures plain { IfErr result (λ error. is_unfinished error ≡ false) }
 {
     for link in links {
         let url = seed_of(alloc, top, link.as_str())?;
         if !has_page(alloc, files, &url)? {
-            return Err(SiteFault::NoStart(shown(alloc, link.as_str())?));
+            return Err(FolderError::NoStart(shown(alloc, link.as_str())?));
         }
     }
     Ok(())
@@ -82,27 +82,27 @@ pub(crate) fn starts(
     top: &CanonUrl,
     links: &[String],
     reachable: bool,
-) -> Result<Vec<CanonUrl>, SiteFault>
+) -> Result<Vec<CanonUrl>, FolderError>
     ensures begun { IfOk result (λ seeds. map (resolve top.now) (starts (is_left_out reachable (page_at pages.now top.now)) (map string_bytes links.now)) ≡ map Ok seeds.items) }
     ensures own { IfOk result (λ seeds. AreOwn top.now seeds.items) }
-    ensures plain { IfErr result (λ fault. is_unfinished fault ≡ false) }
+    ensures plain { IfErr result (λ error. is_unfinished error ≡ false) }
 {
     match links.split_first() {
         Some(_) => seeds_of(alloc, top, links),
-        None => top_alone(alloc, pages, top, reachable),
+        None => top_only(alloc, pages, top, reachable),
     }
 }
 
 /// The URL of the top, unless the top is left out.
-fn top_alone(
+fn top_only(
     alloc: Global,
     pages: &LinkedPages,
     top: &CanonUrl,
     reachable: bool,
-) -> Result<Vec<CanonUrl>, SiteFault>
+) -> Result<Vec<CanonUrl>, FolderError>
     ensures resolved { IfOk result (λ seeds. map (resolve top.now) (starts (is_left_out reachable (page_at pages.now top.now)) []) ≡ map Ok seeds.items) }
     ensures own { IfOk result (λ seeds. AreOwn top.now seeds.items) }
-    ensures plain { IfErr result (λ fault. is_unfinished fault ≡ false) }
+    ensures plain { IfErr result (λ error. is_unfinished error ≡ false) }
 {
     if is_left_out(alloc, pages, top, reachable)? {
         return Ok(Vec::new(alloc));
@@ -136,10 +136,10 @@ fn is_left_out(
 }
 
 /// The URLs of the links, in their order. Fails with `BadSeed` if one is not a URL below the top.
-fn seeds_of(alloc: Global, top: &CanonUrl, links: &[String]) -> Result<Vec<CanonUrl>, SiteFault>
+fn seeds_of(alloc: Global, top: &CanonUrl, links: &[String]) -> Result<Vec<CanonUrl>, FolderError>
     ensures resolved { IfOk result (λ seeds. map (resolve top.now) (map string_bytes links.now) ≡ map Ok seeds.items) }
     ensures own { IfOk result (λ seeds. AreOwn top.now seeds.items) }
-    ensures plain { IfErr result (λ fault. is_unfinished fault ≡ false) }
+    ensures plain { IfErr result (λ error. is_unfinished error ≡ false) }
 {
     let mut seeds = Vec::new(alloc);
     for link in links {
@@ -149,15 +149,15 @@ fn seeds_of(alloc: Global, top: &CanonUrl, links: &[String]) -> Result<Vec<Canon
 }
 
 /// The URL of a link on the top. It must be below the top.
-fn seed_of(alloc: Global, top: &CanonUrl, link: &str) -> Result<CanonUrl, SiteFault>
+fn seed_of(alloc: Global, top: &CanonUrl, link: &str) -> Result<CanonUrl, FolderError>
     ensures resolved { IfOk result (λ seed. resolve top.now link.now ≡ Ok seed) }
     ensures own { IfOk result (λ seed. begins top.now seed ≡ true) }
-    ensures plain { IfErr result (λ fault. is_unfinished fault ≡ false) }
+    ensures plain { IfErr result (λ error. is_unfinished error ≡ false) }
 {
     match resolve(alloc, top, link) {
         Ok(url) if is_own(top, &url) => Ok(url),
-        Err(KeyError::NoMemory) => Err(SiteFault::NoMemory),
-        _ => Err(SiteFault::BadSeed),
+        Err(KeyError::NoMemory) => Err(FolderError::NoMemory),
+        _ => Err(FolderError::BadSeed),
     }
 }
 

@@ -1,6 +1,6 @@
 //! Tests of what no contract says: that calls succeed, what messages say, and that the definitions describe the formats.
+mod errors;
 mod failing;
-mod faults;
 mod folders;
 mod inputs;
 mod reports;

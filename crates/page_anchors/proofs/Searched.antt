@@ -29,9 +29,9 @@ if_less o is = grind arith
 if_greater : (o : Ordering) → is_eq o ≡ false → is_lt o ≡ false → o ≡ Greater
 if_greater o other not_less = grind arith
 
-pub half_behind : (ids : List (List ℕ)) (text id : List ℕ) (low middle high : ℕ) → IsBetween ids text low high → middle < high → id ≡ get_or ids middle [] → is_lt (slice_cmp nat_cmp id text) ≡ true →
+pub half_after : (ids : List (List ℕ)) (text id : List ℕ) (low middle high : ℕ) → IsBetween ids text low high → middle < high → id ≡ get_or ids middle [] → is_lt (slice_cmp nat_cmp id text) ≡ true →
     IsBetween ids text (middle + 1) high
-half_behind ids text id low middle high between below is less =
+half_after ids text id low middle high between below is less =
     let here : middle < length ids = omega (arith, between.within, below) in
     let order : slice_cmp nat_cmp (get_or ids middle []) text ≡ Less = (λ i. slice_cmp nat_cmp (sym is i) text) ∙ if_less (slice_cmp nat_cmp id text) less in
     record {
@@ -52,9 +52,9 @@ half_before ids text id low middle high between from below is other not_less =
       up = from;
       within = omega (arith, here);
       below = between.below;
-      above = λ ascend k d behind inside.
+      above = λ ascend k d following inside.
           let at_middle : slice_cmp nat_cmp (get_or ids middle d) text ≡ Greater = (λ i. slice_cmp nat_cmp (get_or_default ids middle d [] here i) text) ∙ order in
-          greatest (slice_cmp nat_cmp (get_or ids k d) text) (omega (arith, rises ids text ascend middle k d behind inside, ap ordering_index at_middle));
+          greatest (slice_cmp nat_cmp (get_or ids k d) text) (omega (arith, rises ids text ascend middle k d following inside, ap ordering_index at_middle));
     }
 
 pub found_at : (ids : List (List ℕ)) (text id : List ℕ) (k : ℕ) → k < length ids → id ≡ get_or ids k [] → is_eq (slice_cmp nat_cmp id text) ≡ true → true ≡ has_id ids text
@@ -65,5 +65,5 @@ none_found ids text low high between over ascend =
     sym (list_any_none (λ x. bytes_eq x text) ids (λ k d below.
     sym (is_eq-slice_cmp (get_or ids k d) text) ∙ elim (cases_lt k low) [
       | inl before ↦ ap is_eq (between.below ascend k d before)
-      | inr behind ↦ ap is_eq (between.above ascend k d (omega (arith, over, behind)) below)
+      | inr following ↦ ap is_eq (between.above ascend k d (omega (arith, over, following)) below)
     ]))

@@ -152,7 +152,7 @@ sorted_joined less xs ys front back across = λ k d least below. elim (cases_ord
       let left = get_or_append_left xs ys d k (omega arith) in
       let next = get_or_append_left xs ys d (k + 1) within in
       rw (left, next) (front k d least within)
-  | inr (inr behind) ↦
+  | inr (inr following) ↦
       let left = get_or-append_right xs ys (length xs) k d refl (omega arith) in
       let next = get_or-append_right xs ys (length xs) (k + 1) d refl (omega arith) in
       let step = ap (λ n. get_or ys n d) (one_more k (length xs) (omega arith)) in

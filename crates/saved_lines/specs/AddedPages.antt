@@ -12,7 +12,7 @@ has_some pages = not (length pages == 0)
 -- the line added a page whose URL was new, with these bytes after its line; if it has no URL, the pages are the old ones
 abbrev pub Adds : List PageRead → List PageRead → Option (List ℕ) → List ℕ → Type 0
 Adds old new None bytes = new ≡ old
-Adds old new (Some url) bytes = (has old url ≡ false) × (new ≡ old ++ record { url = url; behind = bytes } ∷ [])
+Adds old new (Some url) bytes = (has old url ≡ false) × (new ≡ old ++ record { url = url; following = bytes } ∷ [])
 
 -- what the checks of the line with this number need, from the pages and from what is remembered
 abbrev pub kept_before : ℕ → List PageRead → Above → Before

@@ -3,9 +3,9 @@ ghost use Rattle.std.specs.Prelude.{◌≡◌, true, false, Some, Ok, OnOk, IfOk
 ghost use Rattle.crawl_keys.specs.CanonicalText.{canonical};
 ghost use Rattle.crawl_keys.specs.Outcome.{Gives};
 ghost use Rattle.std.specs.Result.{result_ok};
-ghost use Rattle.text_lines.specs.FirstLine.{behind_line, line_in};
+ghost use Rattle.text_lines.specs.FirstLine.{after_line, line_in};
 ghost use Rattle.text_lines.specs.Lines.{text_of};
-ghost use Rattle.saved_pages.specs.WebChecks.{header_of, page_fault, under_fault, line_fault, Tells};
+ghost use Rattle.saved_pages.specs.WebChecks.{header_of, page_error, under_error, line_error, Reports};
 ghost use Rattle.saved_pages.specs.WebLines.{page_url, is_page};
 ghost use Rattle.saved_pages.specs.PageLists.{has};
 ghost use Rattle.saved_lines.specs.AddedPages.{kept_before, Adds, Follows};
@@ -84,8 +84,8 @@ pub fn add_line<'a>(
     line: &str,
     rest: &'a str,
 ) -> Result<Above, WebError>
-    ensures tells { Tells result (line_fault (kept_before number pages.old above) line.now) }
-    ensures adds { OnOk result (Adds pages.old pages.new (page_url line.now) (behind_line rest.now)) }
+    ensures reports { Reports result (line_error (kept_before number pages.old above) line.now) }
+    ensures adds { OnOk result (Adds pages.old pages.new (page_url line.now) (after_line rest.now)) }
     // A page line that passes the checks has a URL.
     ensures page { OnOk result (is_page line.now ≡ is_some (page_url line.now)) }
     ensures follows { IfOk result (λ new. Follows number line.now above new) }
@@ -103,8 +103,8 @@ pub fn check_line<'a>(
     above: Above,
     line: &'a [u8],
 ) -> Result<Above, WebError>
-    ensures tells { Tells result (line_fault (kept_before number pages.old above) line.now) }
-    ensures adds { OnOk result (Adds pages.old pages.new (page_url line.now) (behind_line line.now)) }
+    ensures reports { Reports result (line_error (kept_before number pages.old above) line.now) }
+    ensures adds { OnOk result (Adds pages.old pages.new (page_url line.now) (after_line line.now)) }
     ensures page { OnOk result (is_page line.now ≡ is_some (page_url line.now)) }
     ensures follows { IfOk result (λ new. Follows number line.now above new) }
     ensures utf8 { OnOk result (IsUtf8 line.now) }
@@ -123,8 +123,8 @@ fn add_text<'a>(
     rest: &'a str,
 ) -> Result<Above, WebError>
     requires { text_of number text.now ≡ Ok text.now }
-    ensures tells { Tells result (line_fault (kept_before number pages.old above) text.now) }
-    ensures adds { OnOk result (Adds pages.old pages.new (page_url text.now) (behind_line rest.now)) }
+    ensures reports { Reports result (line_error (kept_before number pages.old above) text.now) }
+    ensures adds { OnOk result (Adds pages.old pages.new (page_url text.now) (after_line rest.now)) }
     ensures page { OnOk result (is_page text.now ≡ is_some (page_url text.now)) }
     ensures follows { IfOk result (λ new. Follows number text.now above new) }
 {
@@ -169,15 +169,15 @@ fn add_page<'a>(
     text: &str,
     rest: &'a str,
 ) -> Result<(), WebError>
-    ensures tells { Tells result (page_fault number (has pages.old) (canonical text.now)) }
-    ensures adds { OnOk result (Adds pages.old pages.new (result_ok (canonical text.now)) (behind_line rest.now)) }
+    ensures reports { Reports result (page_error number (has pages.old) (canonical text.now)) }
+    ensures adds { OnOk result (Adds pages.old pages.new (result_ok (canonical text.now)) (after_line rest.now)) }
 {
-    let behind = behind_word(rest);
-    if is_written(text, behind) {
-        return add_known(pages, number, KnownPage::written(behind));
+    let following = after_word(rest);
+    if is_written(text, following) {
+        return add_known(pages, number, KnownPage::written(following));
     }
     match canonical(alloc, text) {
-        Ok(url) => add_known(pages, number, KnownPage::new(alloc, url, behind)?),
+        Ok(url) => add_known(pages, number, KnownPage::new(alloc, url, following)?),
         Err(KeyError::NoMemory) => Err(WebError::NoMemory),
         Err(KeyError::NotUrl | KeyError::NotHttp) => Err(WebError::BadPageUrl(number)),
     }
@@ -185,8 +185,8 @@ fn add_page<'a>(
 
 /// Adds a page, which is on the line with this number, unless there is a page with its URL.
 fn add_known<'a>(pages: &mut Pages<'a>, number: u64, page: KnownPage<'a>) -> Result<(), WebError>
-    ensures tells { Tells result (page_fault number (has pages.old) (Ok page.entry.url)) }
-    ensures adds { OnOk result (Adds pages.old pages.new (Some page.entry.url) page.entry.behind) }
+    ensures reports { Reports result (page_error number (has pages.old) (Ok page.entry.url)) }
+    ensures adds { OnOk result (Adds pages.old pages.new (Some page.entry.url) page.entry.following) }
 {
     if pages.add(page)? {
         Ok(())
@@ -195,19 +195,19 @@ fn add_known<'a>(pages: &mut Pages<'a>, number: u64, page: KnownPage<'a>) -> Res
     }
 }
 
-/// Whether the text is a canonical URL and is also the first line of `behind`. `false` means unknown.
-fn is_written(text: &str, behind: &str) -> bool
+/// Whether the text is a canonical URL and is also the first line of `following`. `false` means unknown.
+fn is_written(text: &str, following: &str) -> bool
     ensures url { result ≡ true → canonical text.now ≡ Ok text.now }
-    ensures line { result ≡ true → line_in behind.now ≡ text.now }
+    ensures line { result ≡ true → line_in following.now ≡ text.now }
 {
-    is_canonical(text) && split_line(behind).0 == text
+    is_canonical(text) && split_line(following).0 == text
 }
 
 /// Returns the text after `page` and a space at its start, or the whole text if it does not start so. The lines after the first are
 /// the same.
-#[tactic(auto, using(text_lines::proofs::CutLines::behind_page))]
-fn behind_word(rest: &str) -> &str
-    ensures { behind_line result.now ≡ behind_line rest.now }
+#[tactic(auto, using(text_lines::proofs::CutLines::after_page))]
+fn after_word(rest: &str) -> &str
+    ensures { after_line result.now ≡ after_line rest.now }
 {
     match rest.strip_prefix("page ") {
         Some(text) => text,
@@ -217,7 +217,7 @@ fn behind_word(rest: &str) -> &str
 
 /// Checks a line that needs a page above it. `mixed` says that the lines under that page exclude this line.
 fn check_under(number: u64, some_page: bool, mixed: bool) -> Result<(), WebError>
-    ensures { Tells result (under_fault number some_page mixed) }
+    ensures { Reports result (under_error number some_page mixed) }
 {
     if !some_page {
         return Err(WebError::LinkBeforePage(number));

@@ -12,14 +12,14 @@ get_front (y ∷ xs) ys zero x at = at
 get_front (y ∷ xs) ys (suc k) x at = get_front xs ys k x at
 
 -- the index that was found, in four bytes
-pub found_there : {E : Type 0} (urls : List (List ℕ)) (url : List ℕ) (index : ℕ) (told : Result ℕ E) → Some index ≡ index_of (map (λ u. u) urls) url → IfOk told (λ short. short ≡ index) → IfOk told (λ short. slice_get urls short ≡ Some url)
-found_there urls url index told found is = grind (arith, found_at, map-id)
+pub found_there : {E : Type 0} (urls : List (List ℕ)) (url : List ℕ) (index : ℕ) (error : Result ℕ E) → Some index ≡ index_of (map (λ u. u) urls) url → IfOk error (λ short. short ≡ index) → IfOk error (λ short. slice_get urls short ≡ Some url)
+found_there urls url index error found is = grind (arith, found_at, map-id)
 
 -- the index of the URL that was pushed
-pub pushed_there : {E : Type 0} (urls longer : List (List ℕ)) (url : List ℕ) (last : ℕ) (told : Result ℕ E) → longer ≡ urls ++ url ∷ [] → last ≡ length urls → IfOk told (λ short. short ≡ last) → IfOk told (λ short. slice_get longer short ≡ Some url)
-pushed_there urls longer url last (Err e) is at told_is = tt
-pushed_there urls longer url last (Ok short) is at told_is =
-    ap (slice_get longer) (told_is ∙ at) ∙ ap (λ l. slice_get l (length urls)) is ∙ get_last urls url
+pub pushed_there : {E : Type 0} (urls longer : List (List ℕ)) (url : List ℕ) (last : ℕ) (error : Result ℕ E) → longer ≡ urls ++ url ∷ [] → last ≡ length urls → IfOk error (λ short. short ≡ last) → IfOk error (λ short. slice_get longer short ≡ Some url)
+pushed_there urls longer url last (Err e) is at answered_is = tt
+pushed_there urls longer url last (Ok short) is at answered_is =
+    ap (slice_get longer) (answered_is ∙ at) ∙ ap (λ l. slice_get l (length urls)) is ∙ get_last urls url
   where
     get_last : (xs : List (List ℕ)) (y : List ℕ) → slice_get (xs ++ y ∷ []) (length xs) ≡ Some y
     get_last [] y = refl

@@ -5,7 +5,7 @@ use Rattle.std.proofs.Math.Bool.{or-false}
 use Rattle.std.specs.List.{list_any}
 use Rattle.std.proofs.lemmas.List.Folds.{list_any-append}
 use Rattle.std.proofs.lemmas.Str.{is_utf8-from_IsUtf8}
-use Rattle.saved_pages.specs.WebFaults.{under_last_page}
+use Rattle.saved_pages.specs.WebErrors.{under_last_page}
 use Rattle.saved_pages.specs.WebLines.{line_of_text, line_of, is_page}
 
 pub line_of-utf8 : (line : List ℕ) → IsUtf8 line → line_of line ≡ line_of_text line

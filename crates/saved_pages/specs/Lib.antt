@@ -3,5 +3,5 @@ pub mod PageTexts
 pub mod SavedWeb
 pub mod UrlIndices
 pub mod WebChecks
-pub mod WebFaults
+pub mod WebErrors
 pub mod WebLines

@@ -5,11 +5,11 @@ use Rattle.std.specs.Coded.{Coded, code_by, coded×, coded_list, coded_ℕ}
 -- a page that was read: its URL, and the bytes after its line
 pub record PageRead : Type 0 where
   pub url : List ℕ
-  pub behind : List ℕ
+  pub following : List ℕ
 
 abbrev pub page_read_code : Coded PageRead
 page_read_code =
-    code_by (List ℕ × List ℕ) (coded× (coded_list coded_ℕ) (coded_list coded_ℕ)) (λ p. (p.url, p.behind)) (λ p. record { url = p.0; behind = p.1 }) (λ _. refl)
+    code_by (List ℕ × List ℕ) (coded× (coded_list coded_ℕ) (coded_list coded_ℕ)) (λ p. (p.url, p.following)) (λ p. record { url = p.0; following = p.1 }) (λ _. refl)
 
 -- the URLs of the pages
 abbrev pub urls : List PageRead → List (List ℕ)

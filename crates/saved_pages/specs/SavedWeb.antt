@@ -9,9 +9,9 @@ use Rattle.saved_pages.specs.declared.line.Line.{Line}
 use Rattle.saved_pages.specs.declared.line.Line.TheVariants as says
 
 -- the lines after the first page line with this URL
-abbrev pub lines_behind : List (List ℕ) → List ℕ → Option (List (List ℕ))
-lines_behind [] url = None
-lines_behind (line ∷ more) url = if is_page_at url line then Some more else lines_behind more url
+abbrev pub lines_after : List (List ℕ) → List ℕ → Option (List (List ℕ))
+lines_after [] url = None
+lines_after (line ∷ more) url = if is_page_at url line then Some more else lines_after more url
 
 -- ---- the lines of a page, up to the next page
 
@@ -52,13 +52,13 @@ page_with url (Some text) texts = Moved (link_url url text)
 page_with url None texts = found_page url texts
 
 -- the page at a URL, from the lines after the page's own
-abbrev pub page_behind : List ℕ → Option (List (List ℕ)) → Page
-page_behind url None = Missing
-page_behind url (Some lines) = page_with url (moved_text lines) (link_texts lines)
+abbrev pub page_after : List ℕ → Option (List (List ℕ)) → Page
+page_after url None = Missing
+page_after url (Some lines) = page_with url (moved_text lines) (link_texts lines)
 
 -- the page that these lines define at a URL
 abbrev pub page_of : List (List ℕ) → List ℕ → Page
-page_of lines url = page_behind url (lines_behind lines url)
+page_of lines url = page_after url (lines_after lines url)
 
 -- the canonical URLs of the pages of a web with these lines
 abbrev pub page_urls : List (List ℕ) → List (List ℕ)

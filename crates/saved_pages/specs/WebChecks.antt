@@ -27,9 +27,9 @@ pub record Before : Type 0 where
   pub known : List ℕ → Bool
 
 -- the error of a saved web with a line that has no text
-abbrev pub fault_of : LineError → WebError
-fault_of (TooLong number) = wrong.LineTooLong number
-fault_of (NotText number) = wrong.NotText number
+abbrev pub error_of : LineError → WebError
+error_of (TooLong number) = wrong.LineTooLong number
+error_of (NotText number) = wrong.NotText number
 
 -- the first line: whether it says version 2
 abbrev pub header_of : List ℕ → Result Bool WebError
@@ -38,45 +38,45 @@ header_of text =
     else if bytes_eq text (codes "savedweb 2") then Ok true
     else Err wrong.BadHeader
 
-abbrev pub header_fault : Result Bool WebError → Option WebError
-header_fault (Ok second) = None
-header_fault (Err fault) = Some fault
+abbrev pub header_error : Result Bool WebError → Option WebError
+header_error (Ok second) = None
+header_error (Err error) = Some error
 
 -- a page line, by its URL and the URLs of the pages before it
-abbrev pub page_fault : ℕ → (List ℕ → Bool) → Result (List ℕ) KeyError → Option WebError
-page_fault number known (Ok url) = if known url then Some (wrong.PageTwice number) else None
-page_fault number known (Err _) = Some (wrong.BadPageUrl number)
+abbrev pub page_error : ℕ → (List ℕ → Bool) → Result (List ℕ) KeyError → Option WebError
+page_error number known (Ok url) = if known url then Some (wrong.PageTwice number) else None
+page_error number known (Err _) = Some (wrong.BadPageUrl number)
 
 -- a line that needs a page above it, by whether there is one, and whether the lines under that page exclude this line
-abbrev pub under_fault : ℕ → Bool → Bool → Option WebError
-under_fault number some_page mixed =
+abbrev pub under_error : ℕ → Bool → Bool → Option WebError
+under_error number some_page mixed =
     if some_page then (if mixed then Some (wrong.MovedMixed number) else None)
     else Some (wrong.LinkBeforePage number)
 
 -- a line after the first, by its content; version 1 has no moved lines
-abbrev pub said_fault : Before → Line (List ℕ) → Option WebError
-said_fault b (says.Page text) = page_fault b.number b.known (canonical text)
-said_fault b (says.Link text) = under_fault b.number b.some_page b.moved
-said_fault b (says.Moved text) =
-    if b.second then under_fault b.number b.some_page (b.link || b.moved) else Some (wrong.BadLine b.number)
-said_fault b says.Empty = None
-said_fault b says.Other = Some (wrong.BadLine b.number)
+abbrev pub content_error : Before → Line (List ℕ) → Option WebError
+content_error b (says.Page text) = page_error b.number b.known (canonical text)
+content_error b (says.Link text) = under_error b.number b.some_page b.moved
+content_error b (says.Moved text) =
+    if b.second then under_error b.number b.some_page (b.link || b.moved) else Some (wrong.BadLine b.number)
+content_error b says.Empty = None
+content_error b says.Other = Some (wrong.BadLine b.number)
 
-abbrev pub text_fault : Before → Result (List ℕ) LineError → Option WebError
-text_fault b (Err fault) = Some (fault_of fault)
-text_fault b (Ok text) = if b.number == 1 then header_fault (header_of text) else said_fault b (line_of_text text)
+abbrev pub text_error : Before → Result (List ℕ) LineError → Option WebError
+text_error b (Err error) = Some (error_of error)
+text_error b (Ok text) = if b.number == 1 then header_error (header_of text) else content_error b (line_of_text text)
 
 -- the first check that a line fails: its length, whether it is UTF-8, then its content
-abbrev pub line_fault : Before → List ℕ → Option WebError
-line_fault b line = text_fault b (text_of b.number line)
+abbrev pub line_error : Before → List ℕ → Option WebError
+line_error b line = text_error b (text_of b.number line)
 
 -- ---- results
 
 -- the check that a line fails, if any, as a result
 abbrev pub checked : Option WebError → Result (Unit {0}) WebError
 checked None = Ok tt
-checked (Some fault) = Err fault
+checked (Some error) = Err error
 
 -- the result is the expected error, or a success if none is expected; or it is out of memory
-abbrev pub Tells : {T : Type 0} → Result T WebError → Option WebError → Type 0
-Tells result expected = Gives wrong.NoMemory (λ _. tt) result (checked expected)
+abbrev pub Reports : {T : Type 0} → Result T WebError → Option WebError → Type 0
+Reports result expected = Gives wrong.NoMemory (λ _. tt) result (checked expected)

@@ -1,6 +1,6 @@
 //! Why bytes are not a saved web.
 ghost use Rattle.std.specs.Prelude.{◌≡◌};
-ghost use Rattle.saved_pages.specs.WebChecks.{fault_of};
+ghost use Rattle.saved_pages.specs.WebChecks.{error_of};
 ghost use Rattle.saved_pages.specs.declared.error.WebError.TheVariants as wrong;
 
 use std::alloc::{AllocError, AllocFailed};
@@ -32,7 +32,7 @@ pub enum WebError {
 }
 
 impl From<LineError> for WebError {
-    ghost from_gives = { λ line fault. fault ≡ fault_of line };
+    ghost from_gives = { λ line error. error ≡ error_of line };
 
     fn from(line: LineError) -> WebError {
         match line {
@@ -43,7 +43,7 @@ impl From<LineError> for WebError {
 }
 
 impl From<AllocError> for WebError {
-    ghost from_gives = { λ _ fault. fault ≡ wrong.NoMemory };
+    ghost from_gives = { λ _ error. error ≡ wrong.NoMemory };
 
     fn from(_refused: AllocError) -> WebError {
         WebError::NoMemory
@@ -51,7 +51,7 @@ impl From<AllocError> for WebError {
 }
 
 impl<T: Drop> From<AllocFailed<T>> for WebError {
-    ghost from_gives = { λ _ fault. fault ≡ wrong.NoMemory };
+    ghost from_gives = { λ _ error. error ≡ wrong.NoMemory };
 
     fn from(_refused: AllocFailed<T>) -> WebError {
         WebError::NoMemory

@@ -1,7 +1,7 @@
 //! A page of a saved web, as it is stored.
 ghost use Rattle.std.specs.Prelude.{◌≡◌, IfOk, Ok};
 ghost use Rattle.crawl_keys.specs.CanonicalText.{canonical};
-ghost use Rattle.text_lines.specs.FirstLine.{behind_line, line_in};
+ghost use Rattle.text_lines.specs.FirstLine.{after_line, line_in};
 
 use crawl_keys::{CanonUrl, canonical};
 use hash_index::Keyed;
@@ -39,7 +39,7 @@ enum PageText<'a> {
 #[derive(Drop)]
 struct MadePage<'a> {
     url: CanonUrl,
-    behind: &'a str,
+    following: &'a str,
 }
 
 // Contracts see the text of the URL, which is canonical, and the text after the page's line.
@@ -62,15 +62,15 @@ impl<'a> Model for KnownPage<'a> {
 impl<'a> KnownPage<'a> {
     /// Makes the page with this URL, which the first line of the text spells.
     pub fn new(alloc: Global, url: CanonUrl, text: &'a str) -> Result<KnownPage<'a>, AllocError>
-        ensures { IfOk result (λ page. page ≡ record { url = url; behind = behind_line text.now }) }
+        ensures { IfOk result (λ page. page ≡ record { url = url; following = after_line text.now }) }
     {
-        let (spelled, behind) = split_line(text);
+        let (spelled, following) = split_line(text);
         if url.as_str() == spelled {
             return Ok(KnownPage {
                 text: PageText::Written(text),
             });
         }
-        match Box::new(alloc, MadePage { url, behind }) {
+        match Box::new(alloc, MadePage { url, following }) {
             Ok(page) => Ok(KnownPage {
                 text: PageText::Made(page),
             }),
@@ -81,7 +81,7 @@ impl<'a> KnownPage<'a> {
     /// Makes the page whose URL is the first line of this text.
     pub fn written(text: &'a str) -> KnownPage<'a>
         requires { canonical (line_in text.now) ≡ Ok (line_in text.now) }
-        ensures { result ≡ record { url = line_in text.now; behind = behind_line text.now } }
+        ensures { result ≡ record { url = line_in text.now; following = after_line text.now } }
     {
         KnownPage {
             text: PageText::Written(text),
@@ -110,12 +110,12 @@ impl<'a> KnownPage<'a> {
     }
 
     /// Returns the lines after its own, to the end.
-    pub fn behind(&self) -> &'a str
-        ensures { result.now ≡ self.now.behind }
+    pub fn following(&self) -> &'a str
+        ensures { result.now ≡ self.now.following }
     {
         match &self.text {
             PageText::Written(text) => split_line(*text).1,
-            PageText::Made(page) => page.behind,
+            PageText::Made(page) => page.following,
         }
     }
 }
@@ -125,7 +125,7 @@ impl KnownPage<'_> {
     pub fn bytes_left(&self) -> usize {
         match &self.text {
             PageText::Written(text) => text.len(),
-            PageText::Made(page) => page.behind.len(),
+            PageText::Made(page) => page.following.len(),
         }
     }
 
@@ -133,7 +133,7 @@ impl KnownPage<'_> {
     pub fn read_ahead(&self) -> u64 {
         let bytes = match &self.text {
             PageText::Written(text) => text.as_bytes(),
-            PageText::Made(page) => page.behind.as_bytes(),
+            PageText::Made(page) => page.following.as_bytes(),
         };
         let mut sum: u64 = 0;
         for line in 0..LINES_AHEAD {
@@ -147,12 +147,16 @@ impl KnownPage<'_> {
     /// Returns about how many bytes the page has, up to the next page or, if there is none, to the end.
     pub fn bytes_before(&self, next: Option<&KnownPage<'_>>) -> usize {
         let left = self.bytes_left();
-        let behind = match next {
+        let following = match next {
             Some(next) => next.bytes_left(),
             None => 0,
         };
         // The next page may be in other bytes.
-        if behind < left { left - behind } else { left }
+        if following < left {
+            left - following
+        } else {
+            left
+        }
     }
 
     /// Returns the host of the page's URL, with the port.

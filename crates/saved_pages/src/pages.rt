@@ -167,7 +167,7 @@ impl<'a> Pages<'a> {
     }
 
     /// Returns the index of the first page after the first `bytes` of these bytes.
-    pub fn index_behind(&self, bytes: usize) -> usize {
+    pub fn index_after(&self, bytes: usize) -> usize {
         let left = self.bytes().saturating_sub(bytes);
         self.list.partition_point(|page| page.bytes_left() > left)
     }

@@ -1,6 +1,6 @@
 -- The saved web of pages has at each URL the page that these have.
 use Rattle.saved_site.proofs.Prelude.{◌≡◌, ℕ, true, List, [], ◌∷◌, ◌++◌, Option, Some, None, codes, refl, ap, ◌∙◌, arith, false, flat_map, lines, and_parts, cases_Bool, cond-true, cond-false, Line, under_page, page_in, web_text, fits_under, fits, all_fit, SitePage, Under, Links, Moved, bytes_eq-Decides, is_below}
-use Rattle.saved_pages.specs.SavedWeb.{lines_behind, put_link, link_texts, put_moved, moved_text, page_with, page_behind, page_of}
+use Rattle.saved_pages.specs.SavedWeb.{lines_after, put_link, link_texts, put_moved, moved_text, page_with, page_after, page_of}
 use Rattle.saved_site.proofs.Says as lemma
 use Rattle.saved_site.proofs.Sound.{AllPages, links, under_lines, page_lines, at_page, at_header, web_cut}
 use Rattle.crawl_pages.specs.declared.page.Page.TheVariants as page
@@ -30,7 +30,7 @@ links_texts (text ∷ more) pages fit all =
     ap (λ (said : Line (List ℕ)). put_link said (link_texts (links more ++ flat_map page_lines pages))) (lemma.says_link text both.0).of_line
     ∙ ap (λ (ts : List (List ℕ)). text ∷ ts) (links_texts more pages both.1 all)
 
-under_is : (under : Under) (pages : List SitePage) (url : List ℕ) → fits_under under ≡ true → AllPages pages → page_behind url (Some (under_lines under ++ flat_map page_lines pages)) ≡ under_page url under
+under_is : (under : Under) (pages : List SitePage) (url : List ℕ) → fits_under under ≡ true → AllPages pages → page_after url (Some (under_lines under ++ flat_map page_lines pages)) ≡ under_page url under
 under_is (Links texts) pages url fit all =
     ap (λ (o : Option (List ℕ)). page_with url o (link_texts (links texts ++ flat_map page_lines pages))) (links_no_move texts pages fit all)
     ∙ ap (λ (ts : List (List ℕ)). page_with url None ts) (links_texts texts pages fit all)
@@ -40,16 +40,16 @@ under_is (Moved text) pages url fit all =
 
 -- ---- no page begins under another
 
-links_skipped : (texts : List (List ℕ)) (rest : List (List ℕ)) (url : List ℕ) → all_fit texts ≡ true → lines_behind (links texts ++ rest) url ≡ lines_behind rest url
+links_skipped : (texts : List (List ℕ)) (rest : List (List ℕ)) (url : List ℕ) → all_fit texts ≡ true → lines_after (links texts ++ rest) url ≡ lines_after rest url
 links_skipped [] rest url fit = refl
 links_skipped (text ∷ more) rest url fit = grind (arith, and_parts, cond-false, links, links_skipped more rest url)
 
-under_skipped : (under : Under) (rest : List (List ℕ)) (url : List ℕ) → fits_under under ≡ true → lines_behind (under_lines under ++ rest) url ≡ lines_behind rest url
+under_skipped : (under : Under) (rest : List (List ℕ)) (url : List ℕ) → fits_under under ≡ true → lines_after (under_lines under ++ rest) url ≡ lines_after rest url
 under_skipped under rest url fit = grind (arith, links_skipped, cond-false)
 
 -- ---- all pages
 
-pages_at : (pages : List SitePage) (url : List ℕ) → AllPages pages → page_behind url (lines_behind (flat_map page_lines pages) url) ≡ page_in pages url
+pages_at : (pages : List SitePage) (url : List ℕ) → AllPages pages → page_after url (lines_after (flat_map page_lines pages) url) ≡ page_in pages url
 pages_at [] url all = refl
 pages_at (page ∷ more) url all = grind (arith, under_lines, page_lines, cases_Bool, cond-true, at_page, under_is, cond-false, under_skipped, pages_at more url all.1)
 

@@ -93,5 +93,5 @@ pub known_still : (base : List ℕ) (old new : List (List ℕ)) (known : List Te
 known_still base old new known keep are = grind arith
 
 -- what is known of a folder holds on each of its pages
-pub known_beside : (last page : List ℕ) (urls : List (List ℕ)) (known : List TextIndex) → ((text : List ℕ) → is_of_folder text ≡ true → resolve last text ≡ resolve page text) → AreOfFolder known → AreKnown last urls known → AreKnown page urls known
-known_beside last page urls known same folder are = grind arith
+pub known_in_folder : (last page : List ℕ) (urls : List (List ℕ)) (known : List TextIndex) → ((text : List ℕ) → is_of_folder text ≡ true → resolve last text ≡ resolve page text) → AreOfFolder known → AreKnown last urls known → AreKnown page urls known
+known_in_folder last page urls known same folder are = grind arith

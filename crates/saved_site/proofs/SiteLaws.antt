@@ -11,7 +11,7 @@ use Rattle.saved_pages.specs.SavedWeb.{page_of}
 use Rattle.saved_site.proofs.Threads.{at_with}
 use Rattle.saved_site.specs.AllPages.{IsWebOf, has_at}
 use Rattle.saved_site.specs.Served.{IsServedAt, IsServedPage}
-use Rattle.saved_site.specs.TaskPages.{Answer, Own, Alias, Redirect, IsAnswered, IsReadPage, answer_at}
+use Rattle.saved_site.specs.TaskPages.{PageKind, Own, Alias, Redirect, IsPageOfKind, IsReadPage, kind_at}
 use Rattle.site_files.specs.Files.{page_of as file_page, pages_of, url_of}
 use Rattle.site_files.specs.Entries.{response_of}
 use Rattle.site_files.specs.Pages.{Missing}
@@ -28,7 +28,7 @@ read_url : (files : SiteFiles) (url : List ℕ) (kind : FileKind) (found : Optio
 read_url files url kind None page is = is.0
 read_url files url kind (Some body) page is = is.is.0
 
-answered_url : (files : SiteFiles) (reads : ℕ → Option (List ℕ) → Type 0) (number : ℕ) (url : List ℕ) (answer : Answer) (page : SitePage) → IsAnswered files reads number url answer page → page.url ≡ url
+answered_url : (files : SiteFiles) (reads : ℕ → Option (List ℕ) → Type 0) (number : ℕ) (url : List ℕ) (page_kind : PageKind) (page : SitePage) → IsPageOfKind files reads number url page_kind page → page.url ≡ url
 answered_url files reads number url (Own None) page is = is.0
 answered_url files reads number url (Own (Some file)) page is = read_url files url file.kind is.found page is.is
 answered_url files reads number url (Alias own) page is = is.0
@@ -43,7 +43,7 @@ some_response (source.Moved url) is = cc
 returned : (files : SiteFiles) (reads : ℕ → Option (List ℕ) → Type 0) (url : List ℕ) (found : Page) → IsServedAt (IsServedPage files reads) url found → served_at files url ≡ Missing → ⊥
 returned files reads url found at missing =
     ∥∥₁_elim at.served (λ no _. absurd no) (λ (own : IsServedPage files reads at.page).
-    let same : own.url ≡ url = sym (answered_url files reads own.number own.url (answer_at files own.number own.url) at.page own.is) ∙ at.own in
+    let same : own.url ≡ url = sym (answered_url files reads own.number own.url (kind_at files own.number own.url) at.page own.is) ∙ at.own in
     some_response own.served.entry.source (own.served.returns ∙ ap (served_at files) same ∙ missing))
 
 nothing_found : (files : SiteFiles) (reads : ℕ → Option (List ℕ) → Type 0) (url : List ℕ) (found : Option Page) → IfSome found (IsServedAt (IsServedPage files reads) url) → served_at files url ≡ Missing → unwrap_or found page.Missing ≡ page.Missing

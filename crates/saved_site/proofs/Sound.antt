@@ -4,9 +4,9 @@ use Rattle.std.specs.Result.{result_ok}
 use Rattle.std.proofs.lemmas.List.Folds.{list_any-append}
 use Rattle.crawl_keys.specs.declared.error.KeyError.{KeyError}
 use Rattle.saved_pages.proofs.WebLines.{under_more}
-use Rattle.text_lines.specs.LeastFault.{SoundAfter}
-use Rattle.saved_pages.specs.WebFaults.{is_second, under_last_page, before, fault_after, IsSound}
-use Rattle.saved_pages.specs.WebChecks.{page_fault, under_fault, said_fault, text_fault}
+use Rattle.text_lines.specs.LeastError.{SoundAfter}
+use Rattle.saved_pages.specs.WebErrors.{is_second, under_last_page, before, error_after, IsSound}
+use Rattle.saved_pages.specs.WebChecks.{page_error, under_error, content_error, text_error}
 use Rattle.saved_pages.specs.declared.error.WebError.{WebError}
 use Rattle.saved_pages.specs.declared.error.WebError.TheVariants as wrong
 use Rattle.saved_pages.specs.declared.line.Line.TheVariants as line_says
@@ -58,14 +58,14 @@ web_cut pages all = grind (arith, first_line, pages_cut)
 -- ---- one line
 
 -- a line after others fails what it says
-said_of : (earlier : List (List ℕ)) (line : List ℕ) (said : Line (List ℕ)) → 0 < length earlier → Says line said → fault_after earlier line ≡ said_fault (before earlier) said
+said_of : (earlier : List (List ℕ)) (line : List ℕ) (said : Line (List ℕ)) → 0 < length earlier → Says line said → error_after earlier line ≡ content_error (before earlier) said
 said_of earlier line said some is = grind (arith, cond-false)
 
-passes : (number : ℕ) (some mixed : Bool) → some ≡ true → mixed ≡ false → under_fault number some mixed ≡ None
+passes : (number : ℕ) (some mixed : Bool) → some ≡ true → mixed ≡ false → under_error number some mixed ≡ None
 passes number some mixed page free = grind arith
 
-page_passes : (b : Bool) (fault : WebError) → b ≡ false → (if b then Some fault else None) ≡ None
-page_passes b fault new = cond-false b (Some fault) None new
+page_passes : (b : Bool) (error : WebError) → b ≡ false → (if b then Some error else None) ≡ None
+page_passes b error new = cond-false b (Some error) None new
 
 -- ---- the lines under a page
 
@@ -78,7 +78,7 @@ record OnPage (earlier : List (List ℕ)) : Type 0 where
 on_page_link : (earlier : List (List ℕ)) (text : List ℕ) → fits 5 text ≡ true → OnPage earlier → OnPage (earlier ++ (codes "link " ++ text) ∷ [])
 on_page_link earlier text fit on = grind (arith, length-append, under_more, cond-false, list_any-append)
 
-links_sound : (earlier : List (List ℕ)) (texts : List (List ℕ)) → all_fit texts ≡ true → OnPage earlier → SoundAfter fault_after earlier (links texts)
+links_sound : (earlier : List (List ℕ)) (texts : List (List ℕ)) → all_fit texts ≡ true → OnPage earlier → SoundAfter error_after earlier (links texts)
 links_sound earlier [] fit on = tt
 links_sound earlier (text ∷ more) fit on =
     let both = and_parts (fits 5 text) (all_fit more) fit in
@@ -99,8 +99,8 @@ record UpTo (earlier : List (List ℕ)) (last : List ℕ) : Type 0 where
 second_push : (earlier more : List (List ℕ)) → 0 < length earlier → is_second earlier ≡ true → is_second (earlier ++ more) ≡ true
 second_push earlier more some second = grind arith
 
-moved_passes : (number : ℕ) (second some link moved : Bool) (fault : WebError) → second ≡ true → some ≡ true → link ≡ false → moved ≡ false → (if second then under_fault number some (link || moved) else Some fault) ≡ None
-moved_passes number second some link moved fault is page no_link no_move = grind (arith, cond-true, or_from)
+moved_passes : (number : ℕ) (second some link moved : Bool) (error : WebError) → second ≡ true → some ≡ true → link ≡ false → moved ≡ false → (if second then under_error number some (link || moved) else Some error) ≡ None
+moved_passes number second some link moved error is page no_link no_move = grind (arith, cond-true, or_from)
 
 page_there : (earlier : List (List ℕ)) (page : List ℕ) → is_page page ≡ true → list_any is_page (earlier ++ page ∷ []) ≡ true
 page_there earlier page is = grind (arith, list_any-append)
@@ -108,7 +108,7 @@ page_there earlier page is = grind (arith, list_any-append)
 under_none : (earlier : List (List ℕ)) (page : List ℕ) → is_page page ≡ true → under_last_page (earlier ++ page ∷ []) ≡ []
 under_none earlier page is = grind (arith, under_more, cond-true)
 
-under_sound : (earlier : List (List ℕ)) (page : List ℕ) (under : Under) → is_second (earlier ++ page ∷ []) ≡ true → is_page page ≡ true → fits_under under ≡ true → SoundAfter fault_after (earlier ++ page ∷ []) (under_lines under)
+under_sound : (earlier : List (List ℕ)) (page : List ℕ) (under : Under) → is_second (earlier ++ page ∷ []) ≡ true → is_page page ≡ true → fits_under under ≡ true → SoundAfter error_after (earlier ++ page ∷ []) (under_lines under)
 under_sound earlier page (Links texts) second is fit =
     links_sound (earlier ++ page ∷ []) texts fit (record {
       some = omega (arith, length-append earlier (page ∷ []));
@@ -160,30 +160,30 @@ is_page_line : (page : SitePage) → IsPage page → is_page (codes "page " ++ p
 is_page_line page is = ap says_page (lemma.says_page page.url is.fit).of_line
 
 -- the page's own line passes
-own_passes : (earlier : List (List ℕ)) (last : List ℕ) (page : SitePage) → IsPage page → is_after last page.url ≡ true → UpTo earlier last → fault_after earlier (codes "page " ++ page.url) ≡ None
+own_passes : (earlier : List (List ℕ)) (last : List ℕ) (page : SitePage) → IsPage page → is_after last page.url ≡ true → UpTo earlier last → error_after earlier (codes "page " ++ page.url) ≡ None
 own_passes earlier last page is after to =
     said_of earlier (codes "page " ++ page.url) (line_says.Page page.url) to.some (lemma.says_page page.url is.fit)
-    ∙ ap (page_fault (length earlier + 1) (λ (url : List ℕ). list_any (is_page_at url) earlier)) is.own
+    ∙ ap (page_error (length earlier + 1) (λ (url : List ℕ). list_any (is_page_at url) earlier)) is.own
     ∙ page_passes (list_any (is_page_at page.url) earlier) (wrong.PageTwice (length earlier + 1)) (to.known page.url after)
 
-sound_join : (earlier xs ys : List (List ℕ)) → SoundAfter fault_after earlier xs → SoundAfter fault_after (earlier ++ xs) ys → SoundAfter fault_after earlier (xs ++ ys)
+sound_join : (earlier xs ys : List (List ℕ)) → SoundAfter error_after earlier xs → SoundAfter error_after (earlier ++ xs) ys → SoundAfter error_after earlier (xs ++ ys)
 sound_join earlier [] ys front back =
-    let P : List (List ℕ) → Type 0 = λ e. SoundAfter fault_after e ys in subst P (append-nil earlier) back
+    let P : List (List ℕ) → Type 0 = λ e. SoundAfter error_after e ys in subst P (append-nil earlier) back
 sound_join earlier (x ∷ xs) ys front back =
-    let P : List (List ℕ) → Type 0 = λ e. SoundAfter fault_after e ys in
+    let P : List (List ℕ) → Type 0 = λ e. SoundAfter error_after e ys in
     (front.0, sound_join (earlier ++ x ∷ []) xs ys front.1 (subst P (sym (append_assoc earlier (x ∷ []) xs)) back))
 
-page_sound : (earlier : List (List ℕ)) (last : List ℕ) (page : SitePage) → IsPage page → is_after last page.url ≡ true → UpTo earlier last → SoundAfter fault_after earlier (page_lines page)
+page_sound : (earlier : List (List ℕ)) (last : List ℕ) (page : SitePage) → IsPage page → is_after last page.url ≡ true → UpTo earlier last → SoundAfter error_after earlier (page_lines page)
 page_sound earlier last page is after to = grind (arith, own_passes, under_sound, second_push, is_page_line)
 
-pages_sound : (earlier : List (List ℕ)) (last : List ℕ) (pages : List SitePage) → AllPages pages → AscendsAfter last pages → UpTo earlier last → SoundAfter fault_after earlier (flat_map page_lines pages)
+pages_sound : (earlier : List (List ℕ)) (last : List ℕ) (pages : List SitePage) → AllPages pages → AscendsAfter last pages → UpTo earlier last → SoundAfter error_after earlier (flat_map page_lines pages)
 pages_sound earlier last [] all up to = tt
 pages_sound earlier last (page ∷ more) all up to =
     sound_join earlier (page_lines page) (flat_map page_lines more) (page_sound earlier last page all.0 up.0 to)
     (pages_sound (earlier ++ page_lines page) page.url more all.1 up.1 (up_to_page earlier last page all.0 up.0 to))
 
-header_sound : fault_after [] (codes "savedweb 2") ≡ None
-header_sound = ap (text_fault (before [])) (lemma.says_header.reads 1)
+header_sound : error_after [] (codes "savedweb 2") ≡ None
+header_sound = ap (text_error (before [])) (lemma.says_header.reads 1)
 
 -- the first line is no page
 pub at_header : (url : List ℕ) → is_page_at url (codes "savedweb 2") ≡ false

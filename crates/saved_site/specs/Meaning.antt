@@ -2,7 +2,7 @@
 use Rattle.std.specs.Prelude.{◌≡◌, ℕ, List, [], ◌∷◌, if◌then◌else◌, bytes_eq}
 use Rattle.std.specs.Str.Lines.{lines}
 use Rattle.saved_pages.specs.SavedWeb.{link_url, found_page, page_of}
-use Rattle.saved_pages.specs.WebFaults.{IsSound}
+use Rattle.saved_pages.specs.WebErrors.{IsSound}
 use Rattle.crawl_pages.specs.declared.page.Page.{Page}
 use Rattle.crawl_pages.specs.declared.page.Page.TheVariants as page
 use Rattle.site_files.specs.declared.error.SiteError.{SiteError}

@@ -14,31 +14,31 @@ use Rattle.saved_site.specs.declared.task.Response.TheVariants as response
 
 -- ---- what is returned
 
-pub data Answer : Type 0 where
-  Own : Option Document → Answer  -- a file at its own URL, if its links are read
-  Alias : List ℕ → Answer  -- a file whose own URL is this one
-  Redirect : List ℕ → Answer  -- a redirect to this URL
+pub data PageKind : Type 0 where
+  Own : Option Document → PageKind  -- a file at its own URL, if its links are read
+  Alias : List ℕ → PageKind  -- a file whose own URL is this one
+  Redirect : List ℕ → PageKind  -- a redirect to this URL
 
 -- a file with this own URL, at a URL
-abbrev pub file_answer : List ℕ → Option Document → Option (List ℕ) → Answer
-file_answer url document None = Own document
-file_answer url document (Some own) = if bytes_eq own url then Own document else Alias own
+abbrev pub file_kind : List ℕ → Option Document → Option (List ℕ) → PageKind
+file_kind url document None = Own document
+file_kind url document (Some own) = if bytes_eq own url then Own document else Alias own
 
-abbrev pub answer_with : Answer → Option (List ℕ) → Answer
-answer_with file None = file
-answer_with file (Some target) = Redirect target
+abbrev pub kind_with : PageKind → Option (List ℕ) → PageKind
+kind_with file None = file
+kind_with file (Some target) = Redirect target
 
 -- the page with this number, at a URL
-abbrev pub answer_at : SiteFiles → ℕ → List ℕ → Answer
-answer_at files number url = answer_with (file_answer url (document_at files number) (own_url_at files number)) (moved_to files number)
+abbrev pub kind_at : SiteFiles → ℕ → List ℕ → PageKind
+kind_at files number url = kind_with (file_kind url (document_at files number) (own_url_at files number)) (moved_to files number)
 
 abbrev pub file_of : SiteFile → Document
 file_of file = site_file file.index file.kind file.name.now
 
-abbrev pub answer_of : Response → Answer
-answer_of (response.Own file) = Own (option_map file_of file)
-answer_of (response.Alias own) = Alias own.now
-answer_of (response.Moved target) = Redirect target.now
+abbrev pub kind_of : Response → PageKind
+kind_of (response.Own file) = Own (option_map file_of file)
+kind_of (response.Alias own) = Alias own.now
+kind_of (response.Moved target) = Redirect target.now
 
 -- ---- pages
 
@@ -59,12 +59,12 @@ pub record IsOwnPage (files : SiteFiles) (reads : ℕ → Option (List ℕ) → 
   pub is : IsReadPage files url file.kind found page
 
 -- the page at a URL for which the server returns this
-abbrev pub IsAnswered : SiteFiles → (ℕ → Option (List ℕ) → Type 0) → ℕ → List ℕ → Answer → SitePage → Type 0
-IsAnswered files reads number url (Own None) page = IsPageOf url (Links []) page
-IsAnswered files reads number url (Own (Some file)) page = IsOwnPage files reads url file page
-IsAnswered files reads number url (Alias own) page = IsPageOf url (Links (link_to (text_to files own))) page
-IsAnswered files reads number url (Redirect target) page = IsPageOf url (redirect_to (text_to files (target_at files number url target))) page
+abbrev pub IsPageOfKind : SiteFiles → (ℕ → Option (List ℕ) → Type 0) → ℕ → List ℕ → PageKind → SitePage → Type 0
+IsPageOfKind files reads number url (Own None) page = IsPageOf url (Links []) page
+IsPageOfKind files reads number url (Own (Some file)) page = IsOwnPage files reads url file page
+IsPageOfKind files reads number url (Alias own) page = IsPageOf url (Links (link_to (text_to files own))) page
+IsPageOfKind files reads number url (Redirect target) page = IsPageOf url (redirect_to (text_to files (target_at files number url target))) page
 
 -- the page at a URL for which the server returns the page with this number
 abbrev pub IsTaskPage : SiteFiles → (ℕ → Option (List ℕ) → Type 0) → ℕ → List ℕ → SitePage → Type 0
-IsTaskPage files reads number url page = IsAnswered files reads number url (answer_at files number url) page
+IsTaskPage files reads number url page = IsPageOfKind files reads number url (kind_at files number url) page

@@ -2,7 +2,7 @@
 ghost use Rattle.std.specs.Prelude.{◌≡◌, true, IfOk};
 ghost use Rattle.site_files.specs.Entries.{HasResponse};
 ghost use Rattle.site_files.specs.Serving.{served_at};
-ghost use Rattle.saved_site.specs.TaskPages.{answer_at, answer_of};
+ghost use Rattle.saved_site.specs.TaskPages.{kind_at, kind_of};
 
 use crawl_keys::CanonUrl;
 use site_files::{SiteFile, SiteFiles};
@@ -40,7 +40,7 @@ impl Task {
 
     /// What a server returns for the URL of the page.
     pub(crate) fn response<'a>(&self, files: &'a SiteFiles<'_>) -> Response<'a>
-        ensures { answer_of result ≡ answer_at files.now self.now.entry self.now.url }
+        ensures { kind_of result ≡ kind_at files.now self.now.entry self.now.url }
     {
         if let Some(target) = files.moved_to(self.entry) {
             return Response::Moved(target);

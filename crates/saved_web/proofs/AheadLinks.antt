@@ -56,5 +56,5 @@ chunk_there web chunks k o is all = by_item o (item_at chunks k o is)
 shown_with : (pages : List PageRead) (url : List ℕ) (o : Option PageRead) → page_with pages url ≡ o → shown_page o ≡ known_page pages url
 shown_with pages url o is = grind (arith, with_url)
 
-pub known_there : (pages : List PageRead) (url : List ℕ) (index : ℕ) (told : Option Page) → slice_get pages index ≡ page_with pages url → IfSome told (λ page. page ≡ shown_page (slice_get pages index)) → IfSome told (λ page. page ≡ known_page pages url)
-known_there pages url index told at is = grind (arith, shown_with)
+pub known_there : (pages : List PageRead) (url : List ℕ) (index : ℕ) (error : Option Page) → slice_get pages index ≡ page_with pages url → IfSome error (λ page. page ≡ shown_page (slice_get pages index)) → IfSome error (λ page. page ≡ known_page pages url)
+known_there pages url index error at is = grind (arith, shown_with)

@@ -54,4 +54,4 @@ none_with_more list i page others below is before here url there = grind (arith,
 
 -- two halves of a list
 pub none_in_halves : (list front back others : List PageRead) (first second : Bool) → front ++ back ≡ list → (first ≡ false → (url : List ℕ) → has front url ≡ true → has others url ≡ false) → (second ≡ false → (url : List ℕ) → has back url ≡ true → has others url ≡ false) → (first || second) ≡ false → (url : List ℕ) → has list url ≡ true → has others url ≡ false
-none_in_halves list front back others first second whole before behind none url there = grind (arith, has-append, or_parts)
+none_in_halves list front back others first second whole before following none url there = grind (arith, has-append, or_parts)

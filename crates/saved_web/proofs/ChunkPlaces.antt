@@ -4,9 +4,9 @@ use Rattle.std.specs.Borrow.{Bor}
 use Rattle.saved_web.proofs.ChunkPages.{found_chunk}
 
 -- an element after the first list is one of the second
-get_behind : {X : Type 0} (xs ys : List X) (k : ℕ) → slice_get (xs ++ ys) (length xs + k) ≡ slice_get ys k
-get_behind [] ys k = let e : 0 + k ≡ k = omega arith in ap (slice_get ys) e
-get_behind (x ∷ xs) ys k = let e : suc (length xs) + k ≡ suc (length xs + k) = omega arith in ap (slice_get (x ∷ xs ++ ys)) e ∙ get_behind xs ys k
+get_after : {X : Type 0} (xs ys : List X) (k : ℕ) → slice_get (xs ++ ys) (length xs + k) ≡ slice_get ys k
+get_after [] ys k = let e : 0 + k ≡ k = omega arith in ap (slice_get ys) e
+get_after (x ∷ xs) ys k = let e : suc (length xs) + k ≡ suc (length xs + k) = omega arith in ap (slice_get (x ∷ xs ++ ys)) e ∙ get_after xs ys k
 
 -- the pages of the chunks from the i-th on
 abbrev pub from_chunk : List (List PageRead) → ℕ → List PageRead
@@ -17,7 +17,7 @@ at_chunk chunks i chunk below is = grind (arith, drop_more)
 
 -- counted from the start of a chunk, an index after the chunk is larger by the number of the chunk's pages
 pub passed_place : (chunks : List (List PageRead)) (i : ℕ) (chunk : List PageRead) (k : ℕ) → i < length chunks → chunk ≡ get_or chunks i chunk → slice_get (from_chunk chunks (i + 1)) k ≡ slice_get (from_chunk chunks i) (length chunk + k)
-passed_place chunks i chunk k below is = grind (arith, nat_tests, common_steps, at_chunk, get_behind)
+passed_place chunks i chunk k below is = grind (arith, nat_tests, common_steps, at_chunk, get_after)
 
 pub found_place : (chunks : List (List PageRead)) (i : ℕ) (chunk : List PageRead) (k : ℕ) (page : PageRead) → i < length chunks → chunk ≡ get_or chunks i chunk → slice_get chunk k ≡ Some page → slice_get (from_chunk chunks i) k ≡ Some page
 found_place chunks i chunk k page below is at = grind (arith, nat_tests, common_steps, at_chunk, get_front)
@@ -27,7 +27,7 @@ pub found_index : (chunks : List (List PageRead)) (i : ℕ) (chunk : List PageRe
 found_index chunks i chunk url k below is found =
     let named : slice_get (urls chunk) k ≡ Some url = found_at (urls chunk) url k (sym found) in
     let within : k < length chunk = subst (λ n. k < n) (length-map chunk (λ (page : PageRead). page.url)) (slice_get_within (urls chunk) k url named) in
-    let none : PageRead = record { url = []; behind = [] } in
+    let none : PageRead = record { url = []; following = [] } in
     let at : slice_get chunk k ≡ Some (get_or chunk k none) = slice_get-get_or chunk k none within in
     found_place chunks i chunk k (get_or chunk k none) below is at ∙ sym (found_chunk chunks i chunk url (get_or chunk k none) below is (page_there chunk url k found ∙ at))
 
@@ -45,5 +45,5 @@ passed_index chunks all i before next chunk below is sum at k =
 pub passed_rest : (chunks : List (List PageRead)) (shown : Option PageRead) (i k left : ℕ) (chunk : List PageRead) → i < length chunks → chunk ≡ get_or chunks i chunk → length chunk + left ≡ k → slice_get (from_chunk chunks i) k ≡ shown → slice_get (from_chunk chunks (i + 1)) left ≡ shown
 passed_rest chunks shown i k left chunk below is sum at = grind (arith, passed_place)
 
-pub summed_index : (all : List PageRead) (shown : Option PageRead) (told : Option ℕ) (P : Type 0) (sum : ℕ) → SomeIff told P sum → slice_get all sum ≡ shown → IfSome told (λ index. slice_get all index ≡ shown)
-summed_index all shown told P sum is at = grind arith
+pub summed_index : (all : List PageRead) (shown : Option PageRead) (error : Option ℕ) (P : Type 0) (sum : ℕ) → SomeIff error P sum → slice_get all sum ≡ shown → IfSome error (λ index. slice_get all index ≡ shown)
+summed_index all shown error P sum is at = grind arith

@@ -24,8 +24,8 @@ contains_at known text k d found =
 -- ---- links of pages
 
 -- what is known for a folder is true on each of its pages
-pub on_page_beside : (last page : List ℕ) (known : List TextLink) → ((text : List ℕ) → is_of_folder text ≡ true → resolve last text ≡ resolve page text) → AreOfFolder known → AreLinks last known → AreLinks page known
-on_page_beside last page known same folder links = grind arith
+pub on_page_of_folder : (last page : List ℕ) (known : List TextLink) → ((text : List ℕ) → is_of_folder text ≡ true → resolve last text ≡ resolve page text) → AreOfFolder known → AreLinks last known → AreLinks page known
+on_page_of_folder last page known same folder links = grind arith
 
 -- a link that was pushed is the next of those that remain
 pub pushed_next : (url : List ℕ) (links : List (List ℕ)) (text link : List ℕ) (more all : List (List ℕ)) → Some link ≡ link_url url text → links ++ filter_map (link_url url) (text ∷ more) ≡ all → (links ++ link ∷ []) ++ filter_map (link_url url) more ≡ all

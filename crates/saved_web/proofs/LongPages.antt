@@ -1,5 +1,5 @@
 -- The links of two chunks of a page, joined.
-use Rattle.saved_web.proofs.Prelude.{◌≡◌, ℕ, ◌+◌, Bool, true, false, cond, List, [], ◌∷◌, ◌++◌, Option, Some, None, IfSome, refl, ap, ◌∙◌, count_by, list_any, or_parts, filter_map-append, sum_by-append, AreFound, put_link, link_texts, moved_text, found_page, page_behind, Page, line_of, says_page, is_page, Line}
+use Rattle.saved_web.proofs.Prelude.{◌≡◌, ℕ, ◌+◌, Bool, true, false, cond, List, [], ◌∷◌, ◌++◌, Option, Some, None, IfSome, refl, ap, ◌∙◌, count_by, list_any, or_parts, filter_map-append, sum_by-append, AreFound, put_link, link_texts, moved_text, found_page, page_after, Page, line_of, says_page, is_page, Line}
 use native.Mathlib.Omega.{arith}
 use Rattle.saved_web.proofs.JoinedChunks.{links_end}
 use Rattle.saved_web.specs.declared.long.LinksFound.{LinksFound}
@@ -29,5 +29,5 @@ pub page_begins : {all more : List (List ℕ)} (line : List ℕ) → all ≡ lin
 page_begins {all} {more} line first page = ap link_texts first ∙ no_links (line_of line) (link_texts more) page
 
 -- the page of all lines, if the lines after the first ones begin with another page
-pub whole_page : (url : List ℕ) (all own after : List (List ℕ)) (told : Option Page) → all ≡ own ++ after → link_texts after ≡ [] → None ≡ moved_text all → IfSome told (λ page. page ≡ found_page url (link_texts own)) → IfSome told (λ page. page ≡ page_behind url (Some all))
-whole_page url all own after told split none moved is = grind (arith, links_end)
+pub whole_page : (url : List ℕ) (all own after : List (List ℕ)) (error : Option Page) → all ≡ own ++ after → link_texts after ≡ [] → None ≡ moved_text all → IfSome error (λ page. page ≡ found_page url (link_texts own)) → IfSome error (λ page. page ≡ page_after url (Some all))
+whole_page url all own after error split none moved is = grind (arith, links_end)

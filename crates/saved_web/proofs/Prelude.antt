@@ -7,18 +7,18 @@ pub use Rattle.saved_pages.proofs.PageIndex.{no_page, page_there, with_url}
 pub use Rattle.saved_pages.proofs.UrlIndices.{get_front, lead_still}
 pub use Rattle.saved_pages.proofs.WebLines.{under_more}
 pub use Rattle.saved_pages.specs.PageLists.{PageRead, has, page_with, urls}
-pub use Rattle.saved_pages.specs.SavedWeb.{found_page, link_texts, link_url, moved_text, page_behind, page_of, page_urls, put_link}
+pub use Rattle.saved_pages.specs.SavedWeb.{found_page, link_texts, link_url, moved_text, page_after, page_of, page_urls, put_link}
 pub use Rattle.saved_pages.specs.UrlIndices.{KeepIndices, LeadTo}
-pub use Rattle.saved_pages.specs.WebChecks.{Before, checked, line_fault, page_fault, said_fault, text_fault, under_fault}
-pub use Rattle.saved_pages.specs.WebFaults.{IsSound, IsWebFault, IsWebRefusal, before, fault_after, is_second, under_last_page}
+pub use Rattle.saved_pages.specs.WebChecks.{Before, checked, line_error, page_error, content_error, text_error, under_error}
+pub use Rattle.saved_pages.specs.WebErrors.{IsSound, IsWebError, IsWebRefusal, before, error_after, is_second, under_last_page}
 pub use Rattle.saved_pages.specs.WebLines.{is_link, is_moved_line, is_page, is_page_at, line_of, line_of_text, page_url, says_link, says_moved, says_page, url_said}
 pub use Rattle.saved_pages.specs.declared.error.WebError.{WebError}
 pub use Rattle.saved_pages.specs.declared.line.Line.{Line}
 pub use Rattle.saved_web.specs.Ahead.{AreAhead, IsAhead, shown_page}
 pub use Rattle.saved_web.specs.KnownLinks.{AreLinks, AreOfFolder, TextLink}
-pub use Rattle.saved_web.specs.KnownPages.{KnownPages, known_behind, known_page}
+pub use Rattle.saved_web.specs.KnownPages.{KnownPages, known_after, known_page}
 pub use Rattle.saved_web.specs.LongPages.{AreFound}
-pub use Rattle.saved_web.specs.Reading.{AllFound, AreRead, AreReadBehind, FoundTo, IsHeader, ReadTo}
+pub use Rattle.saved_web.specs.Reading.{AllFound, AreRead, AreReadAfter, FoundTo, IsHeader, ReadTo}
 pub use Rattle.saved_web.specs.declared.ahead.chunk.PageAhead.{PageAhead}
 pub use Rattle.std.proofs.Common.{Bool, Err, IfErr, IfOk, IfSome, List, None, Ok, Option, Result, Some, SomeIff, [], ap, append-nil, append_assoc, arith, codes, cond, drop, false, get_or, inl, inr, is_some, length, length-append, map, nat_lt, ne_eqb, not, refl, rules, slice_get, subst, suc, sym, take, true, ℕ, ◌++◌, ◌+◌, ◌<◌, ◌==◌, ◌||◌, ◌∙◌, ◌∷◌, ◌≡◌, ◌≤◌}
 pub use Rattle.std.proofs.lemmas.Bool.{cases_Bool, cond-false, cond-true, or_parts, or_right}
@@ -36,8 +36,8 @@ pub use Rattle.std.specs.List.{All, Contains, cons_option, count_by, filter_map,
 pub use Rattle.std.specs.Option.{is_none, option_map, option_map_or, option_or}
 pub use Rattle.std.specs.Str.{IsUtf8, bytes_eq, is_utf8}
 pub use Rattle.std.specs.Str.Lines.{lines}
-pub use Rattle.text_lines.specs.FirstLine.{behind_line}
-pub use Rattle.text_lines.specs.LeastFault.{IsLeastFault, SoundAfter}
+pub use Rattle.text_lines.specs.FirstLine.{after_line}
+pub use Rattle.text_lines.specs.LeastError.{IsLeastError, SoundAfter}
 pub use Rattle.text_lines.specs.declared.lines.LineError.TheVariants.{NotText, TooLong}
 pub use denote.Shadow.{shadow}
 pub use denote.Text.{Utf8}

@@ -3,7 +3,7 @@ use Rattle.std.specs.Prelude.{◌≡◌, ℕ, List, slice_get, Option, Some, Non
 use Rattle.std.specs.Str.Lines.{lines}
 use Rattle.saved_pages.specs.PageLists.{PageRead}
 use Rattle.saved_pages.specs.UrlIndices.{LeadTo}
-use Rattle.saved_pages.specs.SavedWeb.{page_behind}
+use Rattle.saved_pages.specs.SavedWeb.{page_after}
 use Rattle.crawl_pages.specs.declared.page.Page.{Page}
 use Rattle.crawl_pages.specs.declared.page.Page.TheVariants.{Found, Missing}
 use Rattle.saved_web.specs.declared.ahead.chunk.Chunk.{Chunk}
@@ -13,7 +13,7 @@ use Rattle.saved_web.specs.declared.ahead.chunk.PageAhead.{PageAhead}
 -- the page that was read; a missing page if there is none
 abbrev pub shown_page : Option PageRead → Page
 shown_page None = Missing
-shown_page (Some page) = page_behind page.url (Some (lines page.behind))
+shown_page (Some page) = page_after page.url (Some (lines page.following))
 
 -- the page has these links, which are given by the indices of their URLs
 pub record IsAhead (page : Page) (urls : List (List ℕ)) (ahead : LinksAhead) : Type 0 where

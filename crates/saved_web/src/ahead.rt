@@ -104,7 +104,7 @@ fn blocks_of(alloc: Global, web: &WebPages<'_>) -> Result<Vec<usize>, AllocError
     let bytes = web.bytes();
     let mut blocks = Vec::with_capacity(alloc, BLOCKS + 1)?;
     for block in 0..=BLOCKS {
-        blocks.push(web.index_behind(bytes.saturating_mul(block) / BLOCKS))?;
+        blocks.push(web.index_after(bytes.saturating_mul(block) / BLOCKS))?;
     }
     Ok(blocks)
 }

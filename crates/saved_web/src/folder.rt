@@ -44,7 +44,7 @@ impl<'a> Folder<'a> {
     }
 
     /// Returns the folder of the next page. If both pages are in the same folder, the links stay known.
-    #[tactic(auto, using(crate::proofs::KnownLinks::on_page_beside))]
+    #[tactic(auto, using(crate::proofs::KnownLinks::on_page_of_folder))]
     pub fn turn_to(self, alloc: Global, page: Base) -> Folder<'a>
         ensures { result ≡ page }
     {
@@ -53,7 +53,7 @@ impl<'a> Folder<'a> {
             known,
             ..
         } = self;
-        if last.is_beside(&page) {
+        if last.shares_folder(&page) {
             Folder {
                 page,
                 known,

@@ -90,20 +90,20 @@ impl<'a> LinkCache<'a> {
         if !self.worth.is_some() {
             return Folder::new(alloc, page, false);
         }
-        match self.take_beside(hash, &page) {
+        match self.take_of_folder(hash, &page) {
             Some(folder) => folder.turn_to(alloc, page),
             None => Folder::new(alloc, page, self.has_met(hash)),
         }
     }
 
     // Takes the folder out of the slot of this hash, if the page is in it.
-    fn take_beside(&mut self, hash: u64, page: &Base) -> Option<Folder<'a>> {
+    fn take_of_folder(&mut self, hash: u64, page: &Base) -> Option<Folder<'a>> {
         if self.slots.is_empty() {
             return None;
         }
         let slot = slot_of(hash, self.slots.len());
         match &self.slots[slot] {
-            Some(folder) if folder.page().is_beside(page) => {
+            Some(folder) if folder.page().shares_folder(page) => {
                 self.texts = self.texts.saturating_sub(folder.len());
                 self.slots[slot].take()
             }

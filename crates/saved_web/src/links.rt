@@ -2,7 +2,7 @@
 ghost use Rattle.std.specs.Prelude.{◌≡◌, ◌<◌, ℕ, List, ◌∷◌, [], None, Some, length, OnOk, IfOk, IfErr, IfSome, MatchOption, count_by, is_none, filter_map, option_map};
 ghost use Rattle.std.specs.Str.Lines.{lines};
 ghost use Rattle.saved_web.specs.KnownLinks.{AreLinks};
-ghost use Rattle.saved_pages.specs.SavedWeb.{link_texts, link_url, moved_text, found_page, page_behind};
+ghost use Rattle.saved_pages.specs.SavedWeb.{link_texts, link_url, moved_text, found_page, page_after};
 ghost use Rattle.crawl_pages.specs.declared.page.Page.TheVariants.{Moved};
 
 use crate::folder::Folder;
@@ -22,19 +22,19 @@ const FEW_TEXTS: u64 = 8;
 /// A list of at most this number of links is copied, so that it has no unused memory.
 const FEW_LINKS: usize = 1_024;
 
-/// Returns the page with this base. `behind` are the lines after its own line.
-pub fn page_behind<'a>(
+/// Returns the page with this base. `following` are the lines after its own line.
+pub fn page_after<'a>(
     alloc: Global,
     cache: &mut LinkCache<'a>,
     base: Base,
-    behind: &'a str,
+    following: &'a str,
 ) -> Result<Page, FetchError>
-    ensures page { IfOk result (λ page. page ≡ page_behind base (Some (lines behind.now))) }
+    ensures page { IfOk result (λ page. page ≡ page_after base (Some (lines following.now))) }
     ensures refused { IfErr result (λ e. e ≡ FetchError.NoMemory) }
 {
-    match moved_text(behind) {
+    match moved_text(following) {
         Some(text) => moved_page(alloc, &base, text),
-        None => remembering(alloc, cache, base, behind),
+        None => remembering(alloc, cache, base, following),
     }
 }
 
@@ -52,9 +52,9 @@ fn remembering<'a>(
     alloc: Global,
     cache: &mut LinkCache<'a>,
     base: Base,
-    behind: &'a str,
+    following: &'a str,
 ) -> Result<Page, FetchError>
-    ensures page { IfOk result (λ page. page ≡ found_page base (link_texts (lines behind.now))) }
+    ensures page { IfOk result (λ page. page ≡ found_page base (link_texts (lines following.now))) }
     ensures refused { IfErr result (λ e. e ≡ FetchError.NoMemory) }
 {
     let hash = folder_hash(&base);
@@ -65,7 +65,7 @@ fn remembering<'a>(
         &mut folder,
         &mut cache.known,
         &mut cache.links,
-        behind,
+        following,
     )?;
     cache.weigh(&folder, knew, count_of(&page));
     cache.put(alloc, hash, folder);
@@ -86,12 +86,12 @@ fn found_page<'a>(
     folder: &mut Folder<'a>,
     known: &mut KnownLinks<'a>,
     buffer: &mut Vec<CanonUrl>,
-    behind: &'a str,
+    following: &'a str,
 ) -> Result<Page, FetchError>
-    ensures page { IfOk result (λ page. page ≡ found_page folder.old (link_texts (lines behind.now))) }
+    ensures page { IfOk result (λ page. page ≡ found_page folder.old (link_texts (lines following.now))) }
     ensures refused { IfErr result (λ e. e ≡ FetchError.NoMemory) }
 {
-    let skipped = find_links(alloc, folder, known, buffer, behind)?;
+    let skipped = find_links(alloc, folder, known, buffer, following)?;
     let urls = take_links(alloc, buffer)?;
     Ok(Page::Found {
         links: Links::from(urls),
@@ -107,16 +107,16 @@ pub fn find_links<'a>(
     folder: &mut Folder<'a>,
     known: &mut KnownLinks<'a>,
     links: &mut Vec<CanonUrl>,
-    behind: &'a str,
+    following: &'a str,
 ) -> Result<u64, FetchError>
-    ensures links { OnOk result (links.new.items ≡ filter_map (link_url folder.old) (link_texts (lines behind.now))) }
-    ensures skipped { IfOk result (λ skipped. skipped ≡ count_by (λ text. is_none (link_url folder.old text)) (link_texts (lines behind.now))) }
+    ensures links { OnOk result (links.new.items ≡ filter_map (link_url folder.old) (link_texts (lines following.now))) }
+    ensures skipped { IfOk result (λ skipped. skipped ≡ count_by (λ text. is_none (link_url folder.old text)) (link_texts (lines following.now))) }
     ensures refused { IfErr result (λ e. e ≡ FetchError.NoMemory) }
 {
     links.clear();
     known.clear(alloc);
     let mut skipped: u64 = 0;
-    let mut rest = behind;
+    let mut rest = following;
     while let Some((text, more)) = next_link(rest) {
         rest = more;
         let before = skipped.saturating_add(links.len() as u64);
@@ -174,11 +174,11 @@ fn link_on<'a>(
 }
 
 /// Returns the text of the first link before the next page, and the lines after that link.
-fn next_link(behind: &str) -> Option<(&str, &str)>
-    ensures first { MatchOption result (link_texts (lines behind.now) ≡ []) (λ x. link_texts (lines behind.now) ≡ x.0.now ∷ link_texts (lines x.1.now)) }
-    ensures shorter { IfSome result (λ x. length x.1.now < length behind.now) }
+fn next_link(following: &str) -> Option<(&str, &str)>
+    ensures first { MatchOption result (link_texts (lines following.now) ≡ []) (λ x. link_texts (lines following.now) ≡ x.0.now ∷ link_texts (lines x.1.now)) }
+    ensures shorter { IfSome result (λ x. length x.1.now < length following.now) }
 {
-    let mut rest = behind;
+    let mut rest = following;
     while let Some((line, more)) = first_text(rest) {
         rest = more;
         match line_of(line) {
@@ -191,10 +191,10 @@ fn next_link(behind: &str) -> Option<(&str, &str)>
 }
 
 /// Returns the text of the moved line, if there is one before any page or link.
-pub fn moved_text(behind: &str) -> Option<&str>
-    ensures { option_map (λ text. text.now) result ≡ moved_text (lines behind.now) }
+pub fn moved_text(following: &str) -> Option<&str>
+    ensures { option_map (λ text. text.now) result ≡ moved_text (lines following.now) }
 {
-    let mut rest = behind;
+    let mut rest = following;
     while let Some((line, more)) = first_text(rest) {
         rest = more;
         match line_of(line) {

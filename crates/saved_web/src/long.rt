@@ -3,7 +3,7 @@ ghost use Rattle.std.specs.Prelude.{◌≡◌, ◌+◌, ◌++◌, ◌<◌, [], t
 ghost use Rattle.std.specs.List.{list_any};
 ghost use Rattle.std.specs.Str.Lines.{lines};
 ghost use Rattle.saved_web.specs.LongPages.{AreFound};
-ghost use Rattle.saved_pages.specs.SavedWeb.{link_texts, found_page, page_behind};
+ghost use Rattle.saved_pages.specs.SavedWeb.{link_texts, found_page, page_after};
 ghost use Rattle.saved_pages.specs.WebLines.{is_page};
 
 use crate::folder::Folder;
@@ -53,14 +53,14 @@ impl LinksFound {
 
 /// Returns the page at this URL, with the links among the lines after its own, up to the next page or to the end. Threads resolve
 /// them. `None` if the page must be read by one thread.
-pub fn long_page<R: Threads>(rt: &R, alloc: Global, url: &CanonUrl, behind: &str) -> Option<Page>
-    ensures { IfSome result (λ page. page ≡ page_behind url.now (Some (lines behind.now))) }
+pub fn long_page<R: Threads>(rt: &R, alloc: Global, url: &CanonUrl, following: &str) -> Option<Page>
+    ensures { IfSome result (λ page. page ≡ page_after url.now (Some (lines following.now))) }
 {
-    let (own, after) = cut_before_page(behind.as_bytes(), 0);
+    let (own, after) = cut_before_page(following.as_bytes(), 0);
     if !begins_with_page(after) {
         return None;
     }
-    match moved_text(behind) {
+    match moved_text(following) {
         Some(_) => None,
         None => linked_page(rt, alloc, url, own),
     }

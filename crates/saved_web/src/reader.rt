@@ -2,7 +2,7 @@
 ghost use Rattle.std.specs.Prelude.{◌≡◌, ◌≤◌, ℕ, List, [], IfOk, IfErr};
 ghost use Rattle.std.specs.Str.Lines.{lines};
 ghost use Rattle.saved_web.specs.Reading.{FoundTo, AreRead};
-ghost use Rattle.saved_pages.specs.WebFaults.{IsWebRefusal};
+ghost use Rattle.saved_pages.specs.WebErrors.{IsWebRefusal};
 
 use saved_lines::{Above, add_line};
 use saved_pages::{Pages, WebError};
@@ -17,7 +17,7 @@ const LEAST_PAGE: usize = 32;
 
 /// Returns the pages of the lines of this text. `before` is the number of lines before them, and `above` is what their checks need
 /// to know about those lines.
-pub fn pages_behind(
+pub fn pages_after(
     alloc: Global,
     text: &str,
     before: u64,
@@ -26,7 +26,7 @@ pub fn pages_behind(
     requires { before ≤ 1 }
     // This is true of any lines before these, if no page is among them.
     ensures read { IfOk result (λ pages. (all : List (List ℕ)) → FoundTo all (lines text.now) before above [] → AreRead all pages) }
-    ensures fault { IfErr result (λ told. (all : List (List ℕ)) → FoundTo all (lines text.now) before above [] → IsWebRefusal all told) }
+    ensures error { IfErr result (λ error. (all : List (List ℕ)) → FoundTo all (lines text.now) before above [] → IsWebRefusal all error) }
 {
     let mut pages = Pages::new(alloc, likely_pages(text));
     let mut rest = text;

@@ -1,9 +1,9 @@
 //! Reading a saved web in threads: each reads a chunk of its lines, and then the chunks are joined.
 ghost use Rattle.std.specs.Prelude.{◌≡◌, ◌++◌, ◌<◌, ◌≤◌, length, IfSome};
 ghost use Rattle.std.specs.Str.Lines.{lines};
-ghost use Rattle.saved_web.specs.Reading.{AreRead, AreReadBehind, IsHeader};
+ghost use Rattle.saved_web.specs.Reading.{AreRead, AreReadAfter, IsHeader};
 
-use crate::reader::pages_behind;
+use crate::reader::pages_after;
 use crate::web_pages::WebPages;
 use saved_lines::{Above, header};
 use simdutf8::compat::from_utf8;
@@ -60,11 +60,11 @@ pub fn pages_in_threads<'a, R: Threads + Sync>(
     }
     let (line, more) = first_line(bytes)?;
     let second = version(line)?;
-    let behind = LineChunk {
+    let following = LineChunk {
         second,
         bytes: more,
     };
-    pages_of_chunk(rt, alloc, HALVINGS, behind)
+    pages_of_chunk(rt, alloc, HALVINGS, following)
 }
 
 /// Returns whether the header, which is this line, says version 2. `None` if the line is not a header.
@@ -88,7 +88,7 @@ fn pages_of_chunk<'a, R: Threads + Sync>(
     halvings: u32,
     chunk: LineChunk<'a>,
 ) -> Option<WebPages<'a>>
-    ensures { IfSome result (AreReadBehind chunk.entry.second (lines chunk.entry.bytes.now)) }
+    ensures { IfSome result (AreReadAfter chunk.entry.second (lines chunk.entry.bytes.now)) }
 {
     if halvings == 0 {
         return read_chunk(alloc, chunk);
@@ -96,10 +96,10 @@ fn pages_of_chunk<'a, R: Threads + Sync>(
     let fewer = halvings - 1;
     let (front, back) = chunk.halves();
     let of_front = move || -> Option<WebPages<'_>>
-        ensures { IfSome result (AreReadBehind front.entry.second (lines front.entry.bytes.now)) }
+        ensures { IfSome result (AreReadAfter front.entry.second (lines front.entry.bytes.now)) }
     { pages_of_chunk(rt, alloc, fewer, front) };
     let of_back = move || -> Option<WebPages<'_>>
-        ensures { IfSome result (AreReadBehind back.entry.second (lines back.entry.bytes.now)) }
+        ensures { IfSome result (AreReadAfter back.entry.second (lines back.entry.bytes.now)) }
     { pages_of_chunk(rt, alloc, fewer, back) };
     let (first, second) = join(rt, of_front, of_back);
     let first = first?;
@@ -109,7 +109,7 @@ fn pages_of_chunk<'a, R: Threads + Sync>(
 
 /// Returns the pages of the chunk. `None` if it is not UTF-8.
 fn read_chunk(alloc: Global, chunk: LineChunk<'_>) -> Option<WebPages<'_>>
-    ensures { IfSome result (AreReadBehind chunk.entry.second (lines chunk.entry.bytes.now)) }
+    ensures { IfSome result (AreReadAfter chunk.entry.second (lines chunk.entry.bytes.now)) }
 {
     match from_utf8(chunk.bytes) {
         Ok(text) => read_text(alloc, chunk.second, text),
@@ -119,14 +119,14 @@ fn read_chunk(alloc: Global, chunk: LineChunk<'_>) -> Option<WebPages<'_>>
 
 /// Returns the pages of a chunk, which has this text. `None` if a line fails a check, or if memory runs out.
 fn read_text(alloc: Global, second: bool, text: &str) -> Option<WebPages<'_>>
-    ensures { IfSome result (AreReadBehind second (lines text.now)) }
+    ensures { IfSome result (AreReadAfter second (lines text.now)) }
 {
     let above = Above {
         second,
         link: false,
         moved: false,
     };
-    let Ok(pages) = pages_behind(alloc, text, 1, above) else {
+    let Ok(pages) = pages_after(alloc, text, 1, above) else {
         return None;
     };
     match WebPages::one(alloc, pages) {

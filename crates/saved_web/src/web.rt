@@ -5,11 +5,11 @@ ghost use Rattle.std.specs.Str.Lines.{lines};
 ghost use Rattle.saved_pages.specs.SavedWeb.{page_of, page_urls};
 ghost use Rattle.saved_web.specs.KnownPages.{page_at, urls_of};
 ghost use Rattle.saved_web.specs.Reading.{AreRead};
-ghost use Rattle.saved_pages.specs.WebFaults.{IsSound, IsWebFault, IsWebRefusal};
+ghost use Rattle.saved_pages.specs.WebErrors.{IsSound, IsWebError, IsWebRefusal};
 
 use crate::link_cache::LinkCache;
-use crate::links::page_behind;
-use crate::reader::pages_behind;
+use crate::links::page_after;
+use crate::reader::pages_after;
 use crate::threads::pages_in_threads;
 use crate::web_pages::WebPages;
 use crawl_keys::{Base, CanonUrl};
@@ -32,17 +32,17 @@ impl<'a> SavedWeb<'a> {
     ///
     /// # Errors
     /// The first error, in the order of [`WebError`], of the first line that fails a check. `NoMemory` if memory ran out.
-    #[tactic(auto, using(std::proofs::lemmas::Result::err_from_is_err_and, crate::proofs::LeastLine::only_memory, crate::proofs::LeastLine::no_fault))]
+    #[tactic(auto, using(std::proofs::lemmas::Result::err_from_is_err_and, crate::proofs::LeastLine::only_memory, crate::proofs::LeastLine::no_error))]
     pub fn read(alloc: Global, bytes: &'a [u8]) -> Result<SavedWeb<'a>, WebError>
         ensures sound { IfOk result (λ web. IsSound (lines bytes.now)) }
         // At every URL it has the page that the lines define.
         ensures pages { IfOk result (λ web. (url : List ℕ) → page_at web url ≡ page_of (lines bytes.now) url) }
         ensures urls { IfOk result (λ web. urls_of web ≡ page_urls (lines bytes.now)) }
         // An error is that of the first line that has one, unless memory ran out.
-        ensures fault { IfErr result (λ told. IsWebRefusal (lines bytes.now) told) }
+        ensures error { IfErr result (λ error. IsWebRefusal (lines bytes.now) error) }
         // Conversely, lines that pass all checks are read, and other lines are refused because of their error.
         ensures reads { IsSound (lines bytes.now) → Gives WebError.NoMemory page_at result (Ok (page_of (lines bytes.now))) }
-        ensures tells { (fault : WebError) → IsWebFault (lines bytes.now) fault → Gives WebError.NoMemory page_at result (Err fault) }
+        ensures reports { (error : WebError) → IsWebError (lines bytes.now) error → Gives WebError.NoMemory page_at result (Err error) }
     {
         let pages = known_pages(alloc, bytes)?;
         Ok(SavedWeb {
@@ -55,7 +55,7 @@ impl<'a> SavedWeb<'a> {
     ///
     /// # Errors
     /// Those of [`SavedWeb::read`]. If a thread cannot be started, that is not an error: the thread that needs it reads its chunk.
-    #[tactic(auto, using(crate::proofs::LeastLine::no_fault))]
+    #[tactic(auto, using(crate::proofs::LeastLine::no_error))]
     pub fn read_in_threads<R: Threads + Sync>(
         rt: &R,
         alloc: Global,
@@ -66,10 +66,10 @@ impl<'a> SavedWeb<'a> {
         ensures pages { IfOk result (λ web. (url : List ℕ) → page_at web url ≡ page_of (lines bytes.now) url) }
         ensures urls { IfOk result (λ web. urls_of web ≡ page_urls (lines bytes.now)) }
         // An error is that of the first line that has one, unless memory ran out.
-        ensures fault { IfErr result (λ told. IsWebRefusal (lines bytes.now) told) }
+        ensures error { IfErr result (λ error. IsWebRefusal (lines bytes.now) error) }
         // Conversely, lines that pass all checks are read, and other lines are refused because of their error.
         ensures reads { IsSound (lines bytes.now) → Gives WebError.NoMemory page_at result (Ok (page_of (lines bytes.now))) }
-        ensures tells { (fault : WebError) → IsWebFault (lines bytes.now) fault → Gives WebError.NoMemory page_at result (Err fault) }
+        ensures reports { (error : WebError) → IsWebError (lines bytes.now) error → Gives WebError.NoMemory page_at result (Err error) }
     {
         match pages_in_threads(rt, alloc, bytes) {
             Some(pages) => Ok(SavedWeb { pages }),
@@ -99,7 +99,7 @@ impl<'a> SavedWeb<'a> {
         ensures refused { IfErr result (λ e. e ≡ FetchError.NoMemory) }
     {
         match self.pages.get(url) {
-            Some(page) => page_behind(alloc, cache, Base::new(alloc, url)?, page.behind()),
+            Some(page) => page_after(alloc, cache, Base::new(alloc, url)?, page.following()),
             None => Ok(Page::Missing),
         }
     }
@@ -109,11 +109,11 @@ impl<'a> SavedWeb<'a> {
 fn known_pages(alloc: Global, bytes: &[u8]) -> Result<Pages<'_>, WebError>
     ensures sound { IfOk result (λ _. IsSound (lines bytes.now)) }
     ensures read { IfOk result (λ pages. AreRead (lines bytes.now) pages) }
-    ensures fault { IfErr result (λ told. IsWebRefusal (lines bytes.now) told) }
+    ensures error { IfErr result (λ error. IsWebRefusal (lines bytes.now) error) }
 {
     match from_utf8(bytes) {
         Ok(text) => pages_in(alloc, text),
-        Err(_) => Err(fault_in(alloc, bytes)),
+        Err(_) => Err(error_in(alloc, bytes)),
     }
 }
 
@@ -122,16 +122,16 @@ fn known_pages(alloc: Global, bytes: &[u8]) -> Result<Pages<'_>, WebError>
 fn pages_in(alloc: Global, text: &str) -> Result<Pages<'_>, WebError>
     ensures sound { IfOk result (λ _. IsSound (lines text.now)) }
     ensures read { IfOk result (λ pages. AreRead (lines text.now) pages) }
-    ensures fault { IfErr result (λ told. IsWebRefusal (lines text.now) told) }
+    ensures error { IfErr result (λ error. IsWebRefusal (lines text.now) error) }
 {
     if text.is_empty() {
         return Err(WebError::BadHeader);
     }
-    pages_behind(alloc, text, 0, Above::nothing())
+    pages_after(alloc, text, 0, Above::nothing())
 }
 
 /// Returns the error of bytes that are not UTF-8.
-fn fault_in(alloc: Global, bytes: &[u8]) -> WebError
+fn error_in(alloc: Global, bytes: &[u8]) -> WebError
     requires { ¬ (IsUtf8 bytes.now) }
     ensures { IsWebRefusal (lines bytes.now) result }
 {
@@ -144,7 +144,7 @@ fn fault_in(alloc: Global, bytes: &[u8]) -> WebError
         number += 1;
         match check_line(alloc, &mut pages, number, above, line) {
             Ok(next) => above = next,
-            Err(fault) => return fault,
+            Err(error) => return error,
         }
     }
     unreachable!()

@@ -52,7 +52,7 @@ impl<'w, 'a, R: Threads> WebInThreads<'w, 'a, R> {
             return None;
         }
         let page = self.web.pages.long(url, LEAST)?;
-        long_page(self.rt, alloc, url, page.behind())
+        long_page(self.rt, alloc, url, page.following())
     }
 }
 

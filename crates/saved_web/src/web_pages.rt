@@ -129,13 +129,13 @@ impl<'a> WebPages<'a> {
     }
 
     /// Returns the index of the first page after the first `bytes` of these bytes.
-    pub fn index_behind(&self, bytes: usize) -> usize {
+    pub fn index_after(&self, bytes: usize) -> usize {
         let mut bytes = bytes;
         let mut before: usize = 0;
         for chunk in &self.chunks {
             let own = chunk.bytes();
             if bytes < own {
-                return before.saturating_add(chunk.index_behind(bytes));
+                return before.saturating_add(chunk.index_after(bytes));
             }
             bytes -= own;
             before = before.saturating_add(chunk.len());
@@ -148,7 +148,7 @@ impl<'a> WebPages<'a> {
         let Some(first) = self.page(0) else {
             return false;
         };
-        let count = self.index_behind(self.bytes());
+        let count = self.index_after(self.bytes());
         let step = count / SAMPLES + 1;
         for sample in 1..SAMPLES {
             match self.page(step.saturating_mul(sample)) {

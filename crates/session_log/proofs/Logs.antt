@@ -21,10 +21,10 @@ use Rattle.crawl_session.proofs.SumLines.{write_append, write_nil}
 use Rattle.crawl_session.specs.Sums.{Checked, checked_after, unchecked, wrong_after}
 use Rattle.session_log.specs.Compaction.{Compacted, Gained, IsCompacted, Summing, framed_pieces}
 use Rattle.session_log.specs.Lists.{IsBegun, IsListed, ListsLines, ListsLog, listed_of}
-use Rattle.session_log.specs.LogFile.{IsRightSum, fault_of_break, framed, sum_with}
+use Rattle.session_log.specs.LogFile.{IsRightSum, error_of_break, framed, sum_with}
 use Rattle.session_log.specs.Plans.{queues_of}
-use Rattle.session_log.specs.declared.fault.AppendError.{AppendError}
-use Rattle.session_log.specs.declared.fault.AppendError.TheVariants as append
+use Rattle.session_log.specs.declared.error.AppendError.{AppendError}
+use Rattle.session_log.specs.declared.error.AppendError.TheVariants as append
 use Rattle.session_log.specs.declared.listing.ListKind.TheVariants as kinds
 use Rattle.session_log.specs.declared.listing.ListPlan.{ListPlan}
 
@@ -153,7 +153,7 @@ compacted_first session first old mid new one two = record {
 }
 
 -- a session that breaks off
-pub is_break : (failure : Option AppendError) (why : ServeError) → IsBreak (fault_of_break failure why)
+pub is_break : (failure : Option AppendError) (why : ServeError) → IsBreak (error_of_break failure why)
 is_break None why = tt
 is_break (Some append.CannotWrite) why = tt
 is_break (Some append.Changed) why = tt

@@ -18,12 +18,12 @@ use Rattle.crawl_session.specs.Settings.{Settings, SessionView}
 use Rattle.crawl_session.specs.declared.part.Part.{Part}
 use Rattle.crawl_session.specs.declared.rebuild.LeftOut.{LeftOut}
 use Rattle.session_log.proofs.Logs.{gained_both, gained_none, gained_one}
-use Rattle.session_log.specs.Compaction.{InPieces, IsRebuilt, IsRebuiltText, IsWanted, ReadsUrls, Summing, first_line, first_queue, fixed_apart, framed_pieces, other_queues, rebuilt_log, suffixes_of}
+use Rattle.session_log.specs.Compaction.{InPieces, IsRebuilt, IsRebuiltText, AreNewSettings, ReadsUrls, Summing, first_line, first_queue, fixed_apart, framed_pieces, other_queues, rebuilt_log, suffixes_of}
 use Rattle.session_log.specs.LogFile.{framed, part_apart, sum_with}
 use Rattle.session_log.specs.Plans.{IsPartOf, IsSessionPlan, all_queues, part_of, queues_of, settings_of}
 use Rattle.session_log.specs.declared.compact_plan.NamedSettings.{NamedSettings}
-use Rattle.session_log.specs.declared.fault.Setting.{Setting}
-use Rattle.session_log.specs.declared.fault.Setting.TheVariants as other
+use Rattle.session_log.specs.declared.error.Setting.{Setting}
+use Rattle.session_log.specs.declared.error.Setting.TheVariants as other
 use Rattle.session_log.specs.declared.plan.SessionPlan.{SessionPlan}
 
 -- ---- the lines of the old log
@@ -127,8 +127,8 @@ last_none : (one two : Option Setting) → option_or one two ≡ None → two �
 last_none None two none = none
 last_none (Some setting) two none = absurd (cc)
 
-as_many : (p : ℕ × ℕ) (own workers : ℕ) → other_queues (Some p) own workers ≡ None → own ≡ workers
-as_many p own workers none = by (own == workers) refl none
+right_count : (p : ℕ × ℕ) (own workers : ℕ) → other_queues (Some p) own workers ≡ None → own ≡ workers
+right_count p own workers none = by (own == workers) refl none
   where
     by : (same : Bool) → (own == workers) ≡ same → (if same then None else Some (other.Part p.0 p.1)) ≡ None → own ≡ workers
     by true is none = eqb-true own workers is
@@ -136,11 +136,11 @@ as_many p own workers none = by (own == workers) refl none
 
 few_queues : (part : Option (ℕ × ℕ)) (own workers : ℕ) → workers ≤ worker_limit → all_queues own part ≤ queue_limit → other_queues part own workers ≡ None → all_queues workers part ≤ queue_limit
 few_queues None own workers few all none = omega (arith, few)
-few_queues (Some p) own workers few all none = subst (λ w. w * p.1 ≤ queue_limit) (as_many p own workers none) all
+few_queues (Some p) own workers few all none = subst (λ w. w * p.1 ≤ queue_limit) (right_count p own workers none) all
 
 -- the settings of a new log are within the limits
-pub wanted_limits : (named : NamedSettings) (given own wanted : SessionPlan) → IsSessionPlan given → IsSessionPlan own → fixed_apart named given own ≡ None → IsWanted named given own wanted → IsSessionPlan wanted
-wanted_limits named given own wanted given_limits own_limits none is =
+pub new_limits : (named : NamedSettings) (given own new_settings : SessionPlan) → IsSessionPlan given → IsSessionPlan own → fixed_apart named given own ≡ None → AreNewSettings named given own new_settings → IsSessionPlan new_settings
+new_limits named given own new_settings given_limits own_limits none is =
     let workers = if named.workers then given.workers else own.workers in
     let limits : AreLimits workers (if named.max then given.max else own.max) = either_limits named.workers named.max given.workers given.max own.workers own.max given_limits.0 own_limits.0 in
     let few = few_queues own.part own.workers workers limits.few_workers own_limits.1.0 (last_none (if named.part then part_apart own.part given.part else None) (other_queues own.part own.workers workers) none) in

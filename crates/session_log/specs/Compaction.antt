@@ -17,8 +17,8 @@ use Rattle.crawl_session.specs.declared.rebuild.LeftOut.{LeftOut}
 use Rattle.session_log.specs.LogFile.{flag_text, framed, part_apart, sum_with}
 use Rattle.session_log.specs.Plans.{queues_of, settings_of}
 use Rattle.session_log.specs.declared.compact_plan.NamedSettings.{NamedSettings}
-use Rattle.session_log.specs.declared.fault.Setting.{Setting}
-use Rattle.session_log.specs.declared.fault.Setting.TheVariants as other
+use Rattle.session_log.specs.declared.error.Setting.{Setting}
+use Rattle.session_log.specs.declared.error.Setting.TheVariants as other
 use Rattle.session_log.specs.declared.plan.SessionPlan.{SessionPlan}
 
 -- what a file gains of whole lines in pieces, each with its checksum if the file has checksums
@@ -62,11 +62,11 @@ suffixes_of None = []
 suffixes_of (Some suffix) = string_bytes suffix ∷ []
 
 -- the settings of a new log: those that the command line names, and the others of the log
-pub record IsWanted (named : NamedSettings) (given own wanted : SessionPlan) : Type 0 where
-  pub workers : wanted.workers ≡ (if named.workers then given.workers else own.workers)
-  pub max : wanted.max ≡ (if named.max then given.max else own.max)
-  pub within : suffixes_of wanted.within ≡ (if named.within then suffixes_of given.within else suffixes_of own.within)
-  pub part : wanted.part ≡ own.part
+pub record AreNewSettings (named : NamedSettings) (given own new_settings : SessionPlan) : Type 0 where
+  pub workers : new_settings.workers ≡ (if named.workers then given.workers else own.workers)
+  pub max : new_settings.max ≡ (if named.max then given.max else own.max)
+  pub within : suffixes_of new_settings.within ≡ (if named.within then suffixes_of given.within else suffixes_of own.within)
+  pub part : new_settings.part ≡ own.part
 
 -- the part of a log whose queues would be of another number
 abbrev pub other_queues : Option (ℕ × ℕ) → ℕ → ℕ → Option Setting

@@ -1,5 +1,5 @@
 pub mod Compaction
-pub mod Faults
+pub mod Errors
 pub mod Lists
 pub mod LogFile
 pub mod Plans

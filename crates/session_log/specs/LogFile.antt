@@ -14,14 +14,14 @@ use Rattle.crawl_session.specs.Logs.{within_text}
 use Rattle.crawl_session.specs.Sums.{summed, unchecked, wrong_after}
 use Rattle.crawl_session.specs.declared.serving.ServeError.{ServeError}
 use Rattle.crawl_session.specs.declared.serving.ServeError.TheVariants as session
-use Rattle.session_log.specs.declared.fault.AppendError.{AppendError}
-use Rattle.session_log.specs.declared.fault.AppendError.TheVariants as append
-use Rattle.session_log.specs.declared.fault.LogFault.{LogFault}
-use Rattle.session_log.specs.declared.fault.LogFault.TheVariants as unlogged
-use Rattle.session_log.specs.declared.fault.LoggedFault.{LoggedFault}
-use Rattle.session_log.specs.declared.fault.LoggedFault.TheVariants as ends
-use Rattle.session_log.specs.declared.fault.Setting.{Setting}
-use Rattle.session_log.specs.declared.fault.Setting.TheVariants as other
+use Rattle.session_log.specs.declared.error.AppendError.{AppendError}
+use Rattle.session_log.specs.declared.error.AppendError.TheVariants as append
+use Rattle.session_log.specs.declared.error.LogError.{LogError}
+use Rattle.session_log.specs.declared.error.LogError.TheVariants as unlogged
+use Rattle.session_log.specs.declared.error.LoggedError.{LoggedError}
+use Rattle.session_log.specs.declared.error.LoggedError.TheVariants as ends
+use Rattle.session_log.specs.declared.error.Setting.{Setting}
+use Rattle.session_log.specs.declared.error.Setting.TheVariants as other
 use Rattle.session_log.specs.declared.plan.SessionPlan.{SessionPlan}
 use Rattle.session_log.specs.declared.window.Window.{Window}
 
@@ -114,45 +114,45 @@ pub record HasOther (line : List ℕ) (plan : SessionPlan) (setting : Setting) :
   pub other : setting_apart (read_start line).0 suffixes header plan ≡ Some setting
 
 -- why a log with this first line is not the log of a plan
-abbrev pub IsFaultOfLine : List ℕ → SessionPlan → LogFault → Type 0
-IsFaultOfLine line plan (unlogged.OtherSettings setting) = HasOther line plan setting
-IsFaultOfLine line plan unlogged.NotALog = Unit {0}
-IsFaultOfLine line plan fault = ⊥
+abbrev pub IsErrorOfLine : List ℕ → SessionPlan → LogError → Type 0
+IsErrorOfLine line plan (unlogged.OtherSettings setting) = HasOther line plan setting
+IsErrorOfLine line plan unlogged.NotALog = Unit {0}
+IsErrorOfLine line plan error = ⊥
 
 -- a log cannot be read: it cannot be opened, a read fails, it is none, it is damaged, or memory runs out
-abbrev pub IsReadFault : LogFault → Type 0
-IsReadFault (unlogged.Damaged right wrong) = Unit {0}
-IsReadFault unlogged.CannotOpen = Unit {0}
-IsReadFault unlogged.CannotRead = Unit {0}
-IsReadFault unlogged.NotALog = Unit {0}
-IsReadFault unlogged.NoMemory = Unit {0}
-IsReadFault fault = ⊥
+abbrev pub IsReadError : LogError → Type 0
+IsReadError (unlogged.Damaged right wrong) = Unit {0}
+IsReadError unlogged.CannotOpen = Unit {0}
+IsReadError unlogged.CannotRead = Unit {0}
+IsReadError unlogged.NotALog = Unit {0}
+IsReadError unlogged.NoMemory = Unit {0}
+IsReadError error = ⊥
 
 -- a log that is open cannot be read or written, or memory runs out
-abbrev pub IsUseFault : LogFault → Type 0
-IsUseFault unlogged.CannotRead = Unit {0}
-IsUseFault unlogged.CannotWrite = Unit {0}
-IsUseFault unlogged.Changed = Unit {0}
-IsUseFault unlogged.NoMemory = Unit {0}
-IsUseFault why = ⊥
+abbrev pub IsUseError : LogError → Type 0
+IsUseError unlogged.CannotRead = Unit {0}
+IsUseError unlogged.CannotWrite = Unit {0}
+IsUseError unlogged.Changed = Unit {0}
+IsUseError unlogged.NoMemory = Unit {0}
+IsUseError why = ⊥
 
 -- a session with a log breaks off by this error: its input cannot be read, an answer or the log cannot be written, another program
 -- changed the log, or out of memory
-abbrev pub IsBreak : LoggedFault → Type 0
+abbrev pub IsBreak : LoggedError → Type 0
 IsBreak (ends.Session why) = Unit {0}
 IsBreak (ends.Log unlogged.CannotWrite) = Unit {0}
 IsBreak (ends.Log unlogged.Changed) = Unit {0}
-IsBreak fault = ⊥
+IsBreak error = ⊥
 
 -- the error of a log that cannot be appended to
-abbrev pub fault_of_append : AppendError → LogFault
-fault_of_append append.CannotWrite = unlogged.CannotWrite
-fault_of_append append.Changed = unlogged.Changed
-fault_of_append append.NoMemory = unlogged.NoMemory
+abbrev pub error_of_append : AppendError → LogError
+error_of_append append.CannotWrite = unlogged.CannotWrite
+error_of_append append.Changed = unlogged.Changed
+error_of_append append.NoMemory = unlogged.NoMemory
 
 -- the error of a session that ends for this reason, after an append that may have failed
-abbrev pub fault_of_break : Option AppendError → ServeError → LoggedFault
-fault_of_break None why = ends.Session why
-fault_of_break (Some append.CannotWrite) why = ends.Log unlogged.CannotWrite
-fault_of_break (Some append.Changed) why = ends.Log unlogged.Changed
-fault_of_break (Some append.NoMemory) why = ends.Session session.NoMemory
+abbrev pub error_of_break : Option AppendError → ServeError → LoggedError
+error_of_break None why = ends.Session why
+error_of_break (Some append.CannotWrite) why = ends.Log unlogged.CannotWrite
+error_of_break (Some append.Changed) why = ends.Log unlogged.Changed
+error_of_break (Some append.NoMemory) why = ends.Session session.NoMemory

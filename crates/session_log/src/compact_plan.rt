@@ -1,10 +1,10 @@
 //! The settings of a log that is compacted, and of the new log.
 ghost use Rattle.std.specs.Prelude.{◌≡◌, ◌≢◌, None, IfErr, IfOk, MatchOption, if◌then◌else◌};
-ghost use Rattle.session_log.specs.Compaction.{IsWanted, fixed_apart, other_queues, suffixes_of};
+ghost use Rattle.session_log.specs.Compaction.{AreNewSettings, fixed_apart, other_queues, suffixes_of};
 ghost use Rattle.session_log.specs.Plans.{IsSessionPlan};
-ghost use Rattle.session_log.specs.declared.fault.LogFault.TheVariants.{NoMemory, OtherSettings};
+ghost use Rattle.session_log.specs.declared.error.LogError.TheVariants.{NoMemory, OtherSettings};
 
-use crate::fault::{LogFault, Setting};
+use crate::error::{LogError, Setting};
 use crate::listing::plan_of;
 use crate::log_settings::{first_line_in, part_apart, split_flag};
 use crate::opening::read_head;
@@ -42,12 +42,12 @@ impl CompactPlan {
     ///
     /// # Errors
     /// `CannotOpen`, `NotALog`, `CannotRead`, `NoMemory`. `OtherSettings` if the log has several suffixes, which no option makes.
-    pub(crate) fn own<R: Files>(&self, rt: &R, alloc: Global) -> Result<LogPlan, LogFault>
+    pub(crate) fn own<R: Files>(&self, rt: &R, alloc: Global) -> Result<LogPlan, LogError>
         requires { IsSessionPlan self.now.log.session }
         ensures { IfOk result (λ own. IsSessionPlan own.session) }
     {
         let Ok(mut file) = fs::open(rt, self.log.file.as_str()) else {
-            return Err(LogFault::CannotOpen);
+            return Err(LogError::CannotOpen);
         };
         let (head, _len) = read_head(alloc, &mut file, READ_SIZE)?;
         let session = match first_line_in(&head) {
@@ -67,17 +67,17 @@ impl CompactPlan {
     /// # Errors
     /// `OtherSettings` if the log is that of a part, and the new one is to be another part's, or to have another number of queues: its
     /// URLs would belong to other parts. `NoMemory`.
-    #[tactic(auto, using(crate::proofs::Rebuilds::wanted_limits))]
-    pub(crate) fn wanted(&self, own: &SessionPlan) -> Result<SessionPlan, LogFault>
+    #[tactic(auto, using(crate::proofs::Rebuilds::new_limits))]
+    pub(crate) fn new_settings(&self, own: &SessionPlan) -> Result<SessionPlan, LogError>
         requires given { IsSessionPlan self.now.log.session }
         requires own { IsSessionPlan own.now }
         ensures limits { IfOk result IsSessionPlan }
-        ensures wanted { IfOk result (λ wanted. IsWanted self.now.named self.now.log.session own.now wanted) }
+        ensures new_settings { IfOk result (λ new_settings. AreNewSettings self.now.named self.now.log.session own.now new_settings) }
         ensures kept { IfOk result (λ _. fixed_apart self.now.named self.now.log.session own.now ≡ None) }
-        ensures refused { IfErr result (λ fault. fault ≢ NoMemory → MatchOption (fixed_apart self.now.named self.now.log.session own.now) ⊥ (λ setting. fault ≡ OtherSettings setting)) }
+        ensures refused { IfErr result (λ error. error ≢ NoMemory → MatchOption (fixed_apart self.now.named self.now.log.session own.now) ⊥ (λ setting. error ≡ OtherSettings setting)) }
     {
         if let Some(setting) = self.fixed_apart(own) {
-            return Err(LogFault::OtherSettings(setting));
+            return Err(LogError::OtherSettings(setting));
         }
         Ok(SessionPlan {
             workers: self.workers(own),
@@ -177,19 +177,19 @@ fn copy_within(within: &Option<String>) -> Result<Option<String>, AllocError>
 }
 
 /// Returns the settings in the first line of a log.
-fn plan_of_line(alloc: Global, line: &str) -> Result<SessionPlan, LogFault>
+fn plan_of_line(alloc: Global, line: &str) -> Result<SessionPlan, LogError>
     ensures { IfOk result IsSessionPlan }
 {
     let (part, _identity, settings) = read_start(line);
     let (settings, _sums) = split_flag(settings);
     let Some((header, suffixes)) = read_settings(alloc, settings)? else {
-        return Err(LogFault::NotALog);
+        return Err(LogError::NotALog);
     };
     let Some(plan) = plan_of(part, &header) else {
-        return Err(LogFault::NotALog);
+        return Err(LogError::NotALog);
     };
     if suffixes.len() > 1 {
-        return Err(LogFault::OtherSettings(Setting::Within));
+        return Err(LogError::OtherSettings(Setting::Within));
     }
     let within = match suffixes.first() {
         Some(suffix) => Some(String::from_str(alloc, suffix)?),

@@ -6,7 +6,7 @@ ghost use Rattle.session_log.specs.Compaction.{Compacted, Gained, IsCompacted, I
 ghost use Rattle.session_log.specs.Plans.{IsSessionPlan};
 
 use crate::compact_plan::CompactPlan;
-use crate::fault::LogFault;
+use crate::error::LogError;
 use crate::lines::LineReader;
 use crate::lock_file::LockFile;
 use crate::new_log::{NewLog, create_partial, publish};
@@ -34,12 +34,12 @@ pub fn compact<R: Files, L: LockFile<R::File>>(
     locks: &L,
     alloc: Global,
     plan: &CompactPlan,
-) -> Result<LeftOut, LogFault>
+) -> Result<LeftOut, LogError>
     requires { IsSessionPlan plan.now.log.session }
 {
     let own = plan.own(rt, alloc)?;
-    let wanted = plan.wanted(&own.session)?;
-    compact_as(rt, locks, alloc, &own, &wanted, plan.new.as_str())
+    let new_settings = plan.new_settings(&own.session)?;
+    compact_as(rt, locks, alloc, &own, &new_settings, plan.new.as_str())
 }
 
 /// Writes the copy of the log of this plan, with its new settings, to a new file of this name.
@@ -48,18 +48,18 @@ fn compact_as<R: Files, L: LockFile<R::File>>(
     locks: &L,
     alloc: Global,
     own: &LogPlan,
-    wanted: &SessionPlan,
+    new_settings: &SessionPlan,
     new: &str,
-) -> Result<LeftOut, LogFault>
+) -> Result<LeftOut, LogError>
     requires own { IsSessionPlan own.now.session }
-    requires wanted { IsSessionPlan wanted.now }
+    requires new_settings { IsSessionPlan new_settings.now }
 {
     let filter = filter_within(alloc, &own.session.within)?;
     let (mut log, mut session) = open_session(rt, locks, alloc, own, filter, false)?;
-    let changed = if own.session.is_like(wanted) {
+    let changed = if own.session.is_like(new_settings) {
         None
     } else {
-        Some(wanted)
+        Some(new_settings)
     };
     write_new(rt, alloc, &mut session, &mut log, changed, new)
 }
@@ -72,14 +72,14 @@ fn write_new<R: Files, F: Read + Seek>(
     log: &mut OpenedLog<F>,
     changed: Option<&SessionPlan>,
     name: &str,
-) -> Result<LeftOut, LogFault>
-    requires { IfSome changed (λ wanted. IsSessionPlan wanted.now) }
+) -> Result<LeftOut, LogError>
+    requires { IfSome changed (λ new_settings. IsSessionPlan new_settings.now) }
 {
     let (partial, file) = create_partial(rt, alloc, name)?;
     let mut new = NewLog::new(alloc, file);
     let written = match changed {
         None => compact_synced(alloc, session, log, &mut new),
-        Some(wanted) => rebuild_synced(alloc, session, log, wanted, &mut new),
+        Some(new_settings) => rebuild_synced(alloc, session, log, new_settings, &mut new),
     };
     name_new(rt, partial.as_str(), name, written)
 }
@@ -89,16 +89,16 @@ fn name_new<R: Files>(
     rt: &R,
     partial: &str,
     name: &str,
-    written: Result<LeftOut, LogFault>,
-) -> Result<LeftOut, LogFault> {
+    written: Result<LeftOut, LogError>,
+) -> Result<LeftOut, LogError> {
     match written {
         Ok(left_out) => {
             publish(rt, partial, name)?;
             Ok(left_out)
         }
-        Err(fault) => {
+        Err(error) => {
             let _ = fs::remove_file(rt, partial);
-            Err(fault)
+            Err(error)
         }
     }
 }
@@ -109,7 +109,7 @@ fn compact_synced<F: Read + Seek, O: Write + OpenFile>(
     session: &mut Session,
     log: &mut OpenedLog<F>,
     new: &mut NewLog<O>,
-) -> Result<LeftOut, LogFault>
+) -> Result<LeftOut, LogError>
     ensures compacted { OnOk result (IsCompacted session.old (string_bytes log.old.first ∷ []) new.old.frame.sum (O.contents new.old.file) (O.contents new.new.file)) }
 {
     let written = compact_to(alloc, session, log, new);
@@ -122,25 +122,25 @@ fn rebuild_synced<F: Read + Seek, O: Write + OpenFile>(
     alloc: Global,
     session: &mut Session,
     log: &mut OpenedLog<F>,
-    wanted: &SessionPlan,
+    new_settings: &SessionPlan,
     new: &mut NewLog<O>,
-) -> Result<LeftOut, LogFault>
-    requires { IsSessionPlan wanted.now }
-    ensures rebuilt { IfOk result (λ left_out. IsRebuilt session.old wanted.now (string_bytes log.old.identity) left_out new.old.frame.sum (O.contents new.old.file) (O.contents new.new.file)) }
+) -> Result<LeftOut, LogError>
+    requires { IsSessionPlan new_settings.now }
+    ensures rebuilt { IfOk result (λ left_out. IsRebuilt session.old new_settings.now (string_bytes log.old.identity) left_out new.old.frame.sum (O.contents new.old.file) (O.contents new.new.file)) }
 {
-    let written = rebuild_to(alloc, session, log, wanted, new);
+    let written = rebuild_to(alloc, session, log, new_settings, new);
     let synced = new.file.sync_all();
     finish(written, synced)
 }
 
 /// Returns how a compaction ends, from the results of the writes and of the sync.
-fn finish(written: Result<LeftOut, LogFault>, synced: io::Result<()>) -> Result<LeftOut, LogFault>
+fn finish(written: Result<LeftOut, LogError>, synced: io::Result<()>) -> Result<LeftOut, LogError>
     ensures { IfOk result (λ left_out. (written ≡ Ok left_out) × IsOk synced) }
 {
     let left_out = written?;
     match synced {
         Ok(()) => Ok(left_out),
-        Err(_) => Err(LogFault::CannotWriteNew),
+        Err(_) => Err(LogError::CannotWriteNew),
     }
 }
 
@@ -150,7 +150,7 @@ fn compact_to<F: Read + Seek, O: Write>(
     session: &mut Session,
     log: &mut OpenedLog<F>,
     new: &mut NewLog<O>,
-) -> Result<LeftOut, LogFault>
+) -> Result<LeftOut, LogError>
     ensures compacted { OnOk result (IsCompacted session.old (string_bytes log.old.first ∷ []) new.old.frame.sum (O.contents new.old.file) (O.contents new.new.file)) }
 {
     new.append(log.first.as_bytes())?;
@@ -166,7 +166,7 @@ fn compact_lines<F: Read + Seek, O: Write>(
     session: &mut Session,
     lines: &mut LineReader<'_, F>,
     new: &mut NewLog<O>,
-) -> Result<(), LogFault>
+) -> Result<(), LogError>
     ensures compacted { OnOk result (IsCompacted session.old [] new.old.frame.sum (O.contents new.old.file) (O.contents new.new.file)) }
 {
     let mut compactor = Compactor::new(alloc);
@@ -183,7 +183,7 @@ fn append_seen<O: Write>(
     alloc: Global,
     session: &Session,
     new: &mut NewLog<O>,
-) -> Result<(), LogFault>
+) -> Result<(), LogError>
     ensures gained { OnOk result (Gained (log_text (seen_lines 0 session.now.core.seen) ∷ []) (summing new.old.frame.sum (O.contents new.old.file)) (summing new.new.frame.sum (O.contents new.new.file))) }
 {
     let mut text = Vec::new(alloc);
@@ -199,7 +199,7 @@ fn compact_bytes<O: Write>(
     session: &mut Session,
     bytes: &[u8],
     new: &mut NewLog<O>,
-) -> Result<(), LogFault>
+) -> Result<(), LogError>
     ensures compacted { OnOk result (Compacted compactor.old session.old compactor.new session.new (summing new.old.frame.sum (O.contents new.old.file)) (summing new.new.frame.sum (O.contents new.new.file))) }
 {
     let mut kept = Vec::new(alloc);

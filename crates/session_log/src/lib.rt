@@ -9,7 +9,7 @@
 
 mod compact_plan;
 mod compacting;
-mod fault;
+mod error;
 mod file_node;
 mod frame;
 mod lines;
@@ -31,7 +31,7 @@ pub mod testing {
 
 pub use compact_plan::{CompactPlan, NamedSettings};
 pub use compacting::compact;
-pub use fault::{LogFault, LoggedFault, Setting};
+pub use error::{LogError, LoggedError, Setting};
 pub use listing::{ListKind, ListPlan, list};
 pub use lock_file::LockFile;
 pub use log_file::Log;

@@ -1,8 +1,8 @@
 //! The lines of a log, read from its file in turns, and checked.
 ghost use Rattle.std.specs.Prelude.{◌≡◌, ◌<◌, ◌≤◌, ◌-◌, true, length, vec_len, IfErr, IfOk};
-ghost use Rattle.session_log.specs.LogFile.{IsReadFault, IsRightSum};
+ghost use Rattle.session_log.specs.LogFile.{IsReadError, IsRightSum};
 
-use crate::fault::LogFault;
+use crate::error::LogError;
 use crawl_session::{LogSum, READ_SIZE, SumCheck, whole_len};
 use std::alloc::{AllocError, Global};
 use std::io::{self, Read, Seek, SeekFrom};
@@ -60,13 +60,13 @@ impl<'f, F: Read + Seek> LineReader<'f, F> {
     }
 
     /// Fails with `CannotRead` if not all lines were read.
-    pub fn finish(&self) -> Result<(), LogFault>
-        ensures { IfErr result IsReadFault }
+    pub fn finish(&self) -> Result<(), LogError>
+        ensures { IfErr result IsReadError }
     {
         if self.is_done() {
             Ok(())
         } else {
-            Err(LogFault::CannotRead)
+            Err(LogError::CannotRead)
         }
     }
 }
@@ -98,20 +98,20 @@ pub fn checked_sum<F: Read + Seek>(
     alloc: Global,
     file: &mut F,
     end: u64,
-) -> Result<LogSum, LogFault>
+) -> Result<LogSum, LogError>
     ensures right { IfOk result IsRightSum }
-    ensures fault { IfErr result IsReadFault }
+    ensures error { IfErr result IsReadError }
 {
     let mut lines = LineReader::new(alloc, file, 0, end)?;
     let mut check = SumCheck::new();
     while lines.read()? {
         if let Some((right, wrong)) = check.check(lines.as_slice()) {
-            return Err(LogFault::Damaged(right, wrong));
+            return Err(LogError::Damaged(right, wrong));
         }
     }
     if !lines.is_done() {
         let (right, wrong) = check.next();
-        return Err(LogFault::Damaged(right, wrong));
+        return Err(LogError::Damaged(right, wrong));
     }
     Ok(check.into_sum())
 }

@@ -3,10 +3,10 @@ ghost use Rattle.std.specs.Prelude.{◌≡◌, Ok, map, IfErr, IfOk, IfSome};
 ghost use Rattle.crawl_keys.specs.HostFilter.{filter_of};
 ghost use Rattle.crawl_limits.specs.Limits.{AreLimits};
 ghost use Rattle.session_log.specs.Lists.{IsBegun, IsListed, ListsLines, ListsLog};
-ghost use Rattle.session_log.specs.LogFile.{IsReadFault};
+ghost use Rattle.session_log.specs.LogFile.{IsReadError};
 ghost use Rattle.session_log.specs.Plans.{IsSessionPlan};
 
-use crate::fault::LogFault;
+use crate::error::LogError;
 use crate::lines::{LineReader, checked_sum};
 use crate::log_settings::{first_line_in, is_part, split_flag};
 use crate::opening::{read_head, whole_end};
@@ -47,13 +47,13 @@ pub struct ListPlan {
 ///
 /// # Errors
 /// `CannotOpen`; `NotALog` if the first line is not that of a log; `Damaged` if a checksum is wrong; `CannotRead`, `NoMemory`.
-pub fn list<R: Files>(rt: &R, alloc: Global, plan: &ListPlan) -> Result<Vec<u8>, LogFault>
+pub fn list<R: Files>(rt: &R, alloc: Global, plan: &ListPlan) -> Result<Vec<u8>, LogError>
     ensures listed { IfOk result (λ text. IsListed plan.now text.items) }
-    ensures fault { IfErr result IsReadFault }
+    ensures error { IfErr result IsReadError }
 {
     match fs::open(rt, plan.file.as_str()) {
         Ok(mut file) => list_file(alloc, &mut file, plan),
-        Err(_) => Err(LogFault::CannotOpen),
+        Err(_) => Err(LogError::CannotOpen),
     }
 }
 
@@ -62,13 +62,13 @@ fn list_file<F: Read + Seek>(
     alloc: Global,
     file: &mut F,
     plan: &ListPlan,
-) -> Result<Vec<u8>, LogFault>
+) -> Result<Vec<u8>, LogError>
     ensures listed { IfOk result (λ text. IsListed plan.now text.items) }
-    ensures fault { IfErr result IsReadFault }
+    ensures error { IfErr result IsReadError }
 {
     let (head, len) = read_head(alloc, file, READ_SIZE)?;
     let Some(line) = first_line_in(&head) else {
-        return Err(LogFault::NotALog);
+        return Err(LogError::NotALog);
     };
     let (mut session, sums) = session_of_line(alloc, line)?;
     let mut lines = checked_lines(alloc, file, line.len() as u64 + 1, len, sums)?;
@@ -89,8 +89,8 @@ fn checked_lines<F: Read + Seek>(
     first: u64,
     len: u64,
     sums: bool,
-) -> Result<LineReader<'_, F>, LogFault>
-    ensures fault { IfErr result IsReadFault }
+) -> Result<LineReader<'_, F>, LogError>
+    ensures error { IfErr result IsReadError }
 {
     let mut buffer = vec![in alloc; 0u8; READ_SIZE]?;
     let whole = whole_end(file, first, len, &mut buffer)?;
@@ -104,17 +104,17 @@ fn checked_lines<F: Read + Seek>(
 ///
 /// # Errors
 /// `NotALog`, `NoMemory`.
-fn session_of_line(alloc: Global, line: &str) -> Result<(Session, bool), LogFault>
+fn session_of_line(alloc: Global, line: &str) -> Result<(Session, bool), LogError>
     ensures begun { IfOk result (λ r. IsBegun line.now r.1 r.0) }
-    ensures fault { IfErr result IsReadFault }
+    ensures error { IfErr result IsReadError }
 {
     let (part, identity, settings) = read_start(line);
     let (settings, sums) = split_flag(settings);
     let Some((header, suffixes)) = read_settings(alloc, settings)? else {
-        return Err(LogFault::NotALog);
+        return Err(LogError::NotALog);
     };
     let Some(plan) = plan_of(part, &header) else {
-        return Err(LogFault::NotALog);
+        return Err(LogError::NotALog);
     };
     let filter = filter_of(alloc, &suffixes)?;
     let session = plan.session(alloc, filter, identity.unwrap_or(""))?;
@@ -140,14 +140,14 @@ pub fn plan_of(part: Option<(u32, u32)>, header: &Header) -> Option<SessionPlan>
 }
 
 /// Returns the filter with the suffixes of a log.
-pub fn filter_of(alloc: Global, suffixes: &[&str]) -> Result<Filter, LogFault>
+pub fn filter_of(alloc: Global, suffixes: &[&str]) -> Result<Filter, LogError>
     ensures filter { IfOk result (λ filter. filter_of (map (λ suffix. suffix.now) suffixes.now) ≡ Ok filter) }
-    ensures fault { IfErr result IsReadFault }
+    ensures error { IfErr result IsReadError }
 {
     match Filter::new(alloc, suffixes) {
         Ok(filter) => Ok(filter),
-        Err(FilterError::BadSuffix(_)) => Err(LogFault::NotALog),
-        Err(FilterError::NoMemory) => Err(LogFault::NoMemory),
+        Err(FilterError::BadSuffix(_)) => Err(LogError::NotALog),
+        Err(FilterError::NoMemory) => Err(LogError::NoMemory),
     }
 }
 
@@ -157,9 +157,9 @@ fn list_lines<F: Read + Seek>(
     kind: ListKind,
     session: &mut Session,
     lines: &mut LineReader<'_, F>,
-) -> Result<Vec<u8>, LogFault>
+) -> Result<Vec<u8>, LogError>
     ensures listed { IfOk result (λ text. ListsLog kind lister.now.form session.old text.items) }
-    ensures fault { IfErr result IsReadFault }
+    ensures error { IfErr result IsReadError }
 {
     let mut text = Vec::new(lister.alloc);
     match kind {
@@ -187,9 +187,9 @@ fn give_lines<F: Read + Seek, O: Write>(
     session: &mut Session,
     lines: &mut LineReader<'_, F>,
     out: &mut O,
-) -> Result<(), LogFault>
+) -> Result<(), LogError>
     ensures listed { IfOk result (λ _. ListsLines lister.now.form session.old (O.contents out.old) (O.contents out.new) session.new) }
-    ensures fault { IfErr result IsReadFault }
+    ensures error { IfErr result IsReadError }
 {
     while lines.read()? {
         lister.done(session, lines.as_slice(), out)?;

@@ -3,9 +3,9 @@ ghost use Rattle.std.specs.Prelude.{◌≡◌, ◌<◌, ◌≤◌, ◌==◌, [],
 ghost use Rattle.std.specs.Str.Lines.{lines};
 ghost use Rattle.std.specs.Io.{ReadsAtMost};
 ghost use Rattle.std.specs.Io.KnownBytes.{Appends, IsAtEnd, Keeps, ReadConsumes, prepend_known};
-ghost use Rattle.session_log.specs.LogFile.{fault_of_break, framed, has_sync, items, line_end, line_len, may_be_sync, may_sync, noted, sum_with};
+ghost use Rattle.session_log.specs.LogFile.{error_of_break, framed, has_sync, items, line_end, line_len, may_be_sync, may_sync, noted, sum_with};
 
-use crate::fault::{AppendError, LogFault, LoggedFault};
+use crate::error::{AppendError, LogError, LoggedError};
 use crate::file_node::FileNode;
 use crate::frame::Frame;
 use crate::window::Window;
@@ -115,9 +115,9 @@ impl<'p, F: Write + OpenFile, R: Files> Log<'p, F, R> {
         ensures synced { OnOk result (may_sync self.old.unfinished bytes.now ≡ true → self.new.synced ≡ true) }
     {
         let before = self.len;
-        let asked = may_sync(self.unfinished, bytes);
+        let needs_sync = may_sync(self.unfinished, bytes);
         self.note(bytes)?;
-        if asked && !self.synced {
+        if needs_sync && !self.synced {
             self.sync_from(before)?;
         }
         Ok(())
@@ -312,14 +312,14 @@ impl<'a, 'p, I: Read, F: Write + OpenFile, R: Files> LoggedInput<'a, 'p, I, F, R
     }
 
     /// Returns the error of a session that ended for this reason.
-    pub fn fault_of(&self, why: ServeError) -> LoggedFault
-        ensures { result ≡ fault_of_break self.now.failure why }
+    pub fn error_of(&self, why: ServeError) -> LoggedError
+        ensures { result ≡ error_of_break self.now.failure why }
     {
         match self.failure {
-            Some(AppendError::CannotWrite) => LoggedFault::Log(LogFault::CannotWrite),
-            Some(AppendError::Changed) => LoggedFault::Log(LogFault::Changed),
-            Some(AppendError::NoMemory) => LoggedFault::Session(ServeError::NoMemory),
-            None => LoggedFault::Session(why),
+            Some(AppendError::CannotWrite) => LoggedError::Log(LogError::CannotWrite),
+            Some(AppendError::Changed) => LoggedError::Log(LogError::Changed),
+            Some(AppendError::NoMemory) => LoggedError::Session(ServeError::NoMemory),
+            None => LoggedError::Session(why),
         }
     }
 }

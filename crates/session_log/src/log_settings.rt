@@ -3,9 +3,9 @@ ghost use Rattle.std.specs.Prelude.{◌≡◌, ◌≤◌, ◌++◌, true, map, I
 ghost use Rattle.crawl_core.specs.Limits.{queue_limit};
 ghost use Rattle.crawl_limits.specs.Limits.{worker_limit};
 ghost use Rattle.session_log.specs.Plans.{IsPartOf, all_queues};
-ghost use Rattle.session_log.specs.LogFile.{IsFaultOfLine, flag_text, is_within, max_apart, part_apart, setting_apart, within_apart, workers_apart};
+ghost use Rattle.session_log.specs.LogFile.{IsErrorOfLine, flag_text, is_within, max_apart, part_apart, setting_apart, within_apart, workers_apart};
 
-use crate::fault::{LogFault, Setting};
+use crate::error::{LogError, Setting};
 use crate::plan::SessionPlan;
 use crawl_core::QUEUE_LIMIT;
 use crawl_replay::Header;
@@ -19,14 +19,14 @@ pub const SUMS: &str = " sums";
 
 /// Returns why a log that begins with these bytes is not the log of the plan: its first setting that is another one, or that the
 /// first line is not one that the program writes. A line without its end here is none.
-pub fn fault_of_head(
+pub fn error_of_head(
     alloc: Global,
     head: &[u8],
     plan: &SessionPlan,
-) -> Result<LogFault, AllocError> {
+) -> Result<LogError, AllocError> {
     match first_line_in(head) {
-        Some(line) => fault_of_line(alloc, line, plan),
-        None => Ok(LogFault::NotALog),
+        Some(line) => error_of_line(alloc, line, plan),
+        None => Ok(LogError::NotALog),
     }
 }
 
@@ -36,21 +36,21 @@ pub fn first_line_in(bytes: &[u8]) -> Option<&str> {
     str::from_utf8(&bytes[..end]).ok()
 }
 
-/// Like [`fault_of_head`], for a whole first line without its LF.
-fn fault_of_line(alloc: Global, line: &str, plan: &SessionPlan) -> Result<LogFault, AllocError>
-    ensures { IfOk result (IsFaultOfLine line.now plan.now) }
+/// Like [`error_of_head`], for a whole first line without its LF.
+fn error_of_line(alloc: Global, line: &str, plan: &SessionPlan) -> Result<LogError, AllocError>
+    ensures { IfOk result (IsErrorOfLine line.now plan.now) }
 {
     let (part, _identity, settings) = read_start(line);
     let (settings, _sums) = split_flag(settings);
     let Some((header, suffixes)) = read_settings(alloc, settings)? else {
-        return Ok(LogFault::NotALog);
+        return Ok(LogError::NotALog);
     };
     if !is_part(part, header.workers) {
-        return Ok(LogFault::NotALog);
+        return Ok(LogError::NotALog);
     }
     match setting_apart(part, &suffixes, &header, plan) {
-        Some(setting) => Ok(LogFault::OtherSettings(setting)),
-        None => Ok(LogFault::NotALog),
+        Some(setting) => Ok(LogError::OtherSettings(setting)),
+        None => Ok(LogError::NotALog),
     }
 }
 

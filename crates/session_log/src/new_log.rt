@@ -4,7 +4,7 @@ ghost use Rattle.std.specs.Hash.DefaultHasher.{initial};
 ghost use Rattle.std.specs.Io.KnownBytes.{Appends};
 ghost use Rattle.session_log.specs.LogFile.{framed, sum_with};
 
-use crate::fault::LogFault;
+use crate::error::LogError;
 use crate::frame::Frame;
 use crawl_session::LogSum;
 use std::alloc::Global;
@@ -37,14 +37,14 @@ impl<O: Write> NewLog<O> {
     ///
     /// # Errors
     /// `CannotWriteNew`, `NoMemory`.
-    pub fn append(&mut self, lines: &[u8]) -> Result<(), LogFault>
+    pub fn append(&mut self, lines: &[u8]) -> Result<(), LogError>
         ensures gained { OnOk result (Appends (O.contents self.old.file) (O.contents self.new.file) (framed self.old.frame.sum true lines.now)) }
         ensures sum { OnOk result (self.new.frame.sum ≡ sum_with self.old.frame.sum (framed self.old.frame.sum true lines.now)) }
     {
         self.frame.fill(true, lines)?;
         match self.file.write_all(self.frame.as_slice()) {
             Ok(()) => Ok(()),
-            Err(_) => Err(LogFault::CannotWriteNew),
+            Err(_) => Err(LogError::CannotWriteNew),
         }
     }
 }
@@ -57,35 +57,35 @@ pub fn create_partial<R: Files>(
     rt: &R,
     alloc: Global,
     new: &str,
-) -> Result<(String, R::File), LogFault> {
+) -> Result<(String, R::File), LogError> {
     if fs::symlink_metadata(rt, new).is_ok() {
-        return Err(LogFault::CannotMakeNew);
+        return Err(LogError::CannotMakeNew);
     }
     for number in 1..=NAME_LIMIT {
         let partial = format!(in alloc; "{new}.partial-{number}")?;
         match File::create_new(rt, partial.as_str()) {
             Ok(file) => return Ok((partial, file)),
             Err(why) if why.kind() == ErrorKind::AlreadyExists => {}
-            Err(_) => return Err(LogFault::CannotMakeNew),
+            Err(_) => return Err(LogError::CannotMakeNew),
         }
     }
-    Err(LogFault::CannotMakeNew)
+    Err(LogError::CannotMakeNew)
 }
 
 /// Gives the new log its name instead of the temporary one, and syncs its folder to disk. An error leaves neither name.
 ///
 /// # Errors
 /// `CannotMakeNew` if a file has the name of the new log, or if it cannot be given. `CannotWriteNew` if the sync fails.
-pub fn publish<R: Files>(rt: &R, partial: &str, new: &str) -> Result<(), LogFault> {
+pub fn publish<R: Files>(rt: &R, partial: &str, new: &str) -> Result<(), LogError> {
     // Unlike a rename, a link never replaces a file.
     let linked = fs::hard_link(rt, partial, new);
     let _ = fs::remove_file(rt, partial);
     if linked.is_err() {
-        return Err(LogFault::CannotMakeNew);
+        return Err(LogError::CannotMakeNew);
     }
     if sync_folder(rt, folder_of(new)).is_err() {
         let _ = fs::remove_file(rt, new);
-        return Err(LogFault::CannotWriteNew);
+        return Err(LogError::CannotWriteNew);
     }
     Ok(())
 }

@@ -3,14 +3,14 @@ ghost use Rattle.std.specs.Prelude.{◌≡◌, ℕ, List, string_bytes, IfErr, I
 ghost use Rattle.crawl_session.specs.Frontiers.{Shows, start};
 ghost use Rattle.crawl_session.specs.Logs.{settings_line};
 ghost use Rattle.session_log.specs.Compaction.{first_line, part_start, suffixes_of};
-ghost use Rattle.session_log.specs.LogFile.{IsReadFault, IsUseFault};
+ghost use Rattle.session_log.specs.LogFile.{IsReadError, IsUseError};
 ghost use Rattle.session_log.specs.Plans.{IsSessionPlan, queues_of, settings_of};
 
-use crate::fault::LogFault;
+use crate::error::LogError;
 use crate::file_node::FileNode;
 use crate::lines::checked_sum;
 use crate::lock_file::LockFile;
-use crate::log_settings::{SUMS, fault_of_head};
+use crate::log_settings::{SUMS, error_of_head};
 use crate::plan::{LogPlan, SessionPlan};
 use crawl_keys::Filter;
 use crawl_replay::Header;
@@ -58,14 +58,14 @@ impl<F: OpenFile> OpenedLog<F> {
     ///
     /// # Errors
     /// `CannotWrite`.
-    pub fn cut(&self) -> Result<bool, LogFault>
-        ensures { IfErr result IsUseFault }
+    pub fn cut(&self) -> Result<bool, LogError>
+        ensures { IfErr result IsUseError }
     {
         if self.len <= self.whole {
             return Ok(false);
         }
         if self.file.set_len(self.whole).is_err() {
-            return Err(LogFault::CannotWrite);
+            return Err(LogError::CannotWrite);
         }
         Ok(true)
     }
@@ -93,7 +93,7 @@ impl Lengths {
         &self,
         alloc: Global,
         file: &mut F,
-    ) -> Result<Option<LogSum>, LogFault> {
+    ) -> Result<Option<LogSum>, LogError> {
         if !self.sums {
             return Ok(None);
         }
@@ -114,7 +114,7 @@ pub fn open_session<R: Files, L: LockFile<R::File>>(
     plan: &LogPlan,
     filter: Filter,
     makes: bool,
-) -> Result<(OpenedLog<R::File>, Session), LogFault>
+) -> Result<(OpenedLog<R::File>, Session), LogError>
     requires { IsSessionPlan plan.now.session }
     ensures start { IfOk result (λ r. Shows r.1.core (start (queues_of plan.now.session) plan.now.session.max)) }
     ensures settings { IfOk result (λ r. (identity : List ℕ) × (r.1.settings ≡ settings_of plan.now.session filter identity)) }
@@ -137,7 +137,7 @@ fn open_log<R: Files, L: LockFile<R::File>>(
     alloc: Global,
     plan: &LogPlan,
     makes: bool,
-) -> Result<OpenedLog<R::File>, LogFault> {
+) -> Result<OpenedLog<R::File>, LogError> {
     let (mut file, node) = open_file(rt, locks, plan, makes)?;
     check_start(alloc, &mut file)?;
     let Some(identity) = identity_of(rt, alloc, plan.session.part, &mut file)? else {
@@ -170,7 +170,7 @@ fn open_file<R: Files, L: LockFile<R::File>>(
     locks: &L,
     plan: &LogPlan,
     makes: bool,
-) -> Result<(R::File, FileNode), LogFault> {
+) -> Result<(R::File, FileNode), LogError> {
     let name = plan.file.as_str();
     let mut limit = Duration::from_secs(plan.wait);
     for _opening in 0..OPENING_LIMIT {
@@ -180,18 +180,18 @@ fn open_file<R: Files, L: LockFile<R::File>>(
             .create(makes)
             .open(rt, name);
         let Ok(file) = opened else {
-            return Err(LogFault::CannotOpen);
+            return Err(LogError::CannotOpen);
         };
         match locks.lock_within(&file, limit) {
             Ok(Some(left)) => limit = left,
-            Ok(None) => return Err(LogFault::InUse),
-            Err(_) => return Err(LogFault::CannotOpen),
+            Ok(None) => return Err(LogError::InUse),
+            Err(_) => return Err(LogError::CannotOpen),
         }
         if let Some(node) = named_node(rt, &file, name) {
             return Ok((file, node));
         }
     }
-    Err(LogFault::InUse)
+    Err(LogError::InUse)
 }
 
 /// Returns what the file is to the system, if the name leads to it.
@@ -208,12 +208,12 @@ fn named_node<R: Files>(rt: &R, file: &R::File, name: &str) -> Option<FileNode> 
 ///
 /// # Errors
 /// `NotALog`, `CannotRead`, `NoMemory`.
-fn check_start<F: Read + Seek>(alloc: Global, file: &mut F) -> Result<(), LogFault> {
+fn check_start<F: Read + Seek>(alloc: Global, file: &mut F) -> Result<(), LogError> {
     let (start, _len) = read_head(alloc, file, START_LEN)?;
     if begins_a_log(&start) {
         Ok(())
     } else {
-        Err(LogFault::NotALog)
+        Err(LogError::NotALog)
     }
 }
 
@@ -222,8 +222,8 @@ pub fn read_head<F: Read + Seek>(
     alloc: Global,
     file: &mut F,
     limit: usize,
-) -> Result<(Vec<u8>, u64), LogFault>
-    ensures { IfErr result IsReadFault }
+) -> Result<(Vec<u8>, u64), LogError>
+    ensures { IfErr result IsReadError }
 {
     let len = file.seek(SeekFrom::End(0))?;
     let count = len.min(limit as u64) as usize;
@@ -252,11 +252,11 @@ fn identity_of<R: Files, F: Read + Seek>(
     alloc: Global,
     part: Option<(u32, u32)>,
     file: &mut F,
-) -> Result<Option<String>, LogFault> {
+) -> Result<Option<String>, LogError> {
     let Some(part) = part else {
         return Ok(Some(String::new(alloc)));
     };
-    let mut digits = drawn_digits(rt)?;
+    let mut digits = random_digits(rt)?;
     let begin = identity_start(alloc, part)?.len() as u64;
     let len = file.seek(SeekFrom::End(0))?;
     let there = len.saturating_sub(begin).min(DIGITS as u64) as usize;
@@ -273,18 +273,18 @@ fn identity_start(alloc: Global, part: (u32, u32)) -> Result<String, AllocError>
 }
 
 /// Returns random digits from the system.
-fn drawn_digits<R: Files>(rt: &R) -> Result<[u8; DIGITS], LogFault> {
-    let mut drawn = [0u8; DIGITS];
+fn random_digits<R: Files>(rt: &R) -> Result<[u8; DIGITS], LogError> {
+    let mut random = [0u8; DIGITS];
     let Ok(mut source) = fs::open(rt, "/dev/urandom") else {
-        return Err(LogFault::CannotRead);
+        return Err(LogError::CannotRead);
     };
-    if source.read_exact(&mut drawn).is_err() {
-        return Err(LogFault::CannotRead);
+    if source.read_exact(&mut random).is_err() {
+        return Err(LogError::CannotRead);
     }
-    for byte in drawn.iter_mut() {
+    for byte in random.iter_mut() {
         *byte = hex_digit(u64::from(*byte));
     }
-    Ok(drawn)
+    Ok(random)
 }
 
 /// Returns the text of these digits, or `None` if one is not hexadecimal.
@@ -348,7 +348,7 @@ fn measure<F: Read + Seek>(
     alloc: Global,
     file: &mut F,
     first: &[u8],
-) -> Result<Option<Lengths>, LogFault> {
+) -> Result<Option<Lengths>, LogError> {
     let (head, len) = read_head(alloc, file, first.len())?;
     let Some((start, sums)) = start_of(first, &head) else {
         return Ok(None);
@@ -398,9 +398,9 @@ fn unlike<F: Read + Seek>(
     alloc: Global,
     file: &mut F,
     plan: &SessionPlan,
-) -> Result<LogFault, LogFault> {
+) -> Result<LogError, LogError> {
     let (head, _len) = read_head(alloc, file, READ_SIZE)?;
-    Ok(fault_of_head(alloc, &head, plan)?)
+    Ok(error_of_head(alloc, &head, plan)?)
 }
 
 /// Returns the end of the last whole line after `from`; `from` if there is none.

@@ -52,7 +52,7 @@ impl SessionPlan {
         ensures part { IfOk result (λ session. session.settings.part ≡ part_of self.now.workers identity.now self.now.part) }
     {
         match self.part {
-            None => alone_of(alloc, self, filter),
+            None => session_without_part(alloc, self, filter),
             Some((number, parts)) => {
                 let part = Part {
                     number,
@@ -66,7 +66,11 @@ impl SessionPlan {
 }
 
 /// Creates the session of a plan without a part.
-fn alone_of(alloc: Global, plan: &SessionPlan, filter: Filter) -> Result<Session, AllocError>
+fn session_without_part(
+    alloc: Global,
+    plan: &SessionPlan,
+    filter: Filter,
+) -> Result<Session, AllocError>
     requires { AreLimits plan.now.workers plan.now.max }
     ensures start { IfOk result (λ session. Shows session.core (start plan.now.workers plan.now.max)) }
     ensures workers { IfOk result (λ session. session.settings.workers ≡ plan.now.workers) }

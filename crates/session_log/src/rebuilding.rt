@@ -3,10 +3,10 @@ ghost use Rattle.std.specs.Prelude.{◌≡◌, ◌<◌, ◌≤◌, Ok, length, I
 ghost use Rattle.crawl_keys.specs.HostFilter.{filter_of};
 ghost use Rattle.crawl_session.specs.Settings.{SessionView};
 ghost use Rattle.session_log.specs.Compaction.{InPieces, IsRebuilt, IsRebuiltText, ReadsUrls, first_queue, suffixes_of, summing};
-ghost use Rattle.session_log.specs.Faults.{of_rebuild};
+ghost use Rattle.session_log.specs.Errors.{of_rebuild};
 ghost use Rattle.session_log.specs.Plans.{IsSessionPlan};
 
-use crate::fault::LogFault;
+use crate::error::LogError;
 use crate::lines::LineReader;
 use crate::listing::filter_of;
 use crate::new_log::NewLog;
@@ -26,15 +26,15 @@ pub fn rebuild_to<F: Read + Seek, O: Write>(
     alloc: Global,
     session: &mut Session,
     log: &mut OpenedLog<F>,
-    wanted: &SessionPlan,
+    new_settings: &SessionPlan,
     new: &mut NewLog<O>,
-) -> Result<LeftOut, LogFault>
-    requires { IsSessionPlan wanted.now }
-    ensures { IfOk result (λ left_out. IsRebuilt session.old wanted.now (string_bytes log.old.identity) left_out new.old.frame.sum (O.contents new.old.file) (O.contents new.new.file)) }
+) -> Result<LeftOut, LogError>
+    requires { IsSessionPlan new_settings.now }
+    ensures { IfOk result (λ left_out. IsRebuilt session.old new_settings.now (string_bytes log.old.identity) left_out new.old.frame.sum (O.contents new.old.file) (O.contents new.new.file)) }
 {
     let mut lines = LineReader::new(alloc, &mut log.file, log.start, log.whole)?;
     let inventory = read_urls(alloc, session, &mut lines)?;
-    append_rebuilt(alloc, &inventory, wanted, log.identity.as_str(), new)
+    append_rebuilt(alloc, &inventory, new_settings, log.identity.as_str(), new)
 }
 
 /// Appends the first line of a log of this plan, and the lines that have the URLs of the inventory. Returns how many of them it leaves
@@ -42,15 +42,15 @@ pub fn rebuild_to<F: Read + Seek, O: Write>(
 fn append_rebuilt<O: Write>(
     alloc: Global,
     inventory: &Inventory,
-    wanted: &SessionPlan,
+    new_settings: &SessionPlan,
     identity: &str,
     new: &mut NewLog<O>,
-) -> Result<LeftOut, LogFault>
-    requires { IsSessionPlan wanted.now }
-    ensures { IfOk result (λ left_out. (session : SessionView) → ReadsUrls session inventory.now → IsRebuilt session wanted.now identity.now left_out new.old.frame.sum (O.contents new.old.file) (O.contents new.new.file)) }
+) -> Result<LeftOut, LogError>
+    requires { IsSessionPlan new_settings.now }
+    ensures { IfOk result (λ left_out. (session : SessionView) → ReadsUrls session inventory.now → IsRebuilt session new_settings.now identity.now left_out new.old.frame.sum (O.contents new.old.file) (O.contents new.new.file)) }
 {
-    let (text, left_out) = rebuilt_text(alloc, inventory, wanted, identity)?;
-    let first = first_line_of(alloc, wanted, identity)?;
+    let (text, left_out) = rebuilt_text(alloc, inventory, new_settings, identity)?;
+    let first = first_line_of(alloc, new_settings, identity)?;
     new.append(first.as_bytes())?;
     append_pieces(new, &text)?;
     Ok(left_out)
@@ -62,7 +62,7 @@ fn read_urls<F: Read + Seek>(
     alloc: Global,
     session: &mut Session,
     lines: &mut LineReader<'_, F>,
-) -> Result<Inventory, LogFault>
+) -> Result<Inventory, LogError>
     ensures { IfOk result (λ had. ReadsUrls session.old had) }
 {
     let mut inventory = Inventory::new(alloc);
@@ -85,7 +85,7 @@ fn rebuilt_text(
     inventory: &Inventory,
     plan: &SessionPlan,
     identity: &str,
-) -> Result<(Vec<u8>, LeftOut), LogFault>
+) -> Result<(Vec<u8>, LeftOut), LogError>
     requires { IsSessionPlan plan.now }
     ensures { IfOk result (λ r. IsRebuiltText inventory.now plan.now identity.now r.0.items r.1) }
 {
@@ -97,7 +97,7 @@ fn rebuilt_text(
 }
 
 /// Returns the filter of a suffix, or one that allows all URLs.
-pub fn filter_within(alloc: Global, within: &Option<String>) -> Result<Filter, LogFault>
+pub fn filter_within(alloc: Global, within: &Option<String>) -> Result<Filter, LogError>
     ensures { IfOk result (λ filter. filter_of (suffixes_of within.now) ≡ Ok filter) }
 {
     match within {
@@ -120,7 +120,7 @@ fn first_queue(plan: &SessionPlan) -> u32
 
 /// Appends whole lines, in pieces that a reader of the log can hold, each with its checksum.
 #[tactic(auto, using(crate::proofs::Rebuilds::pieces_none, crate::proofs::Rebuilds::pieces_all))]
-fn append_pieces<O: Write>(new: &mut NewLog<O>, text: &[u8]) -> Result<(), LogFault>
+fn append_pieces<O: Write>(new: &mut NewLog<O>, text: &[u8]) -> Result<(), LogError>
     ensures { OnOk result (InPieces text.now (summing new.old.frame.sum (O.contents new.old.file)) (summing new.new.frame.sum (O.contents new.new.file))) }
 {
     let mut rest = text;
@@ -146,14 +146,14 @@ fn piece_len(text: &[u8]) -> usize
 }
 
 // An error of this type comes from `rebuild_log`, which writes to memory here.
-impl From<RebuildError> for LogFault {
-    ghost from_gives = { λ why fault. fault ≡ of_rebuild why };
+impl From<RebuildError> for LogError {
+    ghost from_gives = { λ why error. error ≡ of_rebuild why };
 
-    fn from(why: RebuildError) -> LogFault {
+    fn from(why: RebuildError) -> LogError {
         match why {
-            RebuildError::Full => LogFault::NoRoom,
-            RebuildError::Unfit => LogFault::LongUrl,
-            RebuildError::CannotWrite | RebuildError::NoMemory => LogFault::NoMemory,
+            RebuildError::Full => LogError::NoRoom,
+            RebuildError::Unfit => LogError::LongUrl,
+            RebuildError::CannotWrite | RebuildError::NoMemory => LogError::NoMemory,
         }
     }
 }

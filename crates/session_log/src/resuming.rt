@@ -3,9 +3,9 @@ ghost use Rattle.std.specs.Prelude.{◌≡◌, ℕ, List, IfOk, IfErr, OnOk};
 ghost use Rattle.std.specs.Str.Lines.{lines};
 ghost use Rattle.crawl_session.specs.Input.{ServesInput};
 ghost use Rattle.crawl_session.specs.Logs.{Reruns};
-ghost use Rattle.session_log.specs.LogFile.{IsBreak, IsUseFault};
+ghost use Rattle.session_log.specs.LogFile.{IsBreak, IsUseError};
 
-use crate::fault::{LogFault, LoggedFault};
+use crate::error::{LogError, LoggedError};
 use crate::log_file::{Log, LogPlace, LoggedInput};
 use crate::opening::OpenedLog;
 use crate::plan::LogPlan;
@@ -24,9 +24,9 @@ pub fn resume<'p, R: Files, F: Read + Seek + Write + OpenFile + Drop>(
     plan: &LogPlan,
     opened: OpenedLog<F>,
     session: &mut Session,
-) -> Result<Log<'p, F, R>, LogFault>
+) -> Result<Log<'p, F, R>, LogError>
     ensures resumed { OnOk result ((bytes : List ℕ) × Reruns session.old (lines bytes) session.new) }
-    ensures fault { IfErr result IsUseFault }
+    ensures error { IfErr result IsUseError }
 {
     let OpenedLog {
         mut file,
@@ -54,9 +54,9 @@ fn rerun_file<F: Read + Seek>(
     session: &mut Session,
     file: &mut F,
     start: u64,
-) -> Result<(), LogFault>
+) -> Result<(), LogError>
     ensures resumed { OnOk result ((bytes : List ℕ) × Reruns session.old (lines bytes) session.new) }
-    ensures fault { IfErr result IsUseFault }
+    ensures error { IfErr result IsUseError }
 {
     if start == 0 {
         return Ok(());
@@ -64,8 +64,8 @@ fn rerun_file<F: Read + Seek>(
     file.seek(SeekFrom::Start(start))?;
     match serve(alloc, session, file, &mut io::sink()) {
         Ok(()) => Ok(()),
-        Err(ServeError::NoMemory) => Err(LogFault::NoMemory),
-        Err(_) => Err(LogFault::CannotRead),
+        Err(ServeError::NoMemory) => Err(LogError::NoMemory),
+        Err(_) => Err(LogError::CannotRead),
     }
 }
 
@@ -81,13 +81,13 @@ pub fn serve_logged<F: Write + OpenFile + Drop, R: Files, I: Read, O: Write>(
     syncs: bool,
     input: &mut I,
     out: &mut O,
-) -> Result<(), LoggedFault>
+) -> Result<(), LoggedError>
     ensures served { IfOk result (λ _. ServesInput session.old (I.remaining input.old) (O.contents out.old) (O.contents out.new) session.new) }
-    ensures fault { IfErr result IsBreak }
+    ensures error { IfErr result IsBreak }
 {
     let mut logged = LoggedInput::new(alloc, input, log, syncs)?;
     match serve(alloc, session, &mut logged, out) {
         Ok(()) => Ok(()),
-        Err(why) => Err(logged.fault_of(why)),
+        Err(why) => Err(logged.error_of(why)),
     }
 }

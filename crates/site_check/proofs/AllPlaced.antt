@@ -146,8 +146,8 @@ module _ (files : SiteFiles) (results : List PageResult) (reads : ℕ → Option
   own_taken : (of rest : ℕ) (all : List TargetLocation) (one : ListedLead) → HasPlace files results reads all one → HasTaken files results reads of rest all one
   own_taken of rest all one has = record { has = λ taken. has }
 
-  not_taken : (of rest : ℕ) (all : List TargetLocation) (source : ℕ) (one : ListedLead) → is_taken of rest source ≡ false → one.lead.source ≡ source → HasTaken files results reads of rest all one
-  not_taken of rest all source one other is = record { has = λ taken. absurd (not_true (sym other ∙ ap (is_taken of rest) (sym is) ∙ taken)) }
+  none_taken : (of rest : ℕ) (all : List TargetLocation) (source : ℕ) (one : ListedLead) → is_taken of rest source ≡ false → one.lead.source ≡ source → HasTaken files results reads of rest all one
+  none_taken of rest all source one other is = record { has = λ taken. absurd (not_true (sym other ∙ ap (is_taken of rest) (sym is) ∙ taken)) }
 
   passed_page : (of rest : ℕ) (all : List TargetLocation) (leads left : List ListedLead) (page : PageLeads) → IsFirstPage left page → HasPassed of rest all leads left → All (HasTaken files results reads of rest all) page.own.now →
       HasPassed of rest all leads page.more.now
@@ -176,7 +176,7 @@ module _ (files : SiteFiles) (results : List PageResult) (reads : ℕ → Option
   pub passed_other : (of rest : ℕ) (all : List TargetLocation) (leads left : List ListedLead) (page : PageLeads) → IsFirstPage left page → is_taken of rest page.source ≡ false → HasPassed of rest all leads left → HasPassed of rest all leads page.more.now
   passed_other of rest all leads left page first other passed =
       passed_page of rest all leads left page first passed
-      (All-weaker (λ (one : ListedLead). one.lead.source ≡ page.source) (HasTaken files results reads of rest all) (λ one is. not_taken of rest all page.source one other is) page.own.now first.own)
+      (All-weaker (λ (one : ListedLead). one.lead.source ≡ page.source) (HasTaken files results reads of rest all) (λ one is. none_taken of rest all page.source one other is) page.own.now first.own)
 
   pub passed_all : (of rest : ℕ) (all : List TargetLocation) (leads left : List ListedLead) → left ≡ [] → HasPassed of rest all leads left → All (HasTaken files results reads of rest all) leads
   passed_all of rest all leads left none passed =

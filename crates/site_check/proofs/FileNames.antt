@@ -12,27 +12,27 @@ has_slash : (folder file : List ℕ) → list_any is_slash (folder ++ 47 ∷ fil
 has_slash [] file = refl
 has_slash (b ∷ folder) file = grind (arith, common_steps, has_slash folder file)
 
-pub file_alone : (name : List ℕ) → IsName name → name ≡ after_slashes name
-file_alone [] free = refl
-file_alone (b ∷ name) free = sym (cond-false (list_any is_slash (b ∷ name)) _ _ (no_slash (b ∷ name) free))
+pub file_only : (name : List ℕ) → IsName name → name ≡ after_slashes name
+file_only [] free = refl
+file_only (b ∷ name) free = sym (cond-false (list_any is_slash (b ∷ name)) _ _ (no_slash (b ∷ name) free))
 
-file_behind : (folder file : List ℕ) → IsName file → after_slashes (folder ++ 47 ∷ file) ≡ file
-file_behind [] file free = sym (file_alone file free)
-file_behind (b ∷ folder) file free = cond-true (list_any is_slash (b ∷ folder ++ 47 ∷ file)) _ _ (has_slash (b ∷ folder) file) ∙ file_behind folder file free
+file_after : (folder file : List ℕ) → IsName file → after_slashes (folder ++ 47 ∷ file) ≡ file
+file_after [] file free = sym (file_only file free)
+file_after (b ∷ folder) file free = cond-true (list_any is_slash (b ∷ folder ++ 47 ∷ file)) _ _ (has_slash (b ∷ folder) file) ∙ file_after folder file free
 
 pub file_cut : (name folder file : List ℕ) → name ≡ folder ++ 47 ∷ file → IsName file → file ≡ after_slashes name
-file_cut name folder file is free = sym (ap after_slashes is ∙ file_behind folder file free)
+file_cut name folder file is free = sym (ap after_slashes is ∙ file_after folder file free)
 
 -- what is before the slash has the length of all without the file and the slash
 before_slash : (folder file : List ℕ) → IsName file → take (length (folder ++ 47 ∷ file) - length (after_slashes (folder ++ 47 ∷ file)) - 1) (folder ++ 47 ∷ file) ≡ folder
 before_slash folder file free =
     let count : length (folder ++ 47 ∷ file) - length (after_slashes (folder ++ 47 ∷ file)) - 1 ≡ length folder =
-    omega (arith, length-append folder (47 ∷ file), ap length (file_behind folder file free)) in
+    omega (arith, length-append folder (47 ∷ file), ap length (file_after folder file free)) in
     ap (λ n. take n (folder ++ 47 ∷ file)) count ∙ take-append_seam folder (47 ∷ file)
 
 pub folder_cut : (name folder file : List ℕ) → name ≡ folder ++ 47 ∷ file → IsName file → folder ≡ folder_in name
 folder_cut name folder file is free =
     sym (ap folder_in is ∙ cond-true (list_any is_slash (folder ++ 47 ∷ file)) _ _ (has_slash folder file) ∙ before_slash folder file free)
 
-pub folder_alone : (name : List ℕ) → IsName name → codes "." ≡ folder_in name
-folder_alone name free = sym (cond-false (list_any is_slash name) _ _ (no_slash name free))
+pub folder_only : (name : List ℕ) → IsName name → codes "." ≡ folder_in name
+folder_only name free = sym (cond-false (list_any is_slash name) _ _ (no_slash name free))

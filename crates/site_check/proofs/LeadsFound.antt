@@ -12,33 +12,33 @@ pub no_more : {X : Type 0} (xs : List X) → xs ++ [] ≡ xs
 no_more [] = refl
 no_more (x ∷ xs) = ap (λ l. x ∷ l) (no_more xs)
 
-pub leads_behind : (f : List ℕ → Option ℕ) (g : List ℕ → List ℕ) (n : ℕ) (xs ys : List PageResult) → leads_from f g n (xs ++ ys) ≡ leads_from f g n xs ++ leads_from f g (n + length xs) ys
-leads_behind f g n [] ys = ap (λ k. leads_from f g k ys) (omega arith)
-leads_behind f g n (x ∷ xs) ys =
+pub leads_after : (f : List ℕ → Option ℕ) (g : List ℕ → List ℕ) (n : ℕ) (xs ys : List PageResult) → leads_from f g n (xs ++ ys) ≡ leads_from f g n xs ++ leads_from f g (n + length xs) ys
+leads_after f g n [] ys = ap (λ k. leads_from f g k ys) (omega arith)
+leads_after f g n (x ∷ xs) ys =
     let here : List Lead = leads_of f g n x.url x.page in
     let place : (n + 1) + length xs ≡ n + length (x ∷ xs) = omega arith in
-    ap (λ l. here ++ l) (leads_behind f g (n + 1) xs ys)
+    ap (λ l. here ++ l) (leads_after f g (n + 1) xs ys)
     ∙ sym (append_assoc here (leads_from f g (n + 1) xs) (leads_from f g ((n + 1) + length xs) ys))
     ∙ ap (λ k. (here ++ leads_from f g (n + 1) xs) ++ leads_from f g k ys) place
 
-pub missing_behind : (front : List ℕ) (entries : List (List ℕ)) (n : ℕ) (xs ys : List PageResult) →
+pub missing_after : (front : List ℕ) (entries : List (List ℕ)) (n : ℕ) (xs ys : List PageResult) →
     missing_from front entries n (xs ++ ys) ≡ missing_from front entries n xs ++ missing_from front entries (n + length xs) ys
-missing_behind front entries n [] ys = ap (λ k. missing_from front entries k ys) (omega arith)
-missing_behind front entries n (x ∷ xs) ys =
+missing_after front entries n [] ys = ap (λ k. missing_from front entries k ys) (omega arith)
+missing_after front entries n (x ∷ xs) ys =
     let here : List Target = to_number x.url (own_number front entries n x) in
     let place : (n + 1) + length xs ≡ n + length (x ∷ xs) = omega arith in
-    ap (λ l. here ++ l) (missing_behind front entries (n + 1) xs ys)
+    ap (λ l. here ++ l) (missing_after front entries (n + 1) xs ys)
     ∙ sym (append_assoc here (missing_from front entries (n + 1) xs) (missing_from front entries ((n + 1) + length xs) ys))
     ∙ ap (λ k. (here ++ missing_from front entries (n + 1) xs) ++ missing_from front entries k ys) place
 
 -- one result more
 pub missing_more : (front : List ℕ) (entries : List (List ℕ)) (ls : List code.Linked) (i : ℕ) (l : code.Linked) → i < length ls → l ≡ get_or ls i l →
     missing_from front entries 0 (map result_at (take (i + 1) ls)) ≡ missing_from front entries 0 (map result_at (take i ls)) ++ to_number l.result.now.url (own_number front entries i l.result.now)
-missing_more front entries ls i l below is = grind (arith, common_steps, length-map, length-take-le, map_more, missing_behind, no_more)
+missing_more front entries ls i l below is = grind (arith, common_steps, length-map, length-take-le, map_more, missing_after, no_more)
 
 pub leads_more : (f : List ℕ → Option ℕ) (g : List ℕ → List ℕ) (n : ℕ) (rs : List PageResult) (i : ℕ) (r : PageResult) → i < length rs → r ≡ get_or rs i r →
     leads_from f g n (take (i + 1) rs) ≡ leads_from f g n (take i rs) ++ leads_of f g (n + i) r.url r.page
-leads_more f g n rs i r below is = grind (arith, common_steps, length-take-le, take_more, leads_behind, no_more)
+leads_more f g n rs i r below is = grind (arith, common_steps, length-take-le, take_more, leads_after, no_more)
 
 -- ---- targets and places, one more
 
@@ -106,9 +106,9 @@ numbers_of_all front entries results missing moved first is known moving url = g
 
 -- ---- the links of a page, one by one
 
-pub link_more : (f : List ℕ → Option ℕ) (n : ℕ) (so_far next : List Lead) (url : List ℕ) (urls more : List (List ℕ)) (index : ℕ) (indices behind : List ℕ) (all : List Lead) →
-    urls ≡ url ∷ more → indices ≡ index ∷ behind → next ≡ so_far ++ lead_to n index (f url) → so_far ++ leads_at f n urls indices ≡ all → next ++ leads_at f n more behind ≡ all
-link_more f n so_far next url urls more index indices behind all first second pushed before = grind (arith, common_steps)
+pub link_more : (f : List ℕ → Option ℕ) (n : ℕ) (so_far next : List Lead) (url : List ℕ) (urls more : List (List ℕ)) (index : ℕ) (indices following : List ℕ) (all : List Lead) →
+    urls ≡ url ∷ more → indices ≡ index ∷ following → next ≡ so_far ++ lead_to n index (f url) → so_far ++ leads_at f n urls indices ≡ all → next ++ leads_at f n more following ≡ all
+link_more f n so_far next url urls more index indices following all first second pushed before = grind (arith, common_steps)
 
 pub link_end : (f : List ℕ → Option ℕ) (n : ℕ) (so_far : List Lead) (urls : List (List ℕ)) (indices : List ℕ) (all : List Lead) → HasNoLink urls indices → so_far ++ leads_at f n urls indices ≡ all → so_far ≡ all
 link_end f n so_far urls indices all none before = grind (arith, common_steps, no_more)

@@ -8,7 +8,7 @@ use Rattle.site_check.specs.Hints.{hints_with}
 use Rattle.site_check.specs.Ignored.{if_anchor}
 use Rattle.site_check.specs.Invalid.{if_invalid}
 use Rattle.site_check.specs.Names.{name_for}
-use Rattle.site_check.specs.Told.{if_page}
+use Rattle.site_check.specs.RowMeanings.{if_page}
 
 pub no_page : (kind : Kind) (row : Row) → is_leaving kind ≡ true → if_page kind row ≡ []
 no_page NoPage row is = absurd (true≢false (sym is))

@@ -37,20 +37,20 @@ none_outside rooted maps files results rs (r ∷ found) none are = absurd (omega
 
 -- ---- their numbers
 
-numbers_behind : (entries : List (List ℕ)) (n : ℕ) (xs ys : List Outside) →
+numbers_after : (entries : List (List ℕ)) (n : ℕ) (xs ys : List Outside) →
     outside_targets entries n (xs ++ ys) ≡ outside_targets entries n xs ++ outside_targets entries (n + length xs) ys
-numbers_behind entries n [] ys = ap (λ k. outside_targets entries k ys) (omega arith)
-numbers_behind entries n (x ∷ xs) ys =
+numbers_after entries n [] ys = ap (λ k. outside_targets entries k ys) (omega arith)
+numbers_after entries n (x ∷ xs) ys =
     let here : List Target = to_number x.linked.result.now.url (outside_number entries n x) in
     let place : (n + 1) + length xs ≡ n + length (x ∷ xs) = omega arith in
-    ap (λ l. here ++ l) (numbers_behind entries (n + 1) xs ys)
+    ap (λ l. here ++ l) (numbers_after entries (n + 1) xs ys)
     ∙ sym (append_assoc here (outside_targets entries (n + 1) xs) (outside_targets entries ((n + 1) + length xs) ys))
     ∙ ap (λ k. (here ++ outside_targets entries (n + 1) xs) ++ outside_targets entries k ys) place
 
 -- one URL more
 pub outside_more : (entries : List (List ℕ)) (outside : List Outside) (i : ℕ) (one : Outside) → i < length outside → one ≡ get_or outside i one →
     outside_targets entries 0 (take (i + 1) outside) ≡ outside_targets entries 0 (take i outside) ++ to_number one.linked.result.now.url (outside_number entries i one)
-outside_more entries outside i one below is = grind (arith, common_steps, length-take-le, take_more, numbers_behind, no_more)
+outside_more entries outside i one below is = grind (arith, common_steps, length-take-le, take_more, numbers_after, no_more)
 
 -- ---- paths
 
@@ -64,10 +64,10 @@ more_name b text free = λ i below. free (suc i) (omega (arith, below))
 pub first_free : (b : ℕ) (text : List ℕ) → IsName (b ∷ text) → eqb b 47 ≡ false
 first_free b text free = ne_eqb b 47 (free 0 (omega arith))
 
-same_name : (up rest name below behind : List ℕ) → IsName name → path_after up rest (name ++ 47 ∷ below) (name ++ 47 ∷ behind) ≡ path_from below behind
-same_name up rest [] below behind free = refl
-same_name up rest (b ∷ name) below behind free =
-    cond-true (eqb b b) _ _ (eq-eqb b b refl) ∙ cond-false (eqb b 47) _ _ (first_free b name free) ∙ same_name up rest name below behind (more_name b name free)
+same_name : (up rest name below following : List ℕ) → IsName name → path_after up rest (name ++ 47 ∷ below) (name ++ 47 ∷ following) ≡ path_from below following
+same_name up rest [] below following free = refl
+same_name up rest (b ∷ name) below following free =
+    cond-true (eqb b b) _ _ (eq-eqb b b refl) ∙ cond-false (eqb b 47) _ _ (first_free b name free) ∙ same_name up rest name below following (more_name b name free)
 
 -- what comes of two bytes that no slash is
 step : (up rest top url : List ℕ) (t u : ℕ) → (eqb t u ≡ true → eqb t 47 ≡ false) → (eqb t u ≡ true → path_after up rest top url ≡ steps_up up ++ rest) →
@@ -78,13 +78,13 @@ step up rest top url t u free more =
       | inr other ↦ cond-false (eqb t u) _ _ other
     ]
 
-other_name : (up rest name other below behind : List ℕ) → IsName name → IsName other → name ≢ other → path_after up rest (name ++ 47 ∷ below) (other ++ 47 ∷ behind) ≡ steps_up up ++ rest
-other_name up rest [] [] below behind free others differ = absurd (differ refl)
-other_name up rest [] (u ∷ other) below behind free others differ = cond-false (eqb 47 u) _ _ (ne_eqb 47 u (λ e. others 0 (omega arith) (sym e)))
-other_name up rest (t ∷ name) [] below behind free others differ = cond-false (eqb t 47) _ _ (first_free t name free)
-other_name up rest (t ∷ name) (u ∷ other) below behind free others differ =
-    step up rest (name ++ 47 ∷ below) (other ++ 47 ∷ behind) t u (λ _. first_free t name free)
-    (λ same. other_name up rest name other below behind (more_name t name free) (more_name u other others) (λ e. differ (λ i. eqb-true t u same i ∷ e i)))
+other_name : (up rest name other below following : List ℕ) → IsName name → IsName other → name ≢ other → path_after up rest (name ++ 47 ∷ below) (other ++ 47 ∷ following) ≡ steps_up up ++ rest
+other_name up rest [] [] below following free others differ = absurd (differ refl)
+other_name up rest [] (u ∷ other) below following free others differ = cond-false (eqb 47 u) _ _ (ne_eqb 47 u (λ e. others 0 (omega arith) (sym e)))
+other_name up rest (t ∷ name) [] below following free others differ = cond-false (eqb t 47) _ _ (first_free t name free)
+other_name up rest (t ∷ name) (u ∷ other) below following free others differ =
+    step up rest (name ++ 47 ∷ below) (other ++ 47 ∷ following) t u (λ _. first_free t name free)
+    (λ same. other_name up rest name other below following (more_name t name free) (more_name u other others) (λ e. differ (λ i. eqb-true t u same i ∷ e i)))
 
 top_name : (up rest top url : List ℕ) → IsName top → path_after up rest top url ≡ steps_up up ++ rest
 top_name up rest [] url free = refl
@@ -97,13 +97,13 @@ url_name up rest (t ∷ top) [] free = refl
 url_name up rest (t ∷ top) (u ∷ url) free =
     step up rest top url t u (λ same. ap (λ b. eqb b 47) (eqb-true t u same) ∙ first_free u url free) (λ _. url_name up rest top url (more_name u url free))
 
-pub path_below : (top url name below other behind : List ℕ) → top ≡ name ++ 47 ∷ below → url ≡ other ++ 47 ∷ behind → IsName name → name ≡ other → path_from top url ≡ path_from below behind
-path_below top url name below other behind above ahead free same =
-    (λ i. path_after top url (above i) (ahead i)) ∙ ap (λ o. path_after top url (name ++ 47 ∷ below) (o ++ 47 ∷ behind)) (sym same) ∙ same_name top url name below behind free
+pub path_below : (top url name below other following : List ℕ) → top ≡ name ++ 47 ∷ below → url ≡ other ++ 47 ∷ following → IsName name → name ≡ other → path_from top url ≡ path_from below following
+path_below top url name below other following above ahead free same =
+    (λ i. path_after top url (above i) (ahead i)) ∙ ap (λ o. path_after top url (name ++ 47 ∷ below) (o ++ 47 ∷ following)) (sym same) ∙ same_name top url name below following free
 
-pub path_differs : (top url name below other behind : List ℕ) → top ≡ name ++ 47 ∷ below → url ≡ other ++ 47 ∷ behind → IsName name → IsName other → name ≢ other → path_from top url ≡ steps_up top ++ url
-path_differs top url name below other behind above ahead free others differ =
-    (λ i. path_after top url (above i) (ahead i)) ∙ other_name top url name other below behind free others differ
+pub path_differs : (top url name below other following : List ℕ) → top ≡ name ++ 47 ∷ below → url ≡ other ++ 47 ∷ following → IsName name → IsName other → name ≢ other → path_from top url ≡ steps_up top ++ url
+path_differs top url name below other following above ahead free others differ =
+    (λ i. path_after top url (above i) (ahead i)) ∙ other_name top url name other below following free others differ
 
 pub path_of_top : (top url : List ℕ) → IsName top → path_from top url ≡ steps_up top ++ url
 path_of_top top url free = top_name top url top url free

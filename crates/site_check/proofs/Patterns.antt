@@ -111,20 +111,20 @@ piece_here piece more text plain =
           ∙ sym none
     ]
 
-pub piece_found : (pattern piece behind text more : List ℕ) (i : ℕ) → pattern ≡ piece ++ 42 ∷ behind → IsPlain piece → i ≤ length text →
-    ((k : ℕ) → k < i → (rest : List ℕ) → drop k text ≢ piece ++ rest) → drop i text ≡ piece ++ more → any_end (fits pattern) text ≡ any_end (fits behind) more
-piece_found pattern piece behind text more i is plain within lacks split =
+pub piece_found : (pattern piece following text more : List ℕ) (i : ℕ) → pattern ≡ piece ++ 42 ∷ following → IsPlain piece → i ≤ length text →
+    ((k : ℕ) → k < i → (rest : List ℕ) → drop k text ≢ piece ++ rest) → drop i text ≡ piece ++ more → any_end (fits pattern) text ≡ any_end (fits following) more
+piece_found pattern piece following text more i is plain within lacks split =
     ap (λ p. any_end (fits p) text) is
-    ∙ any_from (fits (piece ++ 42 ∷ behind)) text i within (λ k below. fits_nowhere piece (42 ∷ behind) (drop k text) plain (lacks k below))
-    ∙ ap (any_end (fits (piece ++ 42 ∷ behind))) split
-    ∙ piece_here piece behind more plain
+    ∙ any_from (fits (piece ++ 42 ∷ following)) text i within (λ k below. fits_nowhere piece (42 ∷ following) (drop k text) plain (lacks k below))
+    ∙ ap (any_end (fits (piece ++ 42 ∷ following))) split
+    ∙ piece_here piece following more plain
 
-pub piece_lacks : (pattern piece behind text : List ℕ) → pattern ≡ piece ++ 42 ∷ behind → IsPlain piece → ((k : ℕ) → k ≤ length text → (rest : List ℕ) → drop k text ≢ piece ++ rest) →
+pub piece_lacks : (pattern piece following text : List ℕ) → pattern ≡ piece ++ 42 ∷ following → IsPlain piece → ((k : ℕ) → k ≤ length text → (rest : List ℕ) → drop k text ≢ piece ++ rest) →
     any_end (fits pattern) text ≡ is_last pattern text
-piece_lacks pattern piece behind text is plain lacks =
+piece_lacks pattern piece following text is plain lacks =
     ap (λ p. any_end (fits p) text) is
-    ∙ any_none (fits (piece ++ 42 ∷ behind)) text (λ k within. fits_nowhere piece (42 ∷ behind) (drop k text) plain (lacks k within))
-    ∙ sym (not_last (piece ++ 42 ∷ behind) text (has_star piece behind))
+    ∙ any_none (fits (piece ++ 42 ∷ following)) text (λ k within. fits_nowhere piece (42 ∷ following) (drop k text) plain (lacks k within))
+    ∙ sym (not_last (piece ++ 42 ∷ following) text (has_star piece following))
     ∙ ap (λ p. is_last p text) (sym is)
 
 -- ---- the last piece

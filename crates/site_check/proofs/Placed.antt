@@ -76,17 +76,17 @@ passing p xs = λ k d below.
 cut_off : {X : Type 0} (p : X → Bool) (xs : List X) → take (length (take_while p xs)) xs ≡ take_while p xs
 cut_off p xs = ap (λ n. take n xs) (length-prefix_len p xs)
 
-pub whole_page : (leads : List ListedLead) (first : ListedLead) (behind : List ListedLead) (page : PageLeads) (n : ℕ) → leads ≡ first ∷ behind → page.source ≡ first.lead.source →
-    n ≡ length (take_while (is_of first.lead.source) behind) → page.own.now ≡ take (suc n) leads → page.more.now ≡ drop (suc n) leads → IsFirstPage leads page
-whole_page leads first behind page n is source count own more =
+pub whole_page : (leads : List ListedLead) (first : ListedLead) (following : List ListedLead) (page : PageLeads) (n : ℕ) → leads ≡ first ∷ following → page.source ≡ first.lead.source →
+    n ≡ length (take_while (is_of first.lead.source) following) → page.own.now ≡ take (suc n) leads → page.more.now ≡ drop (suc n) leads → IsFirstPage leads page
+whole_page leads first following page n is source count own more =
     let test = is_of first.lead.source in
-    let front : page.own.now ≡ first ∷ take_while test behind =
-    own ∙ ap (take (suc n)) is ∙ ap (λ (l : List ListedLead). first ∷ l) (ap (λ k. take k behind) count ∙ cut_off test behind) in
-    let passes : All (λ (one : ListedLead). one.lead.source ≡ page.source) (take_while test behind) =
-    All-weaker (λ (one : ListedLead). test one ≡ true) (λ (one : ListedLead). one.lead.source ≡ page.source) (λ one yes_it. eqb-true one.lead.source first.lead.source yes_it ∙ sym source) (take_while test behind) (passing test behind) in
+    let front : page.own.now ≡ first ∷ take_while test following =
+    own ∙ ap (take (suc n)) is ∙ ap (λ (l : List ListedLead). first ∷ l) (ap (λ k. take k following) count ∙ cut_off test following) in
+    let passes : All (λ (one : ListedLead). one.lead.source ≡ page.source) (take_while test following) =
+    All-weaker (λ (one : ListedLead). test one ≡ true) (λ (one : ListedLead). one.lead.source ≡ page.source) (λ one yes_it. eqb-true one.lead.source first.lead.source yes_it ∙ sym source) (take_while test following) (passing test following) in
     record {
       split = sym ((λ i. own i ++ more i) ∙ take-append-drop (suc n) leads);
-      own = subst (All (λ (one : ListedLead). one.lead.source ≡ page.source)) (sym front) (All-cons (λ (one : ListedLead). one.lead.source ≡ page.source) first (take_while test behind) (sym source) passes);
+      own = subst (All (λ (one : ListedLead). one.lead.source ≡ page.source)) (sym front) (All-cons (λ (one : ListedLead). one.lead.source ≡ page.source) first (take_while test following) (sym source) passes);
       less = omega (arith, ap length more, length-drop (suc n) leads, ap length is);
     }
 
@@ -120,19 +120,19 @@ one_place kind body leads places k one place are at_one at_place =
 
 -- ---- the places of all links of a file
 
-places_behind : (name : List ℕ) (places : List TextPlace) (n : ℕ) (xs ys : List ListedLead) → places_from name places n (xs ++ ys) ≡ places_from name places n xs ++ places_from name places (n + length xs) ys
-places_behind name places n [] ys = ap (λ k. places_from name places k ys) (omega arith)
-places_behind name places n (x ∷ xs) ys =
+places_after : (name : List ℕ) (places : List TextPlace) (n : ℕ) (xs ys : List ListedLead) → places_from name places n (xs ++ ys) ≡ places_from name places n xs ++ places_from name places (n + length xs) ys
+places_after name places n [] ys = ap (λ k. places_from name places k ys) (omega arith)
+places_after name places n (x ∷ xs) ys =
     let here : List TargetLocation = link_places name x (slice_get places n) in
     let at : (n + 1) + length xs ≡ n + length (x ∷ xs) = omega arith in
-    ap (λ l. here ++ l) (places_behind name places (n + 1) xs ys)
+    ap (λ l. here ++ l) (places_after name places (n + 1) xs ys)
     ∙ sym (append_assoc here (places_from name places (n + 1) xs) (places_from name places ((n + 1) + length xs) ys))
     ∙ ap (λ k. (here ++ places_from name places (n + 1) xs) ++ places_from name places k ys) at
 
 -- one link more
 places_more : (name : List ℕ) (places : List TextPlace) (leads : List ListedLead) (i : ℕ) (one : ListedLead) → i < length leads → one ≡ get_or leads i one →
     places_from name places 0 (take (i + 1) leads) ≡ places_from name places 0 (take i leads) ++ link_places name one (slice_get places i)
-places_more name places leads i one below is = grind (arith, common_steps, length-take-le, take_more, places_behind, no_more)
+places_more name places leads i one below is = grind (arith, common_steps, length-take-le, take_more, places_after, no_more)
 
 pub push_more : (name : List ℕ) (places : List TextPlace) (leads : List ListedLead) (i : ℕ) (one : ListedLead) (found : Option TextPlace) (first old new : List TargetLocation) → i < length leads → one ≡ get_or leads i one → found ≡ slice_get places i →
     old ≡ first ++ places_from name places 0 (take i leads) → new ≡ old ++ link_places name one found → new ≡ first ++ places_from name places 0 (take (i + 1) leads)
@@ -228,19 +228,19 @@ left_more leads left page first within = all_back (Contains leads) page.own.now 
 
 -- ---- the links to a target
 
-pub to_target : (all behind own : List TargetPlace) (begin list number count : ℕ) → behind ≡ drop begin all → count ≡ length (take_while (λ one. is_to list number (placed_at one)) behind) → own ≡ take count behind →
+pub to_target : (all following own : List TargetPlace) (begin list number count : ℕ) → following ≡ drop begin all → count ≡ length (take_while (λ one. is_to list number (placed_at one)) following) → own ≡ take count following →
     All (IsToTarget (map placed_at all) list number) (map placed_at own)
-to_target all behind own begin list number count is counted cut =
+to_target all following own begin list number count is counted cut =
     let test = λ (one : TargetPlace). is_to list number (placed_at one) in
-    let same : own ≡ take_while test behind = cut ∙ ap (λ n. take n behind) counted ∙ cut_off test behind in
+    let same : own ≡ take_while test following = cut ∙ ap (λ n. take n following) counted ∙ cut_off test following in
     All-map (IsToTarget (map placed_at all) list number) placed_at own
     (subst (All (λ (one : TargetPlace). IsToTarget (map placed_at all) list number (placed_at one))) (sym same) (λ k d below.
-    let n = prefix_len test behind in
-    let x : TargetPlace = get_or (take_while test behind) k d in
-    let within : k < n = omega (arith, below, length-prefix_len test behind) in
-    let inside : begin + k < length all = omega (arith, within, prefix_len-le-length test behind, ap length is, length-drop begin all) in
-    let fits = and_parts (x.list == list) (x.number == number) (passing test behind k d below) in
-    let read : x ≡ get_or all (begin + k) d = get_or-take n behind k d within ∙ ap (λ l. get_or l k d) is ∙ get_or-drop begin all k d in
+    let n = prefix_len test following in
+    let x : TargetPlace = get_or (take_while test following) k d in
+    let within : k < n = omega (arith, below, length-prefix_len test following) in
+    let inside : begin + k < length all = omega (arith, within, prefix_len-le-length test following, ap length is, length-drop begin all) in
+    let fits = and_parts (x.list == list) (x.number == number) (passing test following k d below) in
+    let read : x ≡ get_or all (begin + k) d = get_or-take n following k d within ∙ ap (λ l. get_or l k d) is ∙ get_or-drop begin all k d in
     record {
       list = eqb-true x.list list fits.0;
       is_number = eqb-true x.number number fits.1;

@@ -13,7 +13,7 @@ pub use Rattle.site_check.specs.Leaving.{is_outside, leaving_in, leaving_of, lea
 pub use Rattle.site_check.specs.Names.{AreNamed, IsKnown, Names, after_slashes, has_name, is_slash, known_at, known_with, named_at, only_name, has_place_in}
 pub use Rattle.site_check.specs.Anchors.{anchor_text}
 pub use Rattle.site_check.specs.Reported.{TargetRow, is_gone, places_left, rows_left, target_row, with_left}
-pub use Rattle.site_check.specs.Told.{rows_in, way_of}
+pub use Rattle.site_check.specs.RowMeanings.{rows_in, way_of}
 pub use Rattle.site_check.specs.Totals.{capped, is_invalid, is_leaving, is_missing, is_page, is_anchor, links_if, own_links, place_count, places_if, row_links, totals_by, totals_of, url_count}
 pub use Rattle.site_check.specs.Unlisted.{is_missed, is_other_of}
 pub use Rattle.site_check.specs.declared.invalid.PageLink.{PageLink}

@@ -12,7 +12,7 @@ use Rattle.site_check.specs.Invalid.{if_invalid}
 use Rattle.site_check.specs.Leaving.{LeavingRow}
 use Rattle.site_check.specs.Names.{name_for, same_name}
 use Rattle.site_check.specs.Reported.{AreAllRows, AreReported}
-use Rattle.site_check.specs.Told.{if_page}
+use Rattle.site_check.specs.RowMeanings.{if_page}
 use Rattle.site_check.specs.Totals.{is_leaving}
 use Rattle.site_check.specs.declared.input.MapName.{MapName}
 

@@ -14,7 +14,7 @@ pub mod Locations
 pub mod Maps
 pub mod Names
 pub mod Reported
-pub mod Told
+pub mod RowMeanings
 pub mod Totals
 pub mod Unlisted
 pub mod Unreached

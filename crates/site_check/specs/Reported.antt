@@ -11,7 +11,7 @@ use Rattle.site_check.specs.Ignored.{AreUnused, anchors_in, not_ignored, text_at
 use Rattle.site_check.specs.Invalid.{AreInvalid, invalid_rows_in, row_of, text_of}
 use Rattle.site_check.specs.Leaving.{leaving_in, leaving_of, outside_at, outside_texts, row_at, shown_at}
 use Rattle.site_check.specs.Names.{AreNamed}
-use Rattle.site_check.specs.Told.{rows_in}
+use Rattle.site_check.specs.RowMeanings.{rows_in}
 use Rattle.site_check.specs.declared.input.MapName.{MapName}
 use Rattle.site_check.specs.declared.invalid.InvalidText.{InvalidText}
 use Rattle.site_check.specs.declared.outside.Outside.{Outside}

@@ -11,7 +11,7 @@ ghost use Rattle.site_check.specs.Located.{KeepsRows, located_row, placed_at, ro
 ghost use Rattle.site_check.specs.Locations.{location_of};
 ghost use Rattle.site_check.specs.Names.{AreNamed};
 ghost use Rattle.site_check.specs.Anchors.{anchor_text};
-ghost use Rattle.site_check.specs.Told.{rows_in};
+ghost use Rattle.site_check.specs.RowMeanings.{rows_in};
 
 use crate::ignored::is_ignored;
 use crate::located::{ANCHORS, TargetPlace, row_places};

@@ -17,7 +17,7 @@ ghost use Rattle.site_check.specs.Locations.{IsLocated};
 ghost use Rattle.site_check.specs.Names.{AreNamed};
 ghost use Rattle.site_check.specs.Reported.{AreReported, AreRows};
 ghost use Rattle.site_check.specs.Anchors.{anchor_text};
-ghost use Rattle.site_check.specs.Told.{rows_in, way_of};
+ghost use Rattle.site_check.specs.RowMeanings.{rows_in, way_of};
 ghost use Rattle.site_check.specs.Totals.{totals_of};
 ghost use Rattle.site_check.specs.Unlisted.{unlisted_in};
 ghost use Rattle.site_check.specs.Unreached.{unreached_in};

@@ -141,10 +141,10 @@ fn is_same_point(a: &Place, b: &Place) -> bool
 
 /// The number of the first row from this one on that is that of the missing page that is shown with this text.
 fn row_from(rows: &[Broken], from: usize, target: &str) -> usize {
-    let (_, behind) = rows.split_at(from.min(rows.len()));
-    let passed = behind
+    let (_, following) = rows.split_at(from.min(rows.len()));
+    let passed = following
         .iter()
         .position(|row| is_row_of(target, row))
-        .unwrap_or(behind.len());
+        .unwrap_or(following.len());
     from.saturating_add(passed)
 }

@@ -12,7 +12,7 @@ ghost use Rattle.site_check.specs.Leaving.{leaving_in};
 ghost use Rattle.site_check.specs.Located.{KeepsRows, located_row, placed_at, row_unless};
 ghost use Rattle.site_check.specs.Locations.{location_of};
 ghost use Rattle.site_check.specs.Names.{AreNamed};
-ghost use Rattle.site_check.specs.Told.{rows_in};
+ghost use Rattle.site_check.specs.RowMeanings.{rows_in};
 
 use crate::ignored::is_ignored;
 use crate::input::CheckInput;
@@ -194,8 +194,8 @@ fn distinct_texts<'a>(
     let mut texts = Vec::new(alloc);
     let mut last = None;
     for (index, link) in links.iter().enumerate() {
-        let behind = links.get(index..).unwrap_or(&[]);
-        add_text(*link, last, behind, &mut texts)?;
+        let following = links.get(index..).unwrap_or(&[]);
+        add_text(*link, last, following, &mut texts)?;
         push_lead(ignores, *link, texts.len().saturating_sub(1), leads)?;
         last = Some(*link);
     }

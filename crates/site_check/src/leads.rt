@@ -241,7 +241,7 @@ fn push_leads<'p>(
             Some(first) => {
                 push_lead(source, first.index, number_of(numbers, first.url), all)?;
                 urls = first.more;
-                indices = first.behind;
+                indices = first.following;
             }
             None => return Ok(()),
         }
@@ -276,20 +276,20 @@ struct First<'p, 'i> {
     url: &'p CanonUrl,
     more: &'p [CanonUrl],
     index: usize,
-    behind: &'i [u32],
+    following: &'i [u32],
 }
 
 /// Splits off the first link and its index. `None` if there are no more links, or no more indices.
 fn first_link<'p, 'i>(urls: &'p [CanonUrl], indices: &'i [u32]) -> Option<First<'p, 'i>>
-    ensures { MatchOption result (HasNoLink urls.now indices.now) (λ first. (urls.now ≡ first.url.now ∷ first.more.now) × (indices.now ≡ first.index ∷ first.behind.now)) }
+    ensures { MatchOption result (HasNoLink urls.now indices.now) (λ first. (urls.now ≡ first.url.now ∷ first.more.now) × (indices.now ≡ first.index ∷ first.following.now)) }
 {
     match urls.split_first() {
         Some((url, more)) => match indices.split_first() {
-            Some((index, behind)) => Some(First {
+            Some((index, following)) => Some(First {
                 url,
                 more,
                 index: *index as usize,
-                behind,
+                following,
             }),
             None => None,
         },

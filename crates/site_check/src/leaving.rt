@@ -12,7 +12,7 @@ ghost use Rattle.site_check.specs.Leaving.{is_left, is_outside, leaving_in, leav
 ghost use Rattle.site_check.specs.Located.{KeepsRows, located_row, placed_at, row_unless};
 ghost use Rattle.site_check.specs.Locations.{location_of};
 ghost use Rattle.site_check.specs.Names.{AreNamed};
-ghost use Rattle.site_check.specs.Told.{rows_in};
+ghost use Rattle.site_check.specs.RowMeanings.{rows_in};
 ghost use Rattle.site_check.specs.Totals.{is_leaving};
 
 use crate::ignored::is_ignored;
@@ -153,9 +153,9 @@ fn path_from(alloc: Global, top: &str, url: &str) -> Result<String, NoMemory>
 {
     let mut folders = top;
     let mut rest = url;
-    'folders: while let Some((below, behind)) = shared_folder(folders, rest) {
+    'folders: while let Some((below, following)) = shared_folder(folders, rest) {
         folders = below;
-        rest = behind;
+        rest = following;
     }
     let mut text = steps_up(alloc, folders.as_bytes())?;
     text.push_str(rest)?;
@@ -168,8 +168,8 @@ fn shared_folder<'t, 'u>(top: &'t str, url: &'u str) -> Option<(&'t str, &'u str
 {
     match top.split_once('/') {
         Some((folder, below)) => match url.split_once('/') {
-            Some((other, behind)) => if folder == other {
-                Some((below, behind))
+            Some((other, following)) => if folder == other {
+                Some((below, following))
             } else {
                 None
             },

@@ -105,9 +105,9 @@ fn first_page(leads: &[ListedLead]) -> Option<PageLeads<'_>>
     ensures { MatchOption result (leads.now ≡ []) (IsFirstPage leads.now) }
 {
     match leads.split_first() {
-        Some((first, behind)) => {
+        Some((first, following)) => {
             let source = first.lead.source;
-            let count = count_of(behind, source);
+            let count = count_of(following, source);
             let (own, more) = leads.split_at(count.saturating_add(1).min(leads.len()));
             Some(PageLeads { source, own, more })
         }
@@ -313,14 +313,14 @@ impl TargetPlace {
     /// By targets, files, lines and columns.
     fn order(&self, other: &TargetPlace) -> Ordering {
         let place = &self.place;
-        let behind = &other.place;
+        let following = &other.place;
         (self.list, self.number)
             .cmp(&(other.list, other.number))
             .then(
                 (place.file.as_str(), place.line, place.column).cmp(&(
-                    behind.file.as_str(),
-                    behind.line,
-                    behind.column,
+                    following.file.as_str(),
+                    following.line,
+                    following.column,
                 )),
             )
     }
@@ -353,8 +353,8 @@ fn places_to(places: &[TargetPlace], list: usize, number: usize) -> &[TargetPlac
     ensures { All (IsToTarget (map placed_at places.now) list number) (map placed_at result.now) }
 {
     let begin = places.partition_point(|one| (one.list, one.number).cmp(&(list, number)).is_lt());
-    let (_, behind) = places.split_at(begin);
-    let (own, _) = behind.split_at(count_to(behind, list, number));
+    let (_, following) = places.split_at(begin);
+    let (own, _) = following.split_at(count_to(following, list, number));
     own
 }
 

@@ -82,14 +82,14 @@ pub(crate) fn missing_anchors(
 
 /// The index after the last link that leads to the same anchor as the link at this index.
 fn anchor_end(links: &[MissingAnchorLink<'_>], begin: usize) -> usize {
-    let behind = links.get(begin..).unwrap_or(&[]);
-    let Some(first) = behind.first() else {
+    let following = links.get(begin..).unwrap_or(&[]);
+    let Some(first) = following.first() else {
         return begin;
     };
-    let count = behind
+    let count = following
         .iter()
         .position(|link| !link.anchor.order(&first.anchor).is_eq())
-        .unwrap_or(behind.len());
+        .unwrap_or(following.len());
     begin.saturating_add(count)
 }
 

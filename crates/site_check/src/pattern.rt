@@ -43,8 +43,8 @@ fn is_end(pattern: &str, text: &str) -> bool
 {
     let mut pattern = pattern;
     let mut rest = text;
-    'pieces: while let Some((behind, more)) = next_piece(pattern, rest) {
-        pattern = behind;
+    'pieces: while let Some((following, more)) = next_piece(pattern, rest) {
+        pattern = following;
         rest = more;
     }
     is_last(pattern, rest)
@@ -55,8 +55,8 @@ fn next_piece<'p, 't>(pattern: &'p str, text: &'t str) -> Option<(&'p str, &'t s
     ensures { MatchOption result (any_end (fits pattern.now) text.now ≡ is_last pattern.now text.now) (λ x. (any_end (fits pattern.now) text.now ≡ any_end (fits x.0.now) x.1.now) × (length x.0.now < length pattern.now)) }
 {
     match pattern.split_once('*') {
-        Some((piece, behind)) => match text.split_once(piece) {
-            Some((_, more)) => Some((behind, more)),
+        Some((piece, following)) => match text.split_once(piece) {
+            Some((_, more)) => Some((following, more)),
             None => None,
         },
         None => None,

@@ -10,7 +10,7 @@ ghost use Rattle.site_check.specs.Leaving.{leaving_in, leaving_row_in};
 ghost use Rattle.site_check.specs.Located.{KeepsRows, located_row, page_text, placed_at, row_unless};
 ghost use Rattle.site_check.specs.Locations.{location_of};
 ghost use Rattle.site_check.specs.Names.{AreNamed, AreNames, own_name, reported_name};
-ghost use Rattle.site_check.specs.Told.{row_in, rows_in, way_of};
+ghost use Rattle.site_check.specs.RowMeanings.{row_in, rows_in, way_of};
 
 use crate::hints::hint_of;
 use crate::input::CheckInput;

@@ -44,11 +44,11 @@ pub(crate) fn documents_of(
 
 /// The number of the first document from this one on whose URL is not before this one.
 fn next_document(anchors: &[PageAnchors], from: usize, url: &str) -> usize {
-    let (_, behind) = anchors.split_at(from.min(anchors.len()));
-    let passed = behind
+    let (_, following) = anchors.split_at(from.min(anchors.len()));
+    let passed = following
         .iter()
         .position(|page| page.url.as_str() >= url)
-        .unwrap_or(behind.len());
+        .unwrap_or(following.len());
     from.saturating_add(passed)
 }
 

@@ -14,8 +14,8 @@ pub record Leaves (all : List Listed) (entries : List Entry) (left : List Page) 
 pub begun : (entries : List Entry) (pages : List Page) → Leaves (map listed entries ++ map expected pages) entries pages
 begun entries pages = record { is = refl }
 
-pub gone_on : (all : List Listed) (old new : List Entry) (more left : List Page) → Adds old new more → Leaves all old (more ++ left) → Leaves all new left
-gone_on all old new more left adds leaves = record {
+pub continued : (all : List Listed) (old new : List Entry) (more left : List Page) → Adds old new more → Leaves all old (more ++ left) → Leaves all new left
+continued all old new more left adds leaves = record {
   is = rw (adds, append_assoc (map listed old) (map expected more) (map expected left), ← map-append expected more left) leaves.is;
 }
 

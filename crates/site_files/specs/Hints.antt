@@ -8,7 +8,7 @@ use Rattle.site_files.specs.Files.{server_of}
 use Rattle.site_files.specs.Kinds.{is_home, last_name}
 use Rattle.site_files.specs.Links.{own_in}
 use Rattle.site_files.specs.Pages.{Page, Response, Missing, Moved, Found, fallback_at, folder_of, folder_page, found_file, is_text_of, own_spelling, path_in, query_in, response_in}
-use Rattle.site_files.specs.Server.{Host, Server, names_of, plain_url}
+use Rattle.site_files.specs.Server.{Host, Server, names_of, accepted_key}
 use Rattle.site_files.specs.Skipped.{outside_in, outside_on}
 use Rattle.site_files.specs.declared.files.SiteFiles.{SiteFiles}
 use Rattle.site_files.specs.declared.hint.Hint.{Hint}
@@ -86,4 +86,4 @@ hint_for files plain = hint_with files (own_spelling (own_in files.linked) [] (n
 
 -- the hint for a URL. A site list has none
 abbrev pub hint_at : SiteFiles → List ℕ → Option Hint
-hint_at files url = if is_some files.listed then None else option_and_then (hint_for files) (plain_url (server_of files) url)
+hint_at files url = if is_some files.listed then None else option_and_then (hint_for files) (accepted_key (server_of files) url)

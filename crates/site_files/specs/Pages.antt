@@ -4,7 +4,7 @@ use Rattle.std.specs.List.{enumerate_from, flat_map}
 use Rattle.crawl_keys.specs.CanonicalText.{canonical}
 use Rattle.crawl_keys.specs.declared.error.KeyError.{KeyError}
 use Rattle.site_files.specs.Firsts.{first_with}
-use Rattle.site_files.specs.Server.{Host, Server, before_query, key_with, names_of, plain_url, query_of, url_of}
+use Rattle.site_files.specs.Server.{Host, Server, before_query, key_with, names_of, accepted_key, query_of, url_of}
 use Rattle.site_files.specs.Urls.{with_html}
 
 -- a folder that is listed by another name. Both names end in a slash, and the top has none
@@ -156,7 +156,7 @@ found_at at own host (Some plain) = plain_at at host (own_spelling own [] (names
 
 -- the page that is looked up for a URL
 abbrev pub spelled_at : (List ℕ → Response) → (List ℕ → List ℕ) → Server → List ℕ → Response
-spelled_at at own server url = found_at at own server.host (plain_url server url)
+spelled_at at own server url = found_at at own server.host (accepted_key server url)
 
 -- the URL with the query of a request
 abbrev pub with_query : Option (List ℕ) → List ℕ → List ℕ

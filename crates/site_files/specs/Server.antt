@@ -127,5 +127,5 @@ abbrev pub accepted_url : Server → List ℕ → Key → Option (List ℕ)
 accepted_url server url key =
     if is_accepted server.host (url_of server.top key) url then Some (url_of server.top key) else None
 
-abbrev pub plain_url : Server → List ℕ → Option (List ℕ)
-plain_url server url = option_and_then (accepted_url server url) (key_of server url)
+abbrev pub accepted_key : Server → List ℕ → Option (List ℕ)
+accepted_key server url = option_and_then (accepted_url server url) (key_of server url)

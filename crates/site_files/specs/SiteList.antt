@@ -56,20 +56,20 @@ fields_in text = option_and_then (λ x. option_and_then (with_rest x.0) (at_spac
 -- ---- the checks of a line, by its number
 
 -- the error of a list one of whose lines has no text
-abbrev pub fault_of : LineError → ListError
-fault_of (TooLong number) = wrong.LineTooLong number
-fault_of (NotText number) = wrong.NotText number
+abbrev pub error_of : LineError → ListError
+error_of (TooLong number) = wrong.LineTooLong number
+error_of (NotText number) = wrong.NotText number
 
 -- the error of a text that has no canonical URL
-abbrev pub key_fault : ℕ → KeyError → ListError
-key_fault number key.NotUrl = wrong.NotUrl number
-key_fault number key.NotHttp = wrong.NotHttp number
-key_fault number key.NoMemory = wrong.NoMemory
+abbrev pub key_error : ℕ → KeyError → ListError
+key_error number key.NotUrl = wrong.NotUrl number
+key_error number key.NotHttp = wrong.NotHttp number
+key_error number key.NoMemory = wrong.NoMemory
 
 -- the canonical URL of a text in the line of this number
 abbrev pub url_in : ℕ → Result (List ℕ) KeyError → Result (List ℕ) ListError
 url_in number (Ok url) = Ok url
-url_in number (Err e) = Err (key_fault number e)
+url_in number (Err e) = Err (key_error number e)
 
 abbrev pub is_bad_name : List ℕ → Bool
 is_bad_name name = length name == 0 || bytes_eq name (codes ".") || bytes_eq name (codes "..")
@@ -83,27 +83,27 @@ abbrev pub is_bad_file : Content → List ℕ → Bool
 is_bad_file Redirect name = false
 is_bad_file (File kind) name = not (is_path name)
 
-abbrev pub url_fault : ℕ → Fields → Result (List ℕ) KeyError → Option ListError
-url_fault number found (Ok url) = if is_bad_file found.content found.name then Some (wrong.BadFile number) else None
-url_fault number found (Err e) = Some (key_fault number e)
+abbrev pub url_error : ℕ → Fields → Result (List ℕ) KeyError → Option ListError
+url_error number found (Ok url) = if is_bad_file found.content found.name then Some (wrong.BadFile number) else None
+url_error number found (Err e) = Some (key_error number e)
 
-abbrev pub fields_fault : ℕ → Option Fields → Option ListError
-fields_fault number None = Some (wrong.BadLine number)
-fields_fault number (Some found) = url_fault number found (canonical found.url)
+abbrev pub fields_error : ℕ → Option Fields → Option ListError
+fields_error number None = Some (wrong.BadLine number)
+fields_error number (Some found) = url_error number found (canonical found.url)
 
 -- an empty line is no error
-abbrev pub text_fault : ℕ → Result (List ℕ) LineError → Option ListError
-text_fault number (Err e) = Some (fault_of e)
-text_fault number (Ok text) = if length text == 0 then None else fields_fault number (fields_in text)
+abbrev pub text_error : ℕ → Result (List ℕ) LineError → Option ListError
+text_error number (Err e) = Some (error_of e)
+text_error number (Ok text) = if length text == 0 then None else fields_error number (fields_in text)
 
 -- the first check that a line fails: its length, its bytes, its fields, its URL, and then its file
-abbrev pub line_fault : ℕ → List ℕ → Option ListError
-line_fault number line = text_fault number (text_of number line)
+abbrev pub line_error : ℕ → List ℕ → Option ListError
+line_error number line = text_error number (text_of number line)
 
 -- the first error of lines, the first of which has this number
-abbrev pub first_fault : ℕ → List (List ℕ) → Option ListError
-first_fault number [] = None
-first_fault number (line ∷ more) = option_or (line_fault number line) (first_fault (number + 1) more)
+abbrev pub first_error : ℕ → List (List ℕ) → Option ListError
+first_error number [] = None
+first_error number (line ∷ more) = option_or (line_error number line) (first_error (number + 1) more)
 
 -- ---- the list
 
@@ -143,15 +143,15 @@ columns_of rows = columns (map listed rows) (map row_name rows)
 abbrev pub columns_in : SiteList → Columns
 columns_in list = columns list.urls.items (map string_bytes list.names.items)
 
-abbrev pub unless_fault : Option ListError → Columns → Result Columns ListError
-unless_fault None found = Ok found
-unless_fault (Some fault) found = Err fault
+abbrev pub unless_error : Option ListError → Columns → Result Columns ListError
+unless_error None found = Ok found
+unless_error (Some error) found = Err error
 
 -- the rows of the lines that are not empty, in order; the first error, if a line has one
 abbrev pub list_in : List (List ℕ) → Result Columns ListError
-list_in lines = unless_fault (first_fault 1 lines) (columns_of (filter_map row_in lines))
+list_in lines = unless_error (first_error 1 lines) (columns_of (filter_map row_in lines))
 
 -- a check that a line fails, if it fails one, as a result
 abbrev pub checked : Option ListError → Result (Unit {0}) ListError
 checked None = Ok tt
-checked (Some fault) = Err fault
+checked (Some error) = Err error

@@ -20,7 +20,7 @@ pub record Requests : Type 0 where
   pub file : requested (codes "about.html") ≡ Some (codes "about.html")
   pub empty_first : requested (codes "/about.html") ≡ Some (codes "about.html")
   pub file_and_slash : requested (codes "about.html/") ≡ Some (codes "about.html/")
-  pub folder_alone : requested (codes "dir") ≡ Some (codes "dir")
+  pub folder_only : requested (codes "dir") ≡ Some (codes "dir")
   pub folder : requested (codes "dir/") ≡ Some (codes "dir/")
   pub folder_twice : requested (codes "dir//") ≡ Some (codes "dir/")
   pub empty_names : requested (codes "dir///sub//index.html") ≡ Some (codes "dir/sub/index.html")
@@ -66,7 +66,7 @@ pub record Responses : Type 0 where
   pub empty_first : response (codes "http://h//about.html") ≡ Found 2
   pub file_and_slash : response (codes "http://h/about.html/") ≡ Missing
   pub no_suffix : response (codes "http://h/about") ≡ Missing
-  pub folder_alone : response (codes "http://h/dir") ≡ Moved (codes "http://h/dir/")
+  pub folder_only : response (codes "http://h/dir") ≡ Moved (codes "http://h/dir/")
   pub folder : response (codes "http://h/dir/") ≡ Found 11
   pub folder_twice : response (codes "http://h/dir//") ≡ Found 11
   pub empty_and_folder : response (codes "http://h//dir") ≡ Moved (codes "http://h/dir/")
@@ -127,7 +127,7 @@ pub record Rules : Type 0 where
   pub query_of_index : response_at queries saved (codes "http://h/?q") ≡ Found 1
   pub query_in_path : response_at (server host) saved (codes "http://h/a%3Fx=1") ≡ Found 0
   pub link : response_at (server host) linked (codes "http://h/latest/a.html") ≡ Found 1
-  pub link_alone : response_at (server host) linked (codes "http://h/latest") ≡ Moved (codes "http://h/latest/")
+  pub link_only : response_at (server host) linked (codes "http://h/latest") ≡ Moved (codes "http://h/latest/")
   pub own_top : own_text (server host) names 15 ≡ Some (codes "http://h/")
   pub own_folder : own_text (server host) names 11 ≡ Some (codes "http://h/dir/")
   pub own_name : own_text (server host) names 6 ≡ Some (codes "http://h/d4/index.htm")
@@ -196,7 +196,7 @@ outside url = outside_on (outside_at skipped) [] (names_of url)
 pub record Links : Type 0 where
   pub link : outside (codes "http://h/gone.js") ≡ Some false
   pub folder : outside (codes "http://h/d/ext/") ≡ Some true
-  pub folder_alone : outside (codes "http://h/d/ext") ≡ Some true
+  pub folder_only : outside (codes "http://h/d/ext") ≡ Some true
   pub inside : outside (codes "http://h/d/ext/sub/a.html") ≡ Some true
   pub longer_name : outside (codes "http://h/d/extra/a.html") ≡ None
   pub folder_above : outside (codes "http://h/d/") ≡ None

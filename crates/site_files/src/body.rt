@@ -13,7 +13,7 @@ use std::marker::Model;
 const ROOM: usize = 1 << 23;
 
 /// The number of bytes by which the room grows, so that little more memory is touched than is used.
-const GROWTH: usize = 1 << 20;
+const ROOM_STEP: usize = 1 << 20;
 
 /// The contents of a file.
 #[derive(Drop)]
@@ -121,7 +121,7 @@ impl Body {
     /// Adds 1 MiB of room, which is filled with zeros. The contents stay.
     fn grow(&mut self) -> Result<(), AllocError> {
         let length = self.room.len().max(self.used);
-        self.room.resize(length.saturating_add(GROWTH), 0)
+        self.room.resize(length.saturating_add(ROOM_STEP), 0)
     }
 }
 

@@ -3,7 +3,7 @@ ghost use Rattle.std.specs.Prelude.{◌≡◌, IfOk, Some, string_bytes, option_
 ghost use Rattle.std.specs.Str.Lines.{lines};
 ghost use Rattle.crawl_keys.specs.CanonicalText.{canonical};
 ghost use Rattle.crawl_keys.specs.Outcome.{Gives};
-ghost use Rattle.site_files.specs.SiteList.{checked, columns_in, content_of, fault_of, fields, fields_in, is_bad_file, is_bad_name, is_path, kind_in, line_fault, list_in, row, row_in, row_of, url_fault, url_in};
+ghost use Rattle.site_files.specs.SiteList.{checked, columns_in, content_of, error_of, fields, fields_in, is_bad_file, is_bad_name, is_path, kind_in, line_error, list_in, row, row_in, row_of, url_error, url_in};
 ghost use Rattle.site_files.specs.declared.site_list.ListError.TheVariants as wrong;
 
 use crate::kinds::{FileKind, kind_of_type};
@@ -31,7 +31,7 @@ pub enum ListError {
 }
 
 impl From<LineError> for ListError {
-    ghost from_gives = { λ line fault. fault ≡ fault_of line };
+    ghost from_gives = { λ line error. error ≡ error_of line };
 
     fn from(line: LineError) -> ListError {
         match line {
@@ -42,7 +42,7 @@ impl From<LineError> for ListError {
 }
 
 impl From<AllocError> for ListError {
-    ghost from_gives = { λ _ fault. fault ≡ wrong.NoMemory };
+    ghost from_gives = { λ _ error. error ≡ wrong.NoMemory };
 
     fn from(_refused: AllocError) -> ListError {
         ListError::NoMemory
@@ -50,7 +50,7 @@ impl From<AllocError> for ListError {
 }
 
 impl<T: Drop> From<AllocFailed<T>> for ListError {
-    ghost from_gives = { λ _ fault. fault ≡ wrong.NoMemory };
+    ghost from_gives = { λ _ error. error ≡ wrong.NoMemory };
 
     fn from(_refused: AllocFailed<T>) -> ListError {
         ListError::NoMemory
@@ -125,7 +125,7 @@ struct ListRow {
 
 /// Reads the line with this number; `None` if it is empty.
 fn row_of(alloc: Global, number: u64, line: &[u8]) -> Result<Option<ListRow>, ListError>
-    ensures checks { Gives ListError.NoMemory (λ _. tt) result (checked (line_fault number line.now)) }
+    ensures checks { Gives ListError.NoMemory (λ _. tt) result (checked (line_error number line.now)) }
     ensures row { IfOk result (λ found. option_map (λ r. row r.listed.content (string_bytes r.name) r.listed.url) found ≡ row_in line.now) }
 {
     let text = text_of(number, line)?;
@@ -140,7 +140,7 @@ fn row_of(alloc: Global, number: u64, line: &[u8]) -> Result<Option<ListRow>, Li
 
 /// The line with this number, which has these fields.
 fn row_with(alloc: Global, number: u64, found: Fields<'_>) -> Result<ListRow, ListError>
-    ensures checks { Gives ListError.NoMemory (λ _. tt) result (checked (url_fault number (fields found.entry.url.now found.entry.name.now found.entry.content) (canonical found.entry.url.now))) }
+    ensures checks { Gives ListError.NoMemory (λ _. tt) result (checked (url_error number (fields found.entry.url.now found.entry.name.now found.entry.content) (canonical found.entry.url.now))) }
     ensures row { IfOk result (λ r. Some (row r.listed.content (string_bytes r.name) r.listed.url) ≡ row_of (fields found.entry.url.now found.entry.name.now found.entry.content)) }
 {
     let Fields { url, content, name } = found;

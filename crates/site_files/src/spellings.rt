@@ -5,7 +5,7 @@ ghost use Rattle.site_files.specs.Entries.{LeadsTo, entry_at, host_of};
 ghost use Rattle.site_files.specs.Files.{server_of};
 ghost use Rattle.site_files.specs.Links.{own_in};
 ghost use Rattle.site_files.specs.Pages.{Missing, ends_in_slash, fallback_at, own_spelling, plain_at, spelled_at};
-ghost use Rattle.site_files.specs.Server.{before_query, is_accepted, known_query, names_of, path_at, plain_url};
+ghost use Rattle.site_files.specs.Server.{before_query, is_accepted, known_query, names_of, path_at, accepted_key};
 ghost use Rattle.site_files.specs.Serving.{served_at};
 ghost use Rattle.site_files.specs.Urls.{with_html};
 
@@ -91,7 +91,7 @@ impl SiteFiles<'_> {
 
     /// The URL of the file or folder that a server looks up for a URL, or `None` if it looks up none.
     pub(crate) fn plain_of(&self, alloc: Global, url: &str) -> Result<Option<String>, AllocError>
-        ensures { IfOk result (λ plain. option_map string_bytes plain ≡ plain_url (server_of self.now) url.now) }
+        ensures { IfOk result (λ plain. option_map string_bytes plain ≡ accepted_key (server_of self.now) url.now) }
     {
         let (path, query) = split_name(url, true);
         let Some(path) = self.path_at(alloc, path.as_bytes())? else {

@@ -14,7 +14,7 @@ use Rattle.memchr.specs.Find.{IsFirstByte}
 use Rattle.text_lines.specs.declared.lines.LineError.TheVariants.{NotText}
 use Rattle.crawl_limits.specs.Limits.{line_limit}
 use Rattle.text_lines.specs.Lines.{text_of}
-use Rattle.text_lines.specs.FirstLine.{behind_line}
+use Rattle.text_lines.specs.FirstLine.{after_line}
 
 abbrev pub is_lf : ℕ → Bool
 is_lf b = b == 10
@@ -94,8 +94,8 @@ no_bytes bytes e = grind (arith, common_steps, eqb-true)
 -- ---- the text after the first line
 
 -- a prefix of the first line does not change the text after that line
-pub behind_page : (text : List ℕ) → behind_line text ≡ behind_line (codes "page " ++ text)
-behind_page text = grind arith
+pub after_page : (text : List ℕ) → after_line text ≡ after_line (codes "page " ++ text)
+after_page text = grind arith
 
 -- ---- bytes that are cut after a line
 
@@ -120,8 +120,8 @@ split_there (b ∷ front) back = grind (arith, common_steps, length-slice_split,
 pub lines_cut : (front back : List ℕ) → lines (front ++ 10 ∷ back) ≡ lines (front ++ 10 ∷ []) ++ lines back
 lines_cut front back = grind (arith, strips, split_there, strips-lines, length-slice_split, strips-append)
 
-pub cut_behind : (bytes : List ℕ) (at : ℕ) → at < length bytes → get_or bytes at 0 ≡ 10 → lines bytes ≡ lines (take (at + 1) bytes) ++ lines (drop (at + 1) bytes)
-cut_behind bytes at below is =
+pub cut_after : (bytes : List ℕ) (at : ℕ) → at < length bytes → get_or bytes at 0 ≡ 10 → lines bytes ≡ lines (take (at + 1) bytes) ++ lines (drop (at + 1) bytes)
+cut_after bytes at below is =
     let back = drop (at + 1) bytes in
     let whole : bytes ≡ take at bytes ++ 10 ∷ back = sym (take-append-drop at bytes) ∙ ap (λ l. take at bytes ++ l) (drop_more bytes at 0 below ∙ ap (λ b. b ∷ back) is) in
     let first : take (at + 1) bytes ≡ take at bytes ++ 10 ∷ [] = take_more bytes at 0 below ∙ ap (λ b. take at bytes ++ b ∷ []) is in

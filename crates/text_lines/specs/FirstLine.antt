@@ -13,5 +13,5 @@ abbrev pub line_in : List ℕ → List ℕ
 line_in text = first_of (lines text)
 
 -- the text after its first LF
-abbrev pub behind_line : List ℕ → List ℕ
-behind_line text = after_first (λ b. b == 10) text
+abbrev pub after_line : List ℕ → List ℕ
+after_line text = after_first (λ b. b == 10) text

@@ -1,4 +1,4 @@
 pub mod Fields
 pub mod FirstLine
-pub mod LeastFault
+pub mod LeastError
 pub mod Lines

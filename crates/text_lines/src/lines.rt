@@ -2,7 +2,7 @@
 ghost use Rattle.std.specs.Prelude.{◌≡◌, ◌==◌, ◌∷◌, ◌++◌, ◌<◌, ◌≤◌, [], length, position, IfSome, IsUtf8, MatchOption};
 ghost use Rattle.std.specs.Str.Lines.{lines, strip_carriage_return};
 ghost use Rattle.text_lines.specs.Lines.{text_of, bytes_at};
-ghost use Rattle.text_lines.specs.FirstLine.{line_in, behind_line};
+ghost use Rattle.text_lines.specs.FirstLine.{line_in, after_line};
 
 pub use crawl_limits::LINE_LIMIT;
 use memchr::memchr;
@@ -36,7 +36,7 @@ pub fn first_line(bytes: &[u8]) -> Option<(&[u8], &[u8])>
 pub fn first_text(text: &str) -> Option<(&str, &str)>
     ensures cut { MatchOption result (lines text.now ≡ []) (λ x. lines text.now ≡ x.0.now ∷ lines x.1.now) }
     ensures shorter { IfSome result (λ x. length x.1.now < length text.now) }
-    ensures behind { MatchOption result (behind_line text.now ≡ []) (λ x. x.1.now ≡ behind_line text.now) }
+    ensures following { MatchOption result (after_line text.now ≡ []) (λ x. x.1.now ≡ after_line text.now) }
 {
     match newline_in(text.as_bytes()) {
         Some(end) => Some((text_without_return(&text[..end]), &text[end + 1..])),
@@ -48,7 +48,7 @@ pub fn first_text(text: &str) -> Option<(&str, &str)>
 /// Returns the first line of a text and the rest; both are empty if the text is.
 pub fn split_line(text: &str) -> (&str, &str)
     ensures line { result.0.now ≡ line_in text.now }
-    ensures behind { result.1.now ≡ behind_line text.now }
+    ensures following { result.1.now ≡ after_line text.now }
 {
     match first_text(text) {
         Some(cut) => cut,
@@ -57,7 +57,7 @@ pub fn split_line(text: &str) -> (&str, &str)
 }
 
 /// Returns the bytes up to and with the first LF from this index on, and the rest, or `None` if there is no LF.
-#[tactic(auto, using(crate::proofs::CutLines::newline_from, std::proofs::lemmas::List::take_rest, crate::proofs::CutLines::cut_behind))]
+#[tactic(auto, using(crate::proofs::CutLines::newline_from, std::proofs::lemmas::List::take_rest, crate::proofs::CutLines::cut_after))]
 pub fn cut_line(bytes: &[u8], from: usize) -> Option<(&[u8], &[u8])>
     requires { from ≤ length bytes.now }
     ensures cut { IfSome result (λ x. lines bytes.now ≡ lines x.0.now ++ lines x.1.now) }

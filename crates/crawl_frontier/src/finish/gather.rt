@@ -13,20 +13,20 @@ use crawl_queues::{Book, Name, PopRight};
 use std::alloc::{AllocError, Global};
 use std::collections::BTreeMap;
 
-// Stores a right to pop at its queue. Returns the first queue that two workers have; without this right it was `alone`.
+// Stores a right to pop at its queue. Returns the first queue that two workers have; without this right it was `unshared`.
 fn place(
     rights: &mut BTreeMap<u32, PopRight>,
     queue: u32,
     right: PopRight,
-    alone: u32,
+    unshared: u32,
 ) -> Result<u32, AllocError>
     ensures updates { IfOk result (λ _. (q : ℕ) → get nat_cmp rights.new q ≡ (if is_at (nat_cmp queue) q then Some right else get nat_cmp rights.old q)) }
-    ensures below { IfOk result (λ least. least ≤ alone) }
+    ensures below { IfOk result (λ least. least ≤ unshared) }
     ensures good { IfOk result (λ least. queue < least → get nat_cmp rights.old queue ≡ None) }
-    ensures named { IfOk result (λ least. least < alone → (least ≡ queue) × (is_some (get nat_cmp rights.old queue) ≡ true)) }
+    ensures named { IfOk result (λ least. least < unshared → (least ≡ queue) × (is_some (get nat_cmp rights.old queue) ≡ true)) }
 {
     let old = rights.insert(queue, right)?;
-    Ok(least_of(old.is_none(), queue, alone))
+    Ok(least_of(old.is_none(), queue, unshared))
 }
 
 // Adds the books of the senders to those of the workers.
@@ -62,13 +62,13 @@ pub fn gather<K: Name>(
 {
     let mut rights = BTreeMap::new(alloc);
     let mut books = Vec::new(alloc);
-    let mut alone = workers;
+    let mut unshared = workers;
     while let Some(worker) = closed.pop() {
         let queue = worker.queue();
         let (right, book) = worker.into_parts();
-        alone = place(&mut rights, queue, right, alone)?;
+        unshared = place(&mut rights, queue, right, unshared)?;
         books.push(book)?;
     }
     add_senders(&mut books, senders)?;
-    Ok((rights, books, alone))
+    Ok((rights, books, unshared))
 }

@@ -5,8 +5,8 @@ ghost use Rattle.crawl_frontier.specs.Finishing.{CanCompare};
 
 use super::compare::all_have_parts;
 use super::gather::gather;
+use super::known_lists::extend_books;
 use super::settle::{all_there, first_doubt, settle_all, unlock};
-use super::tell::tell_books;
 use crate::accepted::AcceptedList;
 use crate::account::Account;
 use crate::closed_worker::ClosedWorker;
@@ -55,18 +55,18 @@ pub fn settle_run<K: Name>(
 {
     let (workers, queues, shards) = parts_of(frontier);
     let alloc = *queues.allocator();
-    let (rights, mut books, alone) = gather(alloc, closed, senders, workers)?;
+    let (rights, mut books, unshared) = gather(alloc, closed, senders, workers)?;
     if !all_there(&rights, workers) {
         return Err(FinishError::MissingPart);
     }
     let mut shards = unlock(alloc, shards)?;
-    tell_books(&queues, &mut shards, &mut books);
+    extend_books(&queues, &mut shards, &mut books);
     let (lists, doubts) = settle_all(alloc, &queues, shards, rights)?;
     let complete = all_have_parts(alloc, lists.as_slice(), books.as_slice())?;
     if !complete {
         return Err(FinishError::MissingPart);
     }
-    let least = first_doubt(doubts.as_slice(), alone);
+    let least = first_doubt(doubts.as_slice(), unshared);
     Ok(Settled {
         workers,
         lists,

@@ -2,7 +2,7 @@
 ghost use Rattle.std.specs.Prelude.{◌≡◌, true};
 ghost use Rattle.crawl_gate.specs.View.{knows_closed};
 ghost use Rattle.crawl_gate.specs.Seat.{IsSeatOf};
-ghost use Rattle.crawl_gate.specs.Close.{TriesToClose, ClosesSeatOf, TellsClosed, IsClosed};
+ghost use Rattle.crawl_gate.specs.Close.{TriesToClose, ClosesSeatOf, ReportsClosed, IsClosed};
 
 use super::Gate;
 use crate::closed_pass::ClosedPass;
@@ -27,7 +27,7 @@ impl Gate {
         requires { IsSeatOf self.now pass }
         ensures words { TriesToClose pass result }
         ensures gate { ClosesSeatOf self.now result }
-        ensures told { TellsClosed result }
+        ensures reported { ReportsClosed result }
         ensures for_good { knows_closed pass.view ≡ true → IsClosed result }
     {
         let Pass { mut seat } = pass;

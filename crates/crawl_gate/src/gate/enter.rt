@@ -3,7 +3,7 @@ ghost use Rattle.std.specs.Prelude.{◌≡◌, ◌≢◌, ◌<◌, MatchResult, 
 ghost use Rattle.crawl_gate.specs.Word.{Word, open_at};
 ghost use Rattle.crawl_gate.specs.View.{knows_closed};
 ghost use Rattle.crawl_gate.specs.Seat.{IsSeatOf, after_entering, after_losing};
-ghost use Rattle.crawl_gate.specs.Enter.{TriesToEnter, TriesToEnterBeside, EntersAtLast, EntersAtLastBeside, GivesSeatOf, IsClosed, IsLost};
+ghost use Rattle.crawl_gate.specs.Enter.{TriesToEnter, TriesToEnterHolding, EntersAtLast, EntersAtLastHolding, GivesSeatOf, IsClosed, IsLost};
 
 use super::Gate;
 use crate::pass::Pass;
@@ -52,7 +52,7 @@ impl Gate {
     pub fn try_enter_beside(&self, held: &mut Unit, pass: Pass) -> Enter
         requires held { IsSeatOf self.now held.old }
         requires pass { IsSeatOf self.now pass }
-        ensures words { TriesToEnterBeside held.old held.new pass result }
+        ensures words { TriesToEnterHolding held.old held.new pass result }
         ensures gate { IsSeatOf self.now held.new × GivesSeatOf self.now result }
         ensures never_closed { ¬ IsClosed result }
     {
@@ -80,7 +80,7 @@ impl Gate {
         for _ in rt.forever() {
             match self.try_enter(pass) {
                 Enter::Lost(lost) => pass = lost,
-                answer => return answer,
+                outcome => return outcome,
             }
         }
         unreachable!()
@@ -92,7 +92,7 @@ impl Gate {
     pub fn enter_beside<R: Wait>(&self, rt: &R, held: &mut Unit, mut pass: Pass) -> Enter
         requires held { IsSeatOf self.now held.old }
         requires pass { IsSeatOf self.now pass }
-        ensures words { EntersAtLastBeside held.old held.new pass result }
+        ensures words { EntersAtLastHolding held.old held.new pass result }
         ensures gate { IsSeatOf self.now held.new × GivesSeatOf self.now result }
         ensures never_closed { ¬ IsClosed result }
         ensures never_lost { ¬ IsLost result }
@@ -100,7 +100,7 @@ impl Gate {
         for _ in rt.forever() {
             match self.try_enter_beside(held, pass) {
                 Enter::Lost(lost) => pass = lost,
-                answer => return answer,
+                outcome => return outcome,
             }
         }
         unreachable!()

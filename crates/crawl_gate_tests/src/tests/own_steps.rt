@@ -1,7 +1,7 @@
 //! That a call makes no step but those that its clauses name, by a pass which it splits off and drops.
 ghost use Rattle.crawl_gate.specs.Seat.{IsSeatOf};
 
-use crate::tests::answers::{Answer, closed};
+use crate::tests::endings::{Ending, closed};
 use crawl_gate::{Gate, GateState, Pass, Unit};
 use std::alloc::Global;
 use std::sync::Wait;
@@ -15,8 +15,8 @@ enum Call {
     TryClose,
     SplitUnit,
     LoadHeld,
-    TryEnterBeside,
-    EnterBeside,
+    TryEnterHolding,
+    EnterHolding,
     Leave,
 }
 
@@ -41,14 +41,14 @@ fn call_of_unit<R: Wait>(rt: &R, gate: &Gate, mut unit: Unit, pass: Pass, call: 
     match call {
         Call::SplitUnit => drop(gate.split_unit(&mut unit)),
         Call::LoadHeld => drop(gate.load_held(&mut unit)),
-        Call::TryEnterBeside => drop(gate.try_enter_beside(&mut unit, pass)),
-        Call::EnterBeside => drop(gate.enter_beside(rt, &mut unit, pass)),
+        Call::TryEnterHolding => drop(gate.try_enter_beside(&mut unit, pass)),
+        Call::EnterHolding => drop(gate.enter_beside(rt, &mut unit, pass)),
         _ => drop(gate.leave(unit)),
     }
 }
 
 // What a look finds after the call, and then whether the gate may be closed: a unit that is dropped keeps it open.
-fn after(rt: &impl Wait, gate: &Gate, mut unit: Unit, call: Call) -> (GateState, Answer)
+fn after(rt: &impl Wait, gate: &Gate, mut unit: Unit, call: Call) -> (GateState, Ending)
     requires { IsSeatOf gate.now unit }
 {
     let one = gate.split_unit(&mut unit);
@@ -70,16 +70,16 @@ static AFTER: [(Call, u64, bool); 10] = [
     (Call::TryClose, 0, true),
     (Call::SplitUnit, 1, false),
     (Call::LoadHeld, 1, false),
-    (Call::TryEnterBeside, 2, false),
-    (Call::EnterBeside, 2, false),
+    (Call::TryEnterHolding, 2, false),
+    (Call::EnterHolding, 2, false),
     (Call::Leave, 0, false),
 ];
 
-fn is_after(found: (GateState, Answer), count: u64, closed: bool) -> bool {
+fn is_after(found: (GateState, Ending), count: u64, closed: bool) -> bool {
     let end = if count == 0 {
-        Answer::Closed
+        Ending::Closed
     } else {
-        Answer::Pending(count)
+        Ending::Pending(count)
     };
     found.0.count == count && found.0.closed == closed && found.1 == end
 }
@@ -98,7 +98,7 @@ fn makes_its_own_steps(
 }
 
 #[test]
-fn each_call_makes_its_own_steps_alone(rt: HostRuntime) {
+fn each_call_makes_only_its_own_steps(rt: HostRuntime) {
     for (call, count, closed) in AFTER {
         assert!(rt;
             makes_its_own_steps(&rt, rt.alloc(), call, count, closed),

@@ -1,8 +1,8 @@
 //! One thread, call by call.
 ghost use Rattle.crawl_gate.specs.Seat.{IsSeatOf};
 
-use crate::tests::answers::Answer::{Closed, Entered, Full, Pending};
-use crate::tests::answers::{Answer, closed, entered, entered_beside};
+use crate::tests::endings::Ending::{Closed, Entered, Full, Pending};
+use crate::tests::endings::{Ending, closed, entered, entered_holding};
 use crawl_gate::{Gate, GateError, GateState, Unit};
 use std::alloc::Global;
 use std::sync::Wait;
@@ -35,7 +35,7 @@ const SHUT: GateState = GateState {
 };
 
 // The results of these calls of a gate of one, with the unit that it came with.
-fn of_one(gate: &Gate, mut unit: Unit) -> ([GateState; 2], [Answer; 6], u64)
+fn of_one(gate: &Gate, mut unit: Unit) -> ([GateState; 2], [Ending; 6], u64)
     requires { IsSeatOf gate.now unit }
 {
     let mut pass = gate.split_unit(&mut unit);
@@ -56,13 +56,13 @@ fn of_one(gate: &Gate, mut unit: Unit) -> ([GateState; 2], [Answer; 6], u64)
     )
 }
 
-fn answers_as_one(alloc: Global) -> bool {
+fn endings_of_one(alloc: Global) -> bool {
     match Gate::new(alloc, 1) {
         Ok((gate, unit)) => {
-            let (states, answers, left) = of_one(&gate, unit);
+            let (states, endings, left) = of_one(&gate, unit);
             states == [OPEN, SHUT]
                 && left == 0
-                && answers == [Full, Pending(1), Entered(0), Closed, Closed, Closed]
+                && endings == [Full, Pending(1), Entered(0), Closed, Closed, Closed]
         }
         Err(_) => false,
     }
@@ -70,29 +70,29 @@ fn answers_as_one(alloc: Global) -> bool {
 
 #[test]
 fn gate_of_one(rt: HostRuntime) {
-    assert!(rt; answers_as_one(rt.alloc()));
+    assert!(rt; endings_of_one(rt.alloc()));
 }
 
 // The results with a held unit: the count first; a try, a call that continues to try, and one by only a pass.
-fn beside<R: Wait>(rt: &R, gate: &Gate, mut held: Unit) -> ([u64; 3], [Answer; 3])
+fn holding<R: Wait>(rt: &R, gate: &Gate, mut held: Unit) -> ([u64; 3], [Ending; 3])
     requires { IsSeatOf gate.now held }
 {
     let pass = gate.split_unit(&mut held);
     let before = gate.load_held(&mut held);
     let end = gate.try_enter_beside(&mut held, pass);
-    let (one, tried, pass) = entered_beside(gate, &mut held, end);
+    let (one, tried, pass) = entered_holding(gate, &mut held, end);
     let end = gate.enter_beside(rt, &mut held, pass);
-    let (other, went, pass) = entered_beside(gate, &mut held, end);
-    let (alone, _pass) = entered(gate, gate.enter(rt, pass));
-    ([before, one, other], [tried, went, alone])
+    let (other, went, pass) = entered_holding(gate, &mut held, end);
+    let (only_unit, _pass) = entered(gate, gate.enter(rt, pass));
+    ([before, one, other], [tried, went, only_unit])
 }
 
 // Whether a gate of this maximum has these results with its first unit, each of the three times.
-fn answers_beside(rt: &impl Wait, alloc: Global, max: u64, met: [u64; 3], answer: Answer) -> bool {
+fn endings_holding(rt: &impl Wait, alloc: Global, max: u64, met: [u64; 3], ending: Ending) -> bool {
     match Gate::new(alloc, max) {
         Ok((gate, held)) => {
-            let (counts, answers) = beside(rt, &gate, held);
-            counts == met && answers == [answer, answer, answer]
+            let (counts, endings) = holding(rt, &gate, held);
+            counts == met && endings == [ending, ending, ending]
         }
         Err(_) => false,
     }
@@ -100,6 +100,6 @@ fn answers_beside(rt: &impl Wait, alloc: Global, max: u64, met: [u64; 3], answer
 
 #[test]
 fn entering_beside_a_unit(rt: HostRuntime) {
-    assert!(rt; answers_beside(&rt, rt.alloc(), 2, [1, 2, 2], Entered(1)));
-    assert!(rt; answers_beside(&rt, rt.alloc(), 1, [1, 1, 1], Full));
+    assert!(rt; endings_holding(&rt, rt.alloc(), 2, [1, 2, 2], Entered(1)));
+    assert!(rt; endings_holding(&rt, rt.alloc(), 1, [1, 1, 1], Full));
 }

@@ -1,7 +1,7 @@
 //! Many threads at one gate.
 ghost use Rattle.crawl_gate.specs.Seat.{IsSeatOf};
 
-use crate::tests::answers::{Answer, closed, entered};
+use crate::tests::endings::{Ending, closed, entered};
 use crawl_gate::{ClosedPass, Enter, Gate, Pass, Unit};
 use std::sync::Wait;
 use std::sync::atomic::{AtomicU64, Ordering};
@@ -96,8 +96,8 @@ fn has_room<R: Threads + Wait + Sync>(rt: &R, gate: &Gate, opening: Unit) -> boo
             return false;
         }
     }
-    closed(gate, closing) == Answer::Closed
-        && entered(gate, gate.enter(rt, late)).0 == Answer::Closed
+    closed(gate, closing) == Ending::Closed
+        && entered(gate, gate.enter(rt, late)).0 == Ending::Closed
 }
 
 #[test]

@@ -49,7 +49,7 @@ impl Marks {
     pub(super) fn has(&self, text: &str) -> bool
         ensures { result ≡ is_marked self.now text.now }
     {
-        let asked = hash(text) as usize % self.places.len();
-        self.places[asked]
+        let index = hash(text) as usize % self.places.len();
+        self.places[index]
     }
 }

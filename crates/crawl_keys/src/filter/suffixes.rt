@@ -80,11 +80,11 @@ impl Suffixes {
             return true;
         }
         let mut rest = host;
-        while let Some((_, behind)) = split_dot(rest) {
-            if self.contains(behind) {
+        while let Some((_, following)) = split_dot(rest) {
+            if self.contains(following) {
                 return true;
             }
-            rest = behind;
+            rest = following;
         }
         false
     }

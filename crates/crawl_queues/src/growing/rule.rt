@@ -57,9 +57,9 @@ impl Play<(), ListView> for Compare {
 }
 
 // A new seat learns the owner's list.
-pub(crate) struct Tell;
+pub(crate) struct Learn;
 
-impl Split<ListView> for Tell {
+impl Split<ListView> for Learn {
     ghost use Rattle.crawl_queues.specs.Growing.{beginning};
 
     ghost left = { λ v. v };

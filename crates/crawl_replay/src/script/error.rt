@@ -1,5 +1,5 @@
 ghost use Rattle.std.specs.Prelude.{◌≡◌};
-ghost use Rattle.crawl_replay.specs.ScriptFaults.{fault_of};
+ghost use Rattle.crawl_replay.specs.ScriptErrors.{error_of};
 ghost use Rattle.crawl_replay.specs.declared.script.error.ScriptError.TheVariants as wrong;
 
 use std::alloc::{AllocError, AllocFailed};
@@ -30,7 +30,7 @@ pub enum ScriptError {
 }
 
 impl From<LineError> for ScriptError {
-    ghost from_gives = { λ line fault. fault ≡ fault_of line };
+    ghost from_gives = { λ line error. error ≡ error_of line };
 
     fn from(line: LineError) -> ScriptError {
         match line {
@@ -41,7 +41,7 @@ impl From<LineError> for ScriptError {
 }
 
 impl From<AllocError> for ScriptError {
-    ghost from_gives = { λ _ fault. fault ≡ wrong.NoMemory };
+    ghost from_gives = { λ _ error. error ≡ wrong.NoMemory };
 
     fn from(_refused: AllocError) -> ScriptError {
         ScriptError::NoMemory
@@ -49,7 +49,7 @@ impl From<AllocError> for ScriptError {
 }
 
 impl<T: Drop> From<AllocFailed<T>> for ScriptError {
-    ghost from_gives = { λ _ fault. fault ≡ wrong.NoMemory };
+    ghost from_gives = { λ _ error. error ≡ wrong.NoMemory };
 
     fn from(_refused: AllocFailed<T>) -> ScriptError {
         ScriptError::NoMemory

@@ -5,7 +5,7 @@ ghost use Rattle.crawl_pages.specs.declared.page.PageResult.{PageResult};
 ghost use Rattle.crawl_report.specs.Lines as line;
 ghost use Rattle.crawl_report.specs.Lines.{line_of};
 ghost use Rattle.crawl_report.specs.Printing.{Adds};
-ghost use Rattle.crawl_report.specs.Rows.{is_told, source_lines, lines_at, lines_of_all};
+ghost use Rattle.crawl_report.specs.Rows.{is_listed, source_lines, lines_at, lines_of_all};
 ghost use Rattle.crawl_sources.specs.Tallies.{count_of, pointed, IsTally};
 
 use crate::out::Out;
@@ -43,39 +43,39 @@ fn with_all(
 ) -> Result<Out, NoMemory>
     ensures { IfOk result (λ more. Adds out more (lines_of_all all moved pages.now)) }
 {
-    let told = told(alloc, pages, moved)?;
-    let tallies = tally_links(alloc, &told, pages, all)?;
-    with_told(out, &told, &tallies, all)
+    let listed = listed(alloc, pages, moved)?;
+    let tallies = tally_links(alloc, &listed, pages, all)?;
+    with_listed(out, &listed, &tallies, all)
 }
 
 /// Returns the results whose sources are printed, in their order.
-fn told(alloc: Global, pages: &[PageResult], moved: bool) -> Result<Vec<&PageResult>, NoMemory>
-    ensures { IfOk result (λ all. pointed all.items ≡ filter (is_told moved) pages.now) }
+fn listed(alloc: Global, pages: &[PageResult], moved: bool) -> Result<Vec<&PageResult>, NoMemory>
+    ensures { IfOk result (λ all. pointed all.items ≡ filter (is_listed moved) pages.now) }
 {
     pages
         .iter()
-        .filter(|one| is_told(one, moved))
+        .filter(|one| is_listed(one, moved))
         .collect(alloc)
 }
 
 /// Whether the sources of this result are printed: if it is missing and, with `moved`, also if it has moved.
-fn is_told(one: &PageResult, moved: bool) -> bool
-    ensures { result ≡ is_told moved one.now }
+fn is_listed(one: &PageResult, moved: bool) -> bool
+    ensures { result ≡ is_listed moved one.now }
 {
     one.page.is_missing() || moved && one.page.is_moved()
 }
 
 /// Prints the sources of each of these, by the counts that are kept for their URLs.
-fn with_told<'a>(
+fn with_listed<'a>(
     mut out: Out,
-    told: &[&'a PageResult],
+    listed: &[&'a PageResult],
     tallies: &Tallies<'a>,
     all: bool,
 ) -> Result<Out, NoMemory>
-    requires { (url : List ℕ) → list_any (λ r. bytes_eq r.url url) (pointed told.now) ≡ true → IsSome (count_of tallies.now url) }
-    ensures { (results : List PageResult) → ((url : List ℕ) → IsTally all results url (count_of tallies.now url)) → IfOk result (λ more. Adds out more (flat_map (λ r. lines_at all results r.url) (pointed told.now))) }
+    requires { (url : List ℕ) → list_any (λ r. bytes_eq r.url url) (pointed listed.now) ≡ true → IsSome (count_of tallies.now url) }
+    ensures { (results : List PageResult) → ((url : List ℕ) → IsTally all results url (count_of tallies.now url)) → IfOk result (λ more. Adds out more (flat_map (λ r. lines_at all results r.url) (pointed listed.now))) }
 {
-    for one in told {
+    for one in listed {
         let tally = tally_of(tallies, &one.url);
         let url = one.url.as_str();
         out = with_tally(out, tally, url)?;

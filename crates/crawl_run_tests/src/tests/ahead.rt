@@ -56,10 +56,10 @@ fn is_of(
     alloc: Global,
     web: &SavedWeb<'_>,
     url: &CanonUrl,
-    told: Result<Page, FetchError>,
+    found: Result<Page, FetchError>,
 ) -> bool {
-    match (told, web.fetch(alloc, url)) {
-        (Ok(told), Ok(page)) => told == page,
+    match (found, web.fetch(alloc, url)) {
+        (Ok(found), Ok(page)) => found == page,
         _ => false,
     }
 }
@@ -74,8 +74,8 @@ fn wrong_pages<R: Threads>(
     let mut wrong = 0usize;
     for page in 0..PAGES + 1 {
         let url = page_url(alloc, page)?;
-        let told = source.fetch_in(alloc, &mut session, &url);
-        if !is_of(alloc, web, &url, told) {
+        let found = source.fetch_in(alloc, &mut session, &url);
+        if !is_of(alloc, web, &url, found) {
             wrong = wrong.saturating_add(1);
         }
     }

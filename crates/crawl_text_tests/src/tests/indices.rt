@@ -14,7 +14,7 @@ const LISTS: u64 = 100_000;
 const FEW_LISTS: u64 = 24;
 
 /// The number of random texts for a list.
-const DRAWS: usize = 40;
+const TEXTS_IN_A_LIST: usize = 40;
 
 /// The same number of each of the three hashes, of which one slot's bucket takes eight.
 const TEXTS: [&str; 36] = [
@@ -53,25 +53,25 @@ impl Keyed for Word {
 
 /// A list with its index.
 #[derive(Drop)]
-struct Words {
+struct IndexedTexts {
     list: Vec<Word>,
     index: HashIndex,
 }
 
-impl Model for Words {
+impl Model for IndexedTexts {
     ghost use Rattle.std.specs.Prelude.{◌*◌, ◌%◌, ℕ, List, map, length};
     ghost use Rattle.hash_index.specs.Index.{IsIndexOf};
 
     ghost Value = { List (List ℕ) };
 
-    ghost view = { λ words. words.list.items };
+    ghost view = { λ indexed. indexed.list.items };
 
-    ghost invariant = { λ words. IsIndexOf (λ text. length text % 3 * 8589934593) (map (λ word. word) words.list.items) words.index };
+    ghost invariant = { λ indexed. IsIndexOf (λ text. length text % 3 * 8589934593) (map (λ word. word) indexed.list.items) indexed.index };
 }
 
-impl Words {
-    fn with_capacity(alloc: Global, count: usize) -> Result<Words, AllocError> {
-        Ok(Words {
+impl IndexedTexts {
+    fn with_capacity(alloc: Global, count: usize) -> Result<IndexedTexts, AllocError> {
+        Ok(IndexedTexts {
             list: Vec::new(alloc),
             index: HashIndex::with_capacity(alloc, count)?,
         })
@@ -114,9 +114,9 @@ impl Words {
 
     /// Adds the word, and returns whether it was found at its index. After a failed allocation all are found as before.
     fn adds(&mut self, word: Word) -> bool {
-        let wanted = self.search(word.text);
+        let found_at = self.search(word.text);
         match self.add(word) {
-            Ok(found) => found == wanted,
+            Ok(found) => found == found_at,
             Err(_) => self.finds_all(),
         }
     }
@@ -129,26 +129,26 @@ fn nth_word(number: usize) -> Word {
 }
 
 /// Whether all texts are found in one random list, while it grows and at the end.
-fn finds_drawn(alloc: Global, seed: u64) -> bool {
-    let Ok(mut words) = Words::with_capacity(alloc, seed as usize % 24) else {
+fn finds_random(alloc: Global, seed: u64) -> bool {
+    let Ok(mut indexed) = IndexedTexts::with_capacity(alloc, seed as usize % 24) else {
         return true;
     };
-    let mut drawn = seed;
-    for _ in 0..DRAWS {
-        drawn = drawn
+    let mut random = seed;
+    for _ in 0..TEXTS_IN_A_LIST {
+        random = random
             .wrapping_mul(6_364_136_223_846_793_005)
             .wrapping_add(1_442_695_040_888_963_407);
-        if !words.adds(nth_word((drawn >> 33) as usize)) {
+        if !indexed.adds(nth_word((random >> 33) as usize)) {
             return false;
         }
     }
-    words.finds_all()
+    indexed.finds_all()
 }
 
 /// Whether all texts are found in each of this number of random lists.
 fn finds_in_each(alloc: Global, lists: u64) -> bool {
     for seed in 0..lists {
-        if !finds_drawn(alloc, seed) {
+        if !finds_random(alloc, seed) {
             return false;
         }
     }
@@ -162,6 +162,6 @@ fn finds_what_a_plain_search_finds(rt: HostRuntime) {
 
 // `rt try --test --fail-alloc N -- refused` makes the Nth allocation fail.
 #[test]
-fn finds_all_after_a_refused_growth(rt: HostRuntime) {
+fn finds_all_after_a_failed_allocation(rt: HostRuntime) {
     assert!(&rt; finds_in_each(rt.alloc(), FEW_LISTS));
 }

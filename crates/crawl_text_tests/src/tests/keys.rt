@@ -125,15 +125,15 @@ fn leads(alloc: Global, row: &Row) -> bool {
     };
     match Base::new(alloc, &page) {
         Ok(base) => {
-            is_answer(resolve(alloc, &page, row.0), row.1)
-                && is_answer(base.resolve(alloc, row.0), row.1)
+            is_expected(resolve(alloc, &page, row.0), row.1)
+                && is_expected(base.resolve(alloc, row.0), row.1)
         }
         Err(_) => false,
     }
 }
 
-fn is_answer(told: Result<CanonUrl, KeyError>, text: &str) -> bool {
-    match told {
+fn is_expected(found: Result<CanonUrl, KeyError>, text: &str) -> bool {
+    match found {
         Ok(url) => url.as_str() == text,
         Err(KeyError::NotUrl) => text == "not a URL",
         Err(KeyError::NotHttp) => text == "not http or https",
@@ -162,8 +162,8 @@ fn bases_of_texts(rt: HostRuntime) {
 // Whether the base of the text has this URL, to which a link to an anchor of the page leads.
 fn is_base(alloc: Global, row: &Row) -> bool {
     match Base::canonical(alloc, row.0) {
-        Ok(base) => base.as_str() == row.1 && is_answer(base.resolve(alloc, "#g"), row.1),
-        Err(error) => is_answer(Err(error), row.1),
+        Ok(base) => base.as_str() == row.1 && is_expected(base.resolve(alloc, "#g"), row.1),
+        Err(error) => is_expected(Err(error), row.1),
     }
 }
 
@@ -207,7 +207,9 @@ fn is_pair(alloc: Global, row: &Pair) -> bool {
     };
     let from_one = one.resolve(alloc, "x");
     let share_a_name = from_one.is_ok() && from_one == other.resolve(alloc, "x");
-    one.is_beside(&other) == row.2 && other.is_beside(&one) == row.2 && share_a_name == row.2
+    one.shares_folder(&other) == row.2
+        && other.shares_folder(&one) == row.2
+        && share_a_name == row.2
 }
 
 /// A text, and how its URL relates to that of `http://a.test?q#f`.

@@ -1,4 +1,4 @@
-//! Named cases of a machine that no script can show. `tests/drawn.py` compares random scripts with an independent model.
+//! Named cases of a machine that no script can show. `tests/random.py` compares random scripts with an independent model.
 mod steps;
 
 use crawl_core::{Core, CoreError, Text, Word, run};
@@ -74,7 +74,7 @@ fn closes_when_drained(rt: HostRuntime) {
 }
 
 #[test]
-fn texts_and_words(rt: HostRuntime) -> Result<(), Fail> {
+fn texts_and_gate_words(rt: HostRuntime) -> Result<(), Fail> {
     let url = Text::from_str(rt.alloc(), A)?;
     assert!(rt; url.as_str() == A && url.clone()? == url);
     let (count, closed) = (1, false);

@@ -60,7 +60,7 @@ fn answer(alloc: Global, session: &mut Session, line: &str) -> Result<String, Al
     format!(in alloc; "{answer}")
 }
 
-fn is_answer(alloc: Global, session: &mut Session, line: &str, expected: &str) -> bool {
+fn is_expected(alloc: Global, session: &mut Session, line: &str, expected: &str) -> bool {
     match answer(alloc, session, line) {
         Ok(answer) => answer.as_str() == expected,
         Err(_) => false,
@@ -68,12 +68,12 @@ fn is_answer(alloc: Global, session: &mut Session, line: &str, expected: &str) -
 }
 
 /// The number of requests before the first that has another answer.
-fn right_answers(alloc: Global, requests: &'static [(&'static str, &'static str)]) -> usize {
+fn right_replies(alloc: Global, requests: &'static [(&'static str, &'static str)]) -> usize {
     let Some(mut session) = session(alloc) else {
         return 0;
     };
     for (index, (line, expected)) in requests.iter().enumerate() {
-        if !is_answer(alloc, &mut session, line, expected) {
+        if !is_expected(alloc, &mut session, line, expected) {
             return index;
         }
     }
@@ -81,8 +81,8 @@ fn right_answers(alloc: Global, requests: &'static [(&'static str, &'static str)
 }
 
 #[test]
-fn a_line_for_which_memory_was_out_is_asked_again(rt: HostRuntime) {
-    let right = right_answers(rt.alloc(), ROWS);
+fn a_line_for_which_memory_was_out_is_sent_again(rt: HostRuntime) {
+    let right = right_replies(rt.alloc(), ROWS);
     assert!(rt; right == ROWS.len(), "request {right}, from 0");
 }
 
@@ -128,9 +128,9 @@ fn is_start(row: &(&str, u32, u32, &str, &str)) -> bool {
     number == row.1 && parts == row.2 && identity.unwrap_or("") == row.3 && rest == row.4
 }
 
-fn is_text(text: Result<String, AllocError>, wanted: &str) -> bool {
+fn is_text(text: Result<String, AllocError>, expected: &str) -> bool {
     match text {
-        Ok(text) => text.as_str() == wanted,
+        Ok(text) => text.as_str() == expected,
         Err(_) => false,
     }
 }
@@ -229,12 +229,12 @@ fn lists(
     Ok(out)
 }
 
-fn are_lists(alloc: Global, log: &str, form: ListForm, wanted: &str) -> bool {
+fn are_lists(alloc: Global, log: &str, form: ListForm, expected: &str) -> bool {
     let Some(mut session) = session(alloc) else {
         return false;
     };
     match lists(alloc, &mut session, log, form) {
-        Ok(lists) => lists.as_slice() == wanted.as_bytes(),
+        Ok(lists) => lists.as_slice() == expected.as_bytes(),
         Err(_) => false,
     }
 }
@@ -248,8 +248,8 @@ const LISTS: &[(&str, ListForm, &str)] = &[
 
 #[test]
 fn lists_the_urls_of_a_log(rt: HostRuntime) {
-    for (log, form, wanted) in LISTS {
-        assert!(rt; are_lists(rt.alloc(), log, *form, wanted), "{wanted}");
+    for (log, form, expected) in LISTS {
+        assert!(rt; are_lists(rt.alloc(), log, *form, expected), "{expected}");
     }
 }
 

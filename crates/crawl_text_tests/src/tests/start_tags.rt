@@ -36,28 +36,28 @@ const ROWS: &[(&str, &str)] = &[
 ];
 
 /// The text after the attribute, if the text begins with it.
-fn behind_attribute<'a>(attribute: &AttributeAt, text: &'a [u8]) -> Option<&'a [u8]> {
+fn after_attribute<'a>(attribute: &AttributeAt, text: &'a [u8]) -> Option<&'a [u8]> {
     let name = text.strip_prefix(b" ")?.strip_prefix(attribute.name)?;
     let value = name.strip_prefix(b"[")?.strip_prefix(attribute.value)?;
     value.strip_prefix(b"]")
 }
 
 /// The text after the tag, if the text begins with it.
-fn behind_tag<'a>(tag: &StartTagAt, text: &'a [u8]) -> Option<&'a [u8]> {
+fn past_tag<'a>(tag: &StartTagAt, text: &'a [u8]) -> Option<&'a [u8]> {
     let mut rest = text.strip_prefix(tag.name)?;
     for attribute in &tag.attributes {
-        rest = behind_attribute(attribute, rest)?;
+        rest = after_attribute(attribute, rest)?;
     }
     let end = if tag.self_closing { "/;" } else { ";" };
     rest.strip_prefix(end.as_bytes())
 }
 
 /// Whether the text has exactly these tags.
-fn are_told(found: &[StartTagAt], text: &[u8]) -> bool {
+fn are_found(found: &[StartTagAt], text: &[u8]) -> bool {
     let mut rest = text;
     for tag in found {
-        match behind_tag(tag, rest) {
-            Some(behind) => rest = behind,
+        match past_tag(tag, rest) {
+            Some(following) => rest = following,
             None => return false,
         }
     }
@@ -66,7 +66,7 @@ fn are_told(found: &[StartTagAt], text: &[u8]) -> bool {
 
 fn has_tags(alloc: Global, html: &str, text: &str) -> bool {
     match tags(alloc, html.as_bytes()) {
-        Ok(found) => are_told(&found, text.as_bytes()),
+        Ok(found) => are_found(&found, text.as_bytes()),
         Err(_) => false,
     }
 }

@@ -1,7 +1,7 @@
 //! Whether the arguments of a command line agree with what `clap` made of them. `clap` promises little about a command line with
 //! conflicts and groups, so what the contract of the program says about the arguments of a check is compared once more.
 ghost use Rattle.std.specs.Prelude.{◌≡◌};
-ghost use Rattle.mercator.specs.Told.{is_off};
+ghost use Rattle.mercator.specs.Outputs.{is_off};
 ghost use Rattle.mercator.specs.Checks.{agrees, agrees_with_base, agrees_with_check, agrees_with_error, asks_help, has_help_letter, has_no_config, has_option, has_word, is_check, is_help, is_help_text, is_option, is_plain, is_whole, may_set_options, names_check};
 
 use crate::commands::plan_error::PlanError;
@@ -10,20 +10,20 @@ use mercator_site::{CheckOptions, Fix};
 
 /// Whether a plan agrees with these arguments. That of a check has their FOLDER and BASE, and no options if they set none. No other plan
 /// is that of arguments that begin with `check`, unless they ask for help.
-pub fn agrees(words: &[String], plan: &Plan) -> bool
-    ensures { result ≡ agrees words.now plan.now }
+pub fn agrees(arguments: &[String], plan: &Plan) -> bool
+    ensures { result ≡ agrees arguments.now plan.now }
 {
     match plan {
-        Plan::Check { options, ignores } => agrees_with_check(words, options, ignores),
-        _ => !is_check(words),
+        Plan::Check { options, ignores } => agrees_with_check(arguments, options, ignores),
+        _ => !is_check(arguments),
     }
 }
 
 /// Whether an error agrees with these arguments: it is not the text of help or of the version, unless they ask for one.
-pub fn agrees_with_error(words: &[String], error: &PlanError) -> bool
-    ensures { result ≡ agrees_with_error words.now error.now }
+pub fn agrees_with_error(arguments: &[String], error: &PlanError) -> bool
+    ensures { result ≡ agrees_with_error arguments.now error.now }
 {
-    !is_help_text(error) || asks_help(words)
+    !is_help_text(error) || asks_help(arguments)
 }
 
 /// Whether the text of an error is help or the version.
@@ -37,27 +37,27 @@ fn is_help_text(error: &PlanError) -> bool
 }
 
 /// Whether the arguments are those of a check: the first is `check`, and none asks for help.
-fn is_check(words: &[String]) -> bool
-    ensures { result ≡ is_check words.now }
+fn is_check(arguments: &[String]) -> bool
+    ensures { result ≡ is_check arguments.now }
 {
-    names_check(words) && !asks_help(words)
+    names_check(arguments) && !asks_help(arguments)
 }
 
 /// Whether the first argument is `check`.
-fn names_check(words: &[String]) -> bool
-    ensures { result ≡ names_check words.now }
+fn names_check(arguments: &[String]) -> bool
+    ensures { result ≡ names_check arguments.now }
 {
-    match words.split_first() {
+    match arguments.split_first() {
         Some((first, _)) => first.as_str() == "check",
         None => false,
     }
 }
 
 /// Whether an argument asks for help or for the version.
-fn asks_help(words: &[String]) -> bool
-    ensures { result ≡ asks_help words.now }
+fn asks_help(arguments: &[String]) -> bool
+    ensures { result ≡ asks_help arguments.now }
 {
-    words.iter().any(|word| is_help(word.as_str()))
+    arguments.iter().any(|word| is_help(word.as_str()))
 }
 
 /// Whether this argument asks for help or for the version.
@@ -75,47 +75,47 @@ fn has_help_letter(word: &str) -> bool
 }
 
 /// Whether the plan of a check agrees with these arguments.
-fn agrees_with_check(words: &[String], options: &CheckOptions, ignores: &Option<String>) -> bool
-    ensures { result ≡ agrees_with_check words.now options.now ignores.now }
+fn agrees_with_check(arguments: &[String], options: &CheckOptions, ignores: &Option<String>) -> bool
+    ensures { result ≡ agrees_with_check arguments.now options.now ignores.now }
 {
-    has_word(words, options.site.folder.as_str())
-        && agrees_with_base(words, options)
-        && (is_plain(options, ignores) || may_set_options(words))
+    has_word(arguments, options.site.folder.as_str())
+        && agrees_with_base(arguments, options)
+        && (is_plain(options, ignores) || may_set_options(arguments))
 }
 
 /// Whether there is no BASE, or BASE is one of the arguments or may be that of a configuration file.
-fn agrees_with_base(words: &[String], options: &CheckOptions) -> bool
-    ensures { result ≡ agrees_with_base words.now options.now }
+fn agrees_with_base(arguments: &[String], options: &CheckOptions) -> bool
+    ensures { result ≡ agrees_with_base arguments.now options.now }
 {
-    options.paths || has_word(words, options.site.base.as_str()) || !has_no_config(words)
+    options.paths || has_word(arguments, options.site.base.as_str()) || !has_no_config(arguments)
 }
 
 /// Whether one of the arguments is this text.
-fn has_word(words: &[String], text: &str) -> bool
-    ensures { result ≡ has_word words.now text.now }
+fn has_word(arguments: &[String], text: &str) -> bool
+    ensures { result ≡ has_word arguments.now text.now }
 {
-    words.iter().any(|word| word.as_str() == text)
+    arguments.iter().any(|word| word.as_str() == text)
 }
 
 /// Whether the arguments say that no configuration file is read. After `--`, no argument is an option.
-fn has_no_config(words: &[String]) -> bool
-    ensures { result ≡ has_no_config words.now }
+fn has_no_config(arguments: &[String]) -> bool
+    ensures { result ≡ has_no_config arguments.now }
 {
-    has_word(words, "--no-config") && !has_word(words, "--")
+    has_word(arguments, "--no-config") && !has_word(arguments, "--")
 }
 
 /// Whether a configuration file or an argument other than `--no-config` may set options.
-fn may_set_options(words: &[String]) -> bool
-    ensures { result ≡ may_set_options words.now }
+fn may_set_options(arguments: &[String]) -> bool
+    ensures { result ≡ may_set_options arguments.now }
 {
-    !has_no_config(words) || has_option(words)
+    !has_no_config(arguments) || has_option(arguments)
 }
 
 /// Whether an argument begins like an option, and is not `--no-config`.
-fn has_option(words: &[String]) -> bool
-    ensures { result ≡ has_option words.now }
+fn has_option(arguments: &[String]) -> bool
+    ensures { result ≡ has_option arguments.now }
 {
-    words.iter().any(|word| is_option(word.as_str()))
+    arguments.iter().any(|word| is_option(word.as_str()))
 }
 
 /// Whether this argument begins like an option, and is not `--no-config`.

@@ -2,9 +2,9 @@
 use crate::commands::arguments::{
     Flag, Valued, command_with, flag_of, option, push, push_flags, push_options, word, workers,
 };
-use crate::commands::check_words::check_command;
-use crate::commands::folder_words::site_command;
-use crate::commands::report_words::SECTION_FLAGS;
+use crate::commands::check_arguments::check_command;
+use crate::commands::folder_arguments::site_command;
+use crate::commands::report_arguments::SECTION_FLAGS;
 use clap::builder::ValueParser;
 use clap::{Arg, ArgAction, Command};
 use crawl_limits::PENDING_LIMIT;
@@ -114,7 +114,7 @@ fn push_crawl_args<'a>(alloc: Global, args: &mut Vec<Arg<'a>>) -> Result<(), All
 fn push_report_options<'a>(alloc: Global, args: &mut Vec<Arg<'a>>) -> Result<(), AllocError> {
     push_flags(alloc, args, None, QUEUE_FLAGS)?;
     push_flags(alloc, args, None, SECTION_FLAGS)?;
-    push_flags(alloc, args, None, TELLING_FLAGS)
+    push_flags(alloc, args, None, PRINTING_FLAGS)
 }
 
 /// The number of workers of a frontier, and its limit of pending URLs.
@@ -131,7 +131,7 @@ const QUEUE_FLAGS: &[Flag] = &[Flag {
 }];
 
 /// The format of a report, and what else is printed.
-const TELLING_FLAGS: &[Flag] = &[
+const PRINTING_FLAGS: &[Flag] = &[
     Flag {
         name: "json",
         help: "Print the report as JSON, one object per line",

@@ -2,11 +2,11 @@
 ghost use Rattle.std.specs.Prelude.{IfErr, IfOk};
 ghost use Rattle.mercator.specs.Plans.{IsShown};
 
-use crate::commands::check_words::FORMATS;
-use crate::commands::folder_words::{HOSTS, SUFFIXES};
+use crate::commands::check_arguments::FORMATS;
+use crate::commands::folder_arguments::{HOSTS, SUFFIXES};
 use crate::commands::input::Unread;
 use crate::commands::option_values::RIVALS;
-use crate::commands::plan_error::{PlanError, bad_words};
+use crate::commands::plan_error::{PlanError, bad_arguments};
 use crate::commands::source::read_named;
 use clap::ArgMatches;
 use option_file::{FileError, Known, OptionFile};
@@ -197,5 +197,5 @@ fn bad_line(alloc: Global, pieces: &[&str]) -> Result<PlanError, AllocError>
         line.push_str(*piece)?;
     }
     line.push_str("\n")?;
-    bad_words(alloc, line.as_str())
+    bad_arguments(alloc, line.as_str())
 }

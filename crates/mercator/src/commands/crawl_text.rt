@@ -31,7 +31,7 @@ pub(in crate::commands) fn crawl_text<R: Threads + Sync>(
     let unseen = unreached(alloc, settings.filter, pages, urls)?;
     let report = Report {
         pages,
-        queues: asked_counts(crawl.queues, &crawled.counts),
+        queues: counts_to_list(crawl.queues, &crawled.counts),
         unreached: &unseen,
         sections: crawl.options.sections,
     };
@@ -45,8 +45,8 @@ pub(in crate::commands) fn crawl_text<R: Threads + Sync>(
 }
 
 /// Returns the counts of the queues if the report has them, and otherwise none.
-fn asked_counts(asked: bool, counts: &[u64]) -> &[u64]
-    ensures { result.now ≡ (if asked then counts.now else []) }
+fn counts_to_list(given: bool, counts: &[u64]) -> &[u64]
+    ensures { result.now ≡ (if given then counts.now else []) }
 {
-    if asked { counts } else { &[] }
+    if given { counts } else { &[] }
 }

@@ -2,15 +2,15 @@
 ghost use Rattle.std.specs.Prelude.{◌≡◌, ◌⊎◌, Bool, ℕ, List, Option, String, IfErr, IfOk};
 ghost use Rattle.std.specs.Io.KnownBytes.{Appends};
 ghost use Rattle.std.specs.declared.alloc.Global.{Global};
-ghost use Rattle.mercator.specs.Told.{FailsFix, IsDiff};
-ghost use Rattle.mercator.specs.declared.commands.fault.Fault.TheVariants as wrong;
+ghost use Rattle.mercator.specs.Outputs.{FailsFix, IsDiff};
+ghost use Rattle.mercator.specs.declared.commands.error.CommandError.TheVariants as wrong;
 
-use crate::commands::fault::Fault;
+use crate::commands::error::CommandError;
 use crate::commands::folder::{note_line, print_notes, read_ignore_list};
 use crate::commands::source::read_named;
 use crate::commands::writing::{begin, end};
 use link_fixes::push_diff;
-use mercator_site::{CheckOptions, DocumentFix, FileFix, Note, SiteFault, fixes_of_folder};
+use mercator_site::{CheckOptions, DocumentFix, FileFix, FolderError, Note, fixes_of_folder};
 use shown_text::shown;
 use std::alloc::{AllocError, Global};
 use std::fs::{self, Files, OpenFile, OpenOptions};
@@ -42,9 +42,9 @@ pub fn print_fixes<R: Files<File: Send, Dir: Send> + Threads + Wait + Sync, O: W
     ignores: &Option<String>,
     out: &mut O,
     err: &mut E,
-) -> Result<bool, Fault>
+) -> Result<bool, CommandError>
     ensures done { IfOk result (λ broken. (diff : List ℕ) × IsDiff broken diff × Appends (O.contents out.old) (O.contents out.new) diff) }
-    ensures fault { IfErr result (λ fault. (FailsFix ignores.now fault × (out.new ≡ out.old)) ⊎ ((fault ≡ wrong.CannotWrite) × ((broken : Bool) × (diff : List ℕ) × IsDiff broken diff))) }
+    ensures error { IfErr result (λ error. (FailsFix ignores.now error × (out.new ≡ out.old)) ⊎ ((error ≡ wrong.CannotWrite) × ((broken : Bool) × (diff : List ℕ) × IsDiff broken diff))) }
 {
     let diff = diff_of_folder(rt, alloc, options, ignores, err)?;
     end(out, diff.as_slice())?;
@@ -58,7 +58,7 @@ fn diff_of_folder<R: Files<File: Send, Dir: Send> + Threads + Wait + Sync, E: Wr
     options: &CheckOptions,
     ignores: &Option<String>,
     err: &mut E,
-) -> Result<Vec<u8>, Fault>
+) -> Result<Vec<u8>, CommandError>
     ensures { IfErr result (FailsFix ignores.now) }
 {
     let mut notes = Vec::new(alloc);
@@ -84,7 +84,7 @@ pub fn fix_folder<R: Files<File: Send, Dir: Send> + Threads + Wait + Sync, E: Wr
     options: &CheckOptions,
     ignores: &Option<String>,
     err: &mut E,
-) -> Result<(), Fault>
+) -> Result<(), CommandError>
     ensures { IfErr result (FailsFix ignores.now) }
 {
     let mut notes = Vec::new(alloc);
@@ -98,7 +98,7 @@ pub fn fix_folder<R: Files<File: Send, Dir: Send> + Threads + Wait + Sync, E: Wr
     )? {
         Ok(())
     } else {
-        Err(Fault::CannotFix)
+        Err(CommandError::CannotFix)
     }
 }
 
@@ -109,24 +109,24 @@ fn found_fixes<R: Files<File: Send, Dir: Send> + Threads + Wait + Sync>(
     options: &CheckOptions,
     ignores: &Option<String>,
     notes: &mut Vec<Note>,
-) -> Result<Vec<FileFix>, Fault>
+) -> Result<Vec<FileFix>, CommandError>
     ensures { IfErr result (FailsFix ignores.now) }
 {
     let list = read_ignore_list(rt, alloc, ignores)?;
     match fixes_of_folder(rt, alloc, options, list.as_slice(), notes) {
         Ok(fixes) => Ok(fixes),
-        Err(fault) => Err(fault_of(fault)),
+        Err(error) => Err(error_of(error)),
     }
 }
 
 /// The error for files that were not found. If the crawl is incomplete, so are the fixes.
-fn fault_of(fault: SiteFault) -> Fault
+fn error_of(error: FolderError) -> CommandError
     ensures { (ignores : Option (String Global)) → FailsFix ignores result }
 {
-    match fault {
-        SiteFault::Crawl(_) => Fault::CannotFix,
-        SiteFault::NoMemory => Fault::NoMemory,
-        _ => Fault::Site(fault),
+    match error {
+        FolderError::Crawl(_) => CommandError::CannotFix,
+        FolderError::NoMemory => CommandError::NoMemory,
+        _ => CommandError::Site(error),
     }
 }
 
@@ -190,8 +190,8 @@ fn can_rewrite<R: Files, E: Write>(
 ) -> Result<bool, AllocError> {
     let name = one.file.as_str();
     if has_symlink(rt, alloc, folder, name)? {
-        let words = "not rewritten, because its path has a symbolic link";
-        print_note(alloc, name, words, err)?;
+        let reason = "not rewritten, because its path has a symbolic link";
+        print_note(alloc, name, reason, err)?;
         return Ok(false);
     }
     print_left(alloc, name, &one.fix, err)?;
@@ -209,18 +209,18 @@ fn print_left<E: Write>(
     if left == 0 {
         return Ok(());
     }
-    let words = format!(in alloc; "links left as they are: {left}")?;
-    print_note(alloc, name, words.as_str(), err)
+    let reason = format!(in alloc; "links left as they are: {left}")?;
+    print_note(alloc, name, reason.as_str(), err)
 }
 
 /// Prints a note about a file.
 fn print_note<E: Write>(
     alloc: Global,
     name: &str,
-    words: &str,
+    reason: &str,
     err: &mut E,
 ) -> Result<(), AllocError> {
-    let line = note_line(alloc, name, words)?;
+    let line = note_line(alloc, name, reason)?;
     begin(err, line.as_bytes());
     Ok(())
 }
@@ -285,12 +285,12 @@ fn print_outcome<E: Write>(
 ) -> Result<(), AllocError> {
     match outcome {
         Outcome::Rewritten => {
-            let words = format!(in alloc; "links rewritten: {moved}")?;
-            print_note(alloc, name, words.as_str(), err)
+            let reason = format!(in alloc; "links rewritten: {moved}")?;
+            print_note(alloc, name, reason.as_str(), err)
         }
         Outcome::Changed => {
-            let words = "not rewritten, because it has changed since it was read";
-            print_note(alloc, name, words, err)
+            let reason = "not rewritten, because it has changed since it was read";
+            print_note(alloc, name, reason, err)
         }
         Outcome::Failed => print_note(alloc, name, "cannot be rewritten", err),
     }

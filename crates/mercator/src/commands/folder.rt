@@ -1,13 +1,13 @@
 //! The commands for a folder: `site` and `check`.
 ghost use Rattle.std.specs.Prelude.{◌≡◌, ◌≤◌, ◌⊎◌, ℕ, List, Option, true, false, vec_len, IfOk, IfErr, IfSome, IsSome, string_bytes, option_map};
-ghost use Rattle.mercator.specs.FaultText.{note_line};
+ghost use Rattle.mercator.specs.ErrorText.{note_line};
 ghost use Rattle.mercator.specs.Limits.{most_input_bytes};
 ghost use Rattle.mercator.specs.Plans.{known_ignores};
-ghost use Rattle.mercator.specs.Told.{EndsBy, Gains, GainsAs, reports};
-ghost use Rattle.mercator.specs.declared.commands.fault.Fault.TheVariants as wrong;
+ghost use Rattle.mercator.specs.Outputs.{EndsBy, Gains, GainsAs, reports};
+ghost use Rattle.mercator.specs.declared.commands.error.CommandError.TheVariants as wrong;
 ghost use Rattle.mercator.specs.declared.commands.planned.Plan.TheVariants as asks;
 
-use crate::commands::fault::Fault;
+use crate::commands::error::CommandError;
 use crate::commands::fix::{fix_folder, print_fixes};
 use crate::commands::source::read_named;
 use crate::commands::writing::{begin, end, end_by_web};
@@ -29,9 +29,9 @@ pub fn run_site<R: Files<File: Send, Dir: Send> + Threads + Sync, O: Write, E: W
     options: &SiteOptions,
     out: &mut O,
     err: &mut E,
-) -> Result<(), Fault>
+) -> Result<(), CommandError>
     ensures done { (input : Option (List ℕ)) → IfOk result (λ _. Gains (asks.Site options.now) input (O.contents out.old) (O.contents out.new)) }
-    ensures fault { (input : Option (List ℕ)) → IfErr result (λ fault. EndsBy (asks.Site options.now) input fault (out.new ≡ out.old)) }
+    ensures error { (input : Option (List ℕ)) → IfErr result (λ error. EndsBy (asks.Site options.now) input error (out.new ≡ out.old)) }
 {
     let index = read_index(rt, alloc, &options.index)?;
     let mut notes = Vec::new(alloc);
@@ -52,9 +52,9 @@ pub fn run_check<R: Files<File: Send, Dir: Send> + Threads + Wait + Sync, O: Wri
     ignores: &Option<String>,
     out: &mut O,
     err: &mut E,
-) -> Result<bool, Fault>
+) -> Result<bool, CommandError>
     ensures done { (input : Option (List ℕ)) → IfOk result (λ broken. GainsAs broken (asks.Check options.now ignores.now) input (O.contents out.old) (O.contents out.new)) }
-    ensures fault { (input : Option (List ℕ)) → IfErr result (λ fault. EndsBy (asks.Check options.now ignores.now) input fault (out.new ≡ out.old)) }
+    ensures error { (input : Option (List ℕ)) → IfErr result (λ error. EndsBy (asks.Check options.now ignores.now) input error (out.new ≡ out.old)) }
 {
     match options.fix {
         Fix::Diff => print_fixes(rt, alloc, options, ignores, out, err),
@@ -77,10 +77,10 @@ fn report_check<R: Files<File: Send, Dir: Send> + Threads + Wait + Sync, O: Writ
     ignores: &Option<String>,
     out: &mut O,
     err: &mut E,
-) -> Result<bool, Fault>
+) -> Result<bool, CommandError>
     requires { reports options.now.fix ≡ true }
     ensures done { (input : Option (List ℕ)) → IfOk result (λ broken. GainsAs broken (asks.Check options.now ignores.now) input (O.contents out.old) (O.contents out.new)) }
-    ensures fault { (input : Option (List ℕ)) → IfErr result (λ fault. EndsBy (asks.Check options.now ignores.now) input fault (out.new ≡ out.old)) }
+    ensures error { (input : Option (List ℕ)) → IfErr result (λ error. EndsBy (asks.Check options.now ignores.now) input error (out.new ≡ out.old)) }
 {
     let list = read_ignore_list(rt, alloc, ignores)?;
     let index = read_index(rt, alloc, &options.site.index)?;
@@ -99,17 +99,17 @@ pub fn read_ignore_list<R: Files>(
     rt: &R,
     alloc: Global,
     ignores: &Option<String>,
-) -> Result<Vec<u8>, Fault>
+) -> Result<Vec<u8>, CommandError>
     ensures whole { IfOk result (λ bytes. IfSome (known_ignores ignores.now) (λ known. bytes.items ≡ known)) }
     ensures within { IfOk result (λ bytes. vec_len bytes ≤ most_input_bytes) }
-    ensures fault { IfErr result (λ fault. (fault ≡ wrong.NoMemory) ⊎ ((fault ≡ wrong.CannotReadIgnores) × IsSome ignores.now)) }
+    ensures error { IfErr result (λ error. (error ≡ wrong.NoMemory) ⊎ ((error ≡ wrong.CannotReadIgnores) × IsSome ignores.now)) }
 {
     let Some(file) = ignores else {
         return Ok(Vec::new(alloc));
     };
     match read_named(rt, alloc, file) {
         Ok(bytes) => Ok(bytes),
-        Err(why) => Err(Fault::of_unread_file(why, Fault::CannotReadIgnores)),
+        Err(why) => Err(CommandError::of_unread_file(why, CommandError::CannotReadIgnores)),
     }
 }
 
@@ -118,16 +118,16 @@ fn read_index<R: Files>(
     rt: &R,
     alloc: Global,
     index: &Option<String>,
-) -> Result<Option<Vec<u8>>, Fault>
+) -> Result<Option<Vec<u8>>, CommandError>
     ensures within { IfOk result (λ list. IfSome list (λ bytes. vec_len bytes ≤ most_input_bytes)) }
-    ensures fault { IfErr result (λ fault. (fault ≡ wrong.NoMemory) ⊎ ((fault ≡ wrong.CannotReadIndex) × IsSome index.now)) }
+    ensures error { IfErr result (λ error. (error ≡ wrong.NoMemory) ⊎ ((error ≡ wrong.CannotReadIndex) × IsSome index.now)) }
 {
     let Some(file) = index else {
         return Ok(None);
     };
     match read_named(rt, alloc, file) {
         Ok(bytes) => Ok(Some(bytes)),
-        Err(why) => Err(Fault::of_unread_file(why, Fault::CannotReadIndex)),
+        Err(why) => Err(CommandError::of_unread_file(why, CommandError::CannotReadIndex)),
     }
 }
 
@@ -145,8 +145,8 @@ fn bytes_of(index: &Option<Vec<u8>>) -> Option<&[u8]>
 pub fn print_notes<E: Write>(alloc: Global, err: &mut E, notes: &[Note]) -> Result<(), AllocError> {
     for note in notes {
         let left = note.left;
-        let words = format!(in alloc; "{left}")?;
-        let line = note_line(alloc, note.place.as_str(), words.as_str())?;
+        let reason = format!(in alloc; "{left}")?;
+        let line = note_line(alloc, note.place.as_str(), reason.as_str())?;
         begin(err, line.as_bytes());
     }
     Ok(())
@@ -160,14 +160,14 @@ fn print_sitemap_note<E: Write>(err: &mut E, lacks_sitemap: bool) {
 }
 
 /// A line about something with this name. A name may come from anywhere, so its hidden characters are escaped.
-pub fn note_line(alloc: Global, name: &str, words: &str) -> Result<String, AllocError>
-    ensures { IfOk result (λ line. string_bytes line ≡ note_line name.now words.now) }
+pub fn note_line(alloc: Global, name: &str, reason: &str) -> Result<String, AllocError>
+    ensures { IfOk result (λ line. string_bytes line ≡ note_line name.now reason.now) }
 {
     let name = shown(alloc, name)?;
     let mut line = String::from_str(alloc, "mercator: ")?;
     line.push_str(name.as_str())?;
     line.push_str(": ")?;
-    line.push_str(words)?;
+    line.push_str(reason)?;
     line.push_str("\n")?;
     Ok(line)
 }

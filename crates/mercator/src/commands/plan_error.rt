@@ -45,7 +45,7 @@ impl<T: Drop> From<AllocFailed<T>> for PlanError {
 }
 
 /// The error with this text, for arguments that `clap` accepts or for a configuration file.
-pub fn bad_words(alloc: Global, text: &str) -> Result<PlanError, AllocError>
+pub fn bad_arguments(alloc: Global, text: &str) -> Result<PlanError, AllocError>
     ensures { IfOk result IsShown }
 {
     Ok(PlanError::Shown {

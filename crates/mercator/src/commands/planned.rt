@@ -1,8 +1,8 @@
 //! What a command line asks for.
 ghost use Rattle.std.specs.Prelude.{◌≡◌};
-ghost use Rattle.mercator.specs.Plans.{explains, file_of, listed_or, told_file};
+ghost use Rattle.mercator.specs.Plans.{explains, file_of, listed_or, file_of_error};
 
-use crate::commands::fault::Fault;
+use crate::commands::error::CommandError;
 use crawl_report::Sections;
 use mercator_site::{CheckOptions, SiteOptions};
 use session_log::{CompactPlan, ListPlan, LogPlan, SessionPlan};
@@ -128,24 +128,24 @@ impl Plan {
 
     /// Returns the file that this error is about: the file of seeds, the ignore list or the site list if that cannot be read, the log
     /// if that cannot be used, else FILE.
-    pub fn told_file(&self, fault: &Fault) -> &str
-        ensures { result.now ≡ told_file self.now fault.now }
+    pub fn file_of_error(&self, error: &CommandError) -> &str
+        ensures { result.now ≡ file_of_error self.now error.now }
     {
-        match (self, fault) {
-            (Plan::Crawl { file, options, .. }, Fault::CannotReadSeeds) => {
+        match (self, error) {
+            (Plan::Crawl { file, options, .. }, CommandError::CannotReadSeeds) => {
                 listed_or(&options.listed, file.as_str())
             }
-            (Plan::Check { options, ignores }, Fault::CannotReadIgnores) => {
+            (Plan::Check { options, ignores }, CommandError::CannotReadIgnores) => {
                 listed_or(ignores, options.site.folder.as_str())
             }
-            (Plan::Check { options, .. }, Fault::CannotReadIndex) => {
+            (Plan::Check { options, .. }, CommandError::CannotReadIndex) => {
                 listed_or(&options.site.index, options.site.folder.as_str())
             }
-            (Plan::Site(options), Fault::CannotReadIndex) => {
+            (Plan::Site(options), CommandError::CannotReadIndex) => {
                 listed_or(&options.index, options.folder.as_str())
             }
-            (Plan::ServeLog(log), Fault::Log(_)) => log.file.as_str(),
-            (Plan::Compact(asked), Fault::Log(_)) => asked.log.file.as_str(),
+            (Plan::ServeLog(log), CommandError::Log(_)) => log.file.as_str(),
+            (Plan::Compact(given), CommandError::Log(_)) => given.log.file.as_str(),
             _ => self.file(),
         }
     }

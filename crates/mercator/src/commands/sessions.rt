@@ -3,22 +3,22 @@ ghost use Rattle.std.specs.Prelude.{◌≡◌, ℕ, List, Option, true, false, s
 ghost use Rattle.std.specs.Str.Lines.{lines};
 ghost use Rattle.crawl_session.specs.Frontiers.{Shows, start};
 ghost use Rattle.crawl_session.specs.Logs.{Reruns};
-ghost use Rattle.session_log.specs.LogFile.{IsUseFault};
+ghost use Rattle.session_log.specs.LogFile.{IsUseError};
 ghost use Rattle.session_log.specs.Plans.{IsSessionPlan, queues_of};
 ghost use Rattle.mercator.specs.Ending.{Begins};
-ghost use Rattle.mercator.specs.FaultText.{left_out_line, torn_line};
-ghost use Rattle.mercator.specs.Faults.{of_logged, of_session, status_of_fault};
+ghost use Rattle.mercator.specs.ErrorText.{left_out_line, torn_line};
+ghost use Rattle.mercator.specs.Errors.{of_logged, of_session, status_of_error};
 ghost use Rattle.mercator.specs.Plans.{is_bad_suffix};
-ghost use Rattle.mercator.specs.Told.{EndsBy, Fails, FailsLog, FailsSession, Gains, Resumes, no_identity, settings_of};
+ghost use Rattle.mercator.specs.Outputs.{EndsBy, Fails, FailsLog, FailsSession, Gains, Resumes, no_identity, settings_of};
 ghost use Rattle.mercator.specs.declared.commands.planned.Plan.TheVariants as asks;
 
-use crate::commands::fault::Fault;
+use crate::commands::error::CommandError;
 use crate::commands::platform::Platform;
 use crate::commands::web_crawl::filter_of;
 use crate::commands::writing::{begin, end};
 use crawl_session::{LeftOut, ServeError, Session, serve};
 use session_log::{
-    CompactPlan, ListPlan, LockFile, Log, LogFault, LogPlan, LoggedFault, OpenedLog, SessionPlan,
+    CompactPlan, ListPlan, LockFile, Log, LogError, LogPlan, LoggedError, OpenedLog, SessionPlan,
     compact, list, resume, serve_logged,
 };
 use shown_text::shown;
@@ -29,25 +29,25 @@ use std::io::{Read, Seek, Write};
 /// The identity of a part without a log.
 const NO_IDENTITY: &str = "none";
 
-impl From<ServeError> for Fault {
-    ghost from_gives = { λ why fault. fault ≡ of_session why };
+impl From<ServeError> for CommandError {
+    ghost from_gives = { λ why error. error ≡ of_session why };
 
-    fn from(why: ServeError) -> Fault {
+    fn from(why: ServeError) -> CommandError {
         match why {
-            ServeError::CannotRead => Fault::CannotRead,
-            ServeError::CannotWrite => Fault::CannotWrite,
-            ServeError::NoMemory => Fault::NoMemory,
+            ServeError::CannotRead => CommandError::CannotRead,
+            ServeError::CannotWrite => CommandError::CannotWrite,
+            ServeError::NoMemory => CommandError::NoMemory,
         }
     }
 }
 
-impl From<LoggedFault> for Fault {
-    ghost from_gives = { λ why fault. fault ≡ of_logged why };
+impl From<LoggedError> for CommandError {
+    ghost from_gives = { λ why error. error ≡ of_logged why };
 
-    fn from(why: LoggedFault) -> Fault {
+    fn from(why: LoggedError) -> CommandError {
         match why {
-            LoggedFault::Log(why) => Fault::from(why),
-            LoggedFault::Session(why) => Fault::from(why),
+            LoggedError::Log(why) => CommandError::from(why),
+            LoggedError::Session(why) => CommandError::from(why),
         }
     }
 }
@@ -61,10 +61,10 @@ pub fn serve_plan<I: Read, O: Write>(
     plan: &SessionPlan,
     input: &mut I,
     out: &mut O,
-) -> Result<(), Fault>
+) -> Result<(), CommandError>
     requires { IsSessionPlan plan.now }
     ensures done { IfOk result (λ _. Gains (asks.Serve plan.now) (I.remaining input.old) (O.contents out.old) (O.contents out.new)) }
-    ensures fault { IfErr result (λ fault. EndsBy (asks.Serve plan.now) (I.remaining input.old) fault (out.new ≡ out.old)) }
+    ensures error { IfErr result (λ error. EndsBy (asks.Serve plan.now) (I.remaining input.old) error (out.new ≡ out.old)) }
     ensures unread { is_bad_suffix plan.now.within ≡ true → input.new ≡ input.old }
 {
     let mut session = session_of(alloc, plan)?;
@@ -76,12 +76,12 @@ pub fn serve_plan<I: Read, O: Write>(
 ///
 /// # Errors
 /// `BadSuffix`; `NoMemory`.
-fn session_of(alloc: Global, plan: &SessionPlan) -> Result<Session, Fault>
+fn session_of(alloc: Global, plan: &SessionPlan) -> Result<Session, CommandError>
     requires { IsSessionPlan plan.now }
     ensures suffix { IfOk result (λ _. is_bad_suffix plan.now.within ≡ false) }
     ensures start { IfOk result (λ session. Shows session.core (start (queues_of plan.now) plan.now.max)) }
     ensures settings { IfOk result (λ session. session.settings ≡ settings_of plan.now no_identity) }
-    ensures fault { IfErr result (FailsSession plan.now.within) }
+    ensures error { IfErr result (FailsSession plan.now.within) }
 {
     let filter = filter_of(alloc, &plan.within)?;
     let session = plan.session(alloc, filter, NO_IDENTITY)?;
@@ -101,11 +101,11 @@ pub fn serve_log<R: Files, L: LockFile<R::File>, V, I: Read, O: Write, E: Write>
     input: &mut I,
     out: &mut O,
     err: &mut E,
-) -> Result<(), Fault>
+) -> Result<(), CommandError>
     requires { IsSessionPlan plan.now.session }
     ensures done { IfOk result (λ _. Gains (asks.ServeLog plan.now) (I.remaining input.old) (O.contents out.old) (O.contents out.new)) }
-    ensures fault { IfErr result (λ fault. EndsBy (asks.ServeLog plan.now) (I.remaining input.old) fault (out.new ≡ out.old)) }
-    ensures in_use { IfErr result (λ fault. status_of_fault fault ≡ 5 → (input.new ≡ input.old) × (err.new ≡ err.old)) }
+    ensures error { IfErr result (λ error. EndsBy (asks.ServeLog plan.now) (I.remaining input.old) error (out.new ≡ out.old)) }
+    ensures in_use { IfErr result (λ error. status_of_error error ≡ 5 → (input.new ≡ input.old) × (err.new ≡ err.old)) }
     ensures unread { is_bad_suffix plan.now.session.within ≡ true → input.new ≡ input.old }
     ensures noted { Begins (E.contents err.old) (E.contents err.new) (torn_line (string_bytes plan.now.file)) }
 {
@@ -126,11 +126,11 @@ pub fn compact_log<R: Files, L: LockFile<R::File>, V, E: Write>(
     alloc: Global,
     plan: &CompactPlan,
     err: &mut E,
-) -> Result<(), Fault>
+) -> Result<(), CommandError>
     requires { IsSessionPlan plan.now.log.session }
     ensures done { IfOk result (λ _. (input out : Option (List ℕ)) → Gains (asks.Compact plan.now) input out out) }
-    ensures fault { IfErr result (λ fault. (input : Option (List ℕ)) → Fails (asks.Compact plan.now) input fault) }
-    ensures in_use { IfErr result (λ fault. status_of_fault fault ≡ 5 → err.new ≡ err.old) }
+    ensures error { IfErr result (λ error. (input : Option (List ℕ)) → Fails (asks.Compact plan.now) input error) }
+    ensures in_use { IfErr result (λ error. status_of_error error ≡ 5 → err.new ≡ err.old) }
     ensures noted { (left : LeftOut) × Begins (E.contents err.old) (E.contents err.new) (left_out_line (string_bytes plan.now.log.file) left) }
 {
     let left_out = compact_plan(platform, alloc, plan)?;
@@ -146,10 +146,10 @@ fn compact_plan<R: Files, L: LockFile<R::File>, V>(
     platform: &Platform<'_, R, L, V>,
     alloc: Global,
     plan: &CompactPlan,
-) -> Result<LeftOut, Fault>
+) -> Result<LeftOut, CommandError>
     requires { IsSessionPlan plan.now.log.session }
     ensures suffix { IfOk result (λ _. is_bad_suffix plan.now.log.session.within ≡ false) }
-    ensures fault { IfErr result (FailsLog plan.now.log.session.within) }
+    ensures error { IfErr result (FailsLog plan.now.log.session.within) }
 {
     let _filter = filter_of(alloc, &plan.log.session.within)?;
     let left_out = compact(platform.rt, platform.locks, alloc, plan)?;
@@ -192,9 +192,9 @@ pub fn list_log<R: Files, O: Write>(
     alloc: Global,
     plan: &ListPlan,
     out: &mut O,
-) -> Result<(), Fault>
+) -> Result<(), CommandError>
     ensures done { (input : Option (List ℕ)) → IfOk result (λ _. Gains (asks.List plan.now) input (O.contents out.old) (O.contents out.new)) }
-    ensures fault { (input : Option (List ℕ)) → IfErr result (λ fault. EndsBy (asks.List plan.now) input fault (out.new ≡ out.old)) }
+    ensures error { (input : Option (List ℕ)) → IfErr result (λ error. EndsBy (asks.List plan.now) input error (out.new ≡ out.old)) }
 {
     let text = list(rt, alloc, plan)?;
     end(out, &text)
@@ -210,12 +210,12 @@ fn resumed_session<'p, R: Files, L: LockFile<R::File>, V, E: Write>(
     alloc: Global,
     plan: &LogPlan,
     err: &mut E,
-) -> Result<(Log<'p, R::File, R>, Session), Fault>
+) -> Result<(Log<'p, R::File, R>, Session), CommandError>
     requires { IsSessionPlan plan.now.session }
     ensures suffix { IfOk result (λ _. is_bad_suffix plan.now.session.within ≡ false) }
     ensures resumed { IfOk result (λ r. Resumes plan.now r.1) }
-    ensures fault { IfErr result (FailsLog plan.now.session.within) }
-    ensures in_use { IfErr result (λ fault. status_of_fault fault ≡ 5 → err.new ≡ err.old) }
+    ensures error { IfErr result (FailsLog plan.now.session.within) }
+    ensures in_use { IfErr result (λ error. status_of_error error ≡ 5 → err.new ≡ err.old) }
     ensures noted { Begins (E.contents err.old) (E.contents err.new) (torn_line (string_bytes plan.now.file)) }
 {
     let (opened, mut session) = open_session(platform, alloc, plan)?;
@@ -231,12 +231,12 @@ fn open_session<R: Files, L: LockFile<R::File>, V>(
     platform: &Platform<'_, R, L, V>,
     alloc: Global,
     plan: &LogPlan,
-) -> Result<(OpenedLog<R::File>, Session), Fault>
+) -> Result<(OpenedLog<R::File>, Session), CommandError>
     requires { IsSessionPlan plan.now.session }
     ensures suffix { IfOk result (λ _. is_bad_suffix plan.now.session.within ≡ false) }
     ensures start { IfOk result (λ r. Shows r.1.core (start (queues_of plan.now.session) plan.now.session.max)) }
     ensures settings { IfOk result (λ r. (identity : List ℕ) × (r.1.settings ≡ settings_of plan.now.session identity)) }
-    ensures fault { IfErr result (FailsLog plan.now.session.within) }
+    ensures error { IfErr result (FailsLog plan.now.session.within) }
 {
     let filter = filter_of(alloc, &plan.session.within)?;
     let opened = session_log::open_session(platform.rt, platform.locks, alloc, plan, filter, true)?;
@@ -252,10 +252,10 @@ fn resume_noted<'p, R: Files, F: Read + Seek + Write + OpenFile + Drop, E: Write
     opened: OpenedLog<F>,
     session: &mut Session,
     err: &mut E,
-) -> Result<Log<'p, F, R>, LogFault>
+) -> Result<Log<'p, F, R>, LogError>
     ensures resumed { OnOk result ((bytes : List ℕ) × Reruns session.old (lines bytes) session.new) }
     ensures noted { Begins (E.contents err.old) (E.contents err.new) (torn_line (string_bytes plan.now.file)) }
-    ensures fault { IfErr result IsUseFault }
+    ensures error { IfErr result IsUseError }
 {
     note_cut(alloc, &opened, plan.file.as_str(), err)?;
     resume(rt, alloc, plan, opened, session)
@@ -267,9 +267,9 @@ fn note_cut<F: OpenFile, E: Write>(
     opened: &OpenedLog<F>,
     name: &str,
     err: &mut E,
-) -> Result<(), LogFault>
+) -> Result<(), LogError>
     ensures noted { Begins (E.contents err.old) (E.contents err.new) (torn_line name.now) }
-    ensures fault { IfErr result IsUseFault }
+    ensures error { IfErr result IsUseError }
 {
     if opened.cut()? {
         let line = torn_line(alloc, name)?;

@@ -2,10 +2,10 @@
 ghost use Rattle.std.specs.Prelude.{◌≡◌, ◌≤◌, ◌⊎◌, ◌&&◌, ◌||◌, string_bytes, vec_len, false, IfOk, IfErr, IfSome, IsSome};
 ghost use Rattle.mercator.specs.Limits.{most_input_bytes};
 ghost use Rattle.mercator.specs.Plans.{is_bad_suffix, is_input, known_bytes, known_seeds, lists_input, plan_of};
-ghost use Rattle.mercator.specs.Told.{AreFiles, FailsCrawl};
-ghost use Rattle.mercator.specs.declared.commands.fault.Fault.TheVariants as wrong;
+ghost use Rattle.mercator.specs.Outputs.{AreFiles, FailsCrawl};
+ghost use Rattle.mercator.specs.declared.commands.error.CommandError.TheVariants as wrong;
 
-use crate::commands::fault::Fault;
+use crate::commands::error::CommandError;
 use crate::commands::input::{Unread, input_limits, read_input};
 use crate::commands::planned::CrawlPlan;
 use std::alloc::Global;
@@ -21,10 +21,10 @@ pub(in crate::commands) fn read_files<R: Files, I: Read>(
     alloc: Global,
     crawl: &CrawlPlan<'_>,
     input: &mut I,
-) -> Result<(Vec<u8>, Vec<u8>), Fault>
+) -> Result<(Vec<u8>, Vec<u8>), CommandError>
     requires one_input { (is_input (string_bytes crawl.now.file.now) && lists_input crawl.now.options.now.listed) ≡ false }
     ensures files { IfOk result (λ files. AreFiles (plan_of crawl.now) (I.remaining input.old) files.0.items files.1.items) }
-    ensures fault { is_bad_suffix crawl.now.options.now.within ≡ false → IfErr result (FailsCrawl (plan_of crawl.now) (I.remaining input.old)) }
+    ensures error { is_bad_suffix crawl.now.options.now.within ≡ false → IfErr result (FailsCrawl (plan_of crawl.now) (I.remaining input.old)) }
     ensures unread { (is_input (string_bytes crawl.now.file.now) || lists_input crawl.now.options.now.listed) ≡ false → input.new ≡ input.old }
 {
     let bytes = read_file(rt, alloc, crawl.file.as_str(), input)?;
@@ -38,10 +38,10 @@ fn read_list<R: Files, I: Read>(
     alloc: Global,
     listed: &Option<String>,
     input: &mut I,
-) -> Result<Vec<u8>, Fault>
+) -> Result<Vec<u8>, CommandError>
     ensures whole { IfOk result (λ bytes. IfSome (known_seeds listed.now (I.remaining input.old)) (λ known. bytes.items ≡ known)) }
     ensures within { IfOk result (λ bytes. vec_len bytes ≤ most_input_bytes) }
-    ensures fault { IfErr result (λ fault. (fault ≡ wrong.NoMemory) ⊎ ((fault ≡ wrong.CannotReadSeeds) × IsSome listed.now)) }
+    ensures error { IfErr result (λ error. (error ≡ wrong.NoMemory) ⊎ ((error ≡ wrong.CannotReadSeeds) × IsSome listed.now)) }
     ensures unread { lists_input listed.now ≡ false → input.new ≡ input.old }
 {
     let Some(file) = listed else {
@@ -49,7 +49,7 @@ fn read_list<R: Files, I: Read>(
     };
     match read_file(rt, alloc, file, input) {
         Ok(bytes) => Ok(bytes),
-        Err(why) => Err(Fault::of_unread_file(why, Fault::CannotReadSeeds)),
+        Err(why) => Err(CommandError::of_unread_file(why, CommandError::CannotReadSeeds)),
     }
 }
 

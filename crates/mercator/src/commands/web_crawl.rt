@@ -10,13 +10,13 @@ ghost use Rattle.crawl_run.specs.JudgedRuns.{CountsLosses};
 ghost use Rattle.crawl_run.specs.Losses.{IsLost};
 ghost use Rattle.saved_web.specs.KnownPages.{page_at, urls_of};
 ghost use Rattle.saved_pages.specs.SavedWeb.{page_of, page_urls};
-ghost use Rattle.saved_pages.specs.WebFaults.{IsSound, IsWebRefusal};
+ghost use Rattle.saved_pages.specs.WebErrors.{IsSound, IsWebRefusal};
 ghost use Rattle.mercator.specs.Plans.{crawl_plan, is_input, lists_input, plan_of, reads_files, suffixes_of};
-ghost use Rattle.mercator.specs.Told.{EndsBy, FailsCrawl, Gains, IsToldCrawl};
-ghost use Rattle.mercator.specs.WebCrawl.{AreAllSeeds, AreSeeds, IsBegun, IsFound, IsSeedFault, IsUnbegun, IsUnread, asked_pages};
+ghost use Rattle.mercator.specs.Outputs.{EndsBy, FailsCrawl, Gains, IsCrawlOutput};
+ghost use Rattle.mercator.specs.WebCrawl.{AreAllSeeds, AreSeeds, IsBegun, IsFound, IsSeedError, IsUnbegun, IsUnread, pages_to_list};
 
 use crate::commands::crawl_text::crawl_text;
-use crate::commands::fault::Fault;
+use crate::commands::error::CommandError;
 use crate::commands::planned::CrawlPlan;
 use crate::commands::platform::Platform;
 use crate::commands::source::read_files;
@@ -50,10 +50,10 @@ pub(in crate::commands) fn print_crawl<
     crawl: &CrawlPlan<'_>,
     input: &mut I,
     out: &mut O,
-) -> Result<(), Fault>
+) -> Result<(), CommandError>
     requires one_input { (is_input (string_bytes crawl.now.file.now) && lists_input crawl.now.options.now.listed) ≡ false }
     ensures done { IfOk result (λ _. Gains (crawl_plan crawl.now) (I.remaining input.old) (O.contents out.old) (O.contents out.new)) }
-    ensures fault { IfErr result (λ fault. EndsBy (crawl_plan crawl.now) (I.remaining input.old) fault (out.new ≡ out.old)) }
+    ensures error { IfErr result (λ error. EndsBy (crawl_plan crawl.now) (I.remaining input.old) error (out.new ≡ out.old)) }
     ensures unread { reads_files (plan_of crawl.now) ≡ false → input.new ≡ input.old }
 {
     let chunks = report_of_plan(platform, alloc, crawl, input)?;
@@ -70,10 +70,10 @@ fn report_of_plan<R: Files + Threads + Wait + Sync, L, V: Observe + Sync, I: Rea
     alloc: Global,
     crawl: &CrawlPlan<'_>,
     input: &mut I,
-) -> Result<Vec<Vec<u8>>, Fault>
+) -> Result<Vec<Vec<u8>>, CommandError>
     requires one_input { (is_input (string_bytes crawl.now.file.now) && lists_input crawl.now.options.now.listed) ≡ false }
-    ensures text { IfOk result (λ chunks. IsToldCrawl (plan_of crawl.now) (I.remaining input.old) (joined chunks.items)) }
-    ensures fault { IfErr result (FailsCrawl (plan_of crawl.now) (I.remaining input.old)) }
+    ensures text { IfOk result (λ chunks. IsCrawlOutput (plan_of crawl.now) (I.remaining input.old) (joined chunks.items)) }
+    ensures error { IfErr result (FailsCrawl (plan_of crawl.now) (I.remaining input.old)) }
     ensures unread { reads_files (plan_of crawl.now) ≡ false → input.new ≡ input.old }
 {
     let filter = filter_of(alloc, &crawl.options.within)?;
@@ -120,20 +120,20 @@ fn crawl_files<R: Threads + Wait + Sync, L, V: Observe + Sync>(
     settings: &CrawlSettings<'_>,
     bytes: &[u8],
     listed: &[u8],
-) -> Result<(Crawled, Vec<CanonUrl>), Fault>
+) -> Result<(Crawled, Vec<CanonUrl>), CommandError>
     ensures found { IfOk result (λ r. IsFound settings.now.workers bytes.now listed.now (map string_bytes crawl.now.seeds.now.items) settings.now.filter.now r.0) }
     ensures begun { IfOk result (λ _. IsBegun bytes.now listed.now (map string_bytes crawl.now.seeds.now.items)) }
-    ensures urls { IfOk result (λ r. r.1.items ≡ asked_pages crawl.now.options.now.sections (lines bytes.now)) }
+    ensures urls { IfOk result (λ r. r.1.items ≡ pages_to_list crawl.now.options.now.sections (lines bytes.now)) }
     ensures refused { IfErr result (IsUnbegun settings.now.workers settings.now.max_pending bytes.now listed.now (map string_bytes crawl.now.seeds.now.items) settings.now.filter.now) }
 {
     let in_threads = settings.has_threads();
     let (web, seeds) = read_site(platform.rt, alloc, in_threads, bytes, listed, crawl.seeds)?;
     if seeds.is_empty() {
-        return Err(Fault::NoSeed);
+        return Err(CommandError::NoSeed);
     }
     let is_watched = crawl.options.progress;
     let crawled = crawl_web(platform, alloc, is_watched, settings, &web, &seeds)?;
-    let urls = asked_pages(alloc, crawl.options.sections, &web)?;
+    let urls = pages_to_list(alloc, crawl.options.sections, &web)?;
     Ok((crawled, urls))
 }
 
@@ -184,7 +184,7 @@ fn crawl_source<F: SessionFetch + Sync, V: Observe + Sync, R: Threads + Wait + S
 }
 
 /// Returns the URLs of the pages of the saved web if the report lists those that no result has.
-fn asked_pages(
+fn pages_to_list(
     alloc: Global,
     sections: Sections,
     web: &SavedWeb<'_>,
@@ -206,12 +206,12 @@ pub(in crate::commands) fn read_site<'a, R: Threads + Sync>(
     bytes: &'a [u8],
     listed: &[u8],
     seeds: &[String],
-) -> Result<(SavedWeb<'a>, Vec<CanonUrl>), Fault>
+) -> Result<(SavedWeb<'a>, Vec<CanonUrl>), CommandError>
     ensures sound { IfOk result (λ _. IsSound (lines bytes.now)) }
     ensures pages { IfOk result (λ r. (url : List ℕ) → page_at r.0 url ≡ page_of (lines bytes.now) url) }
     ensures urls { IfOk result (λ r. urls_of r.0 ≡ page_urls (lines bytes.now)) }
     ensures named { IfOk result (λ r. AreAllSeeds listed.now (map string_bytes seeds.now) r.1.items) }
-    ensures unread { IfErr result (λ fault. IsUnread bytes.now listed.now (map string_bytes seeds.now) fault) }
+    ensures unread { IfErr result (λ error. IsUnread bytes.now listed.now (map string_bytes seeds.now) error) }
 {
     let web = web_of(rt, alloc, in_threads, bytes)?;
     let mut urls = read_seeds(alloc, listed)?;
@@ -230,7 +230,7 @@ fn web_of<'a, R: Threads + Sync>(
     ensures sound { IfOk result (λ _. IsSound (lines bytes.now)) }
     ensures pages { IfOk result (λ web. (url : List ℕ) → page_at web url ≡ page_of (lines bytes.now) url) }
     ensures urls { IfOk result (λ web. urls_of web ≡ page_urls (lines bytes.now)) }
-    ensures fault { IfErr result (λ told. IsWebRefusal (lines bytes.now) told) }
+    ensures error { IfErr result (λ output. IsWebRefusal (lines bytes.now) output) }
 {
     if in_threads {
         SavedWeb::read_in_threads(rt, alloc, bytes)
@@ -240,16 +240,16 @@ fn web_of<'a, R: Threads + Sync>(
 }
 
 /// Returns the canonical URLs of the seeds.
-#[tactic(auto, using(crate::proofs::Seeds::seed_fault))]
-fn seed_urls(alloc: Global, texts: &[String]) -> Result<Vec<CanonUrl>, Fault>
+#[tactic(auto, using(crate::proofs::Seeds::seed_error))]
+fn seed_urls(alloc: Global, texts: &[String]) -> Result<Vec<CanonUrl>, CommandError>
     ensures named { IfOk result (λ urls. AreSeeds (map string_bytes texts.now) urls.items) }
-    ensures refused { IfErr result (λ fault. IsSeedFault (map string_bytes texts.now) fault) }
+    ensures refused { IfErr result (λ error. IsSeedError (map string_bytes texts.now) error) }
 {
     let mut urls = Vec::new(alloc);
     for (index, text) in texts.iter().enumerate() {
         match canonical(alloc, text.as_str()) {
             Ok(url) => urls.push(url)?,
-            Err(refusal) => return Err(Fault::of_seed(index + 1, refusal)),
+            Err(refusal) => return Err(CommandError::of_seed(index + 1, refusal)),
         }
     }
     Ok(urls)

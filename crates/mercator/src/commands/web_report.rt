@@ -7,7 +7,7 @@ ghost use Rattle.crawl_pages.specs.declared.page.PageResult.{PageResult};
 ghost use Rattle.crawl_run.specs.Crawls.{AreCounts};
 ghost use Rattle.mercator.specs.WebCrawl.{ComesOf, IsCrawlReport, IsRefused, IsSiteCrawl};
 
-use crate::commands::fault::Fault;
+use crate::commands::error::CommandError;
 use crate::commands::web_crawl::read_site;
 use crawl_report::report_text;
 use crawl_run::{CrawlSettings, crawl_with};
@@ -60,7 +60,7 @@ pub fn report_of_saved_web<R: Threads + Wait + Sync>(
     bytes: &[u8],
     seeds: &[String],
     settings: &CrawlSettings<'_>,
-) -> Result<Report, Fault>
+) -> Result<Report, CommandError>
     ensures report { IfOk result (λ r. IsCrawlReport bytes.now (map string_bytes seeds.now) settings.now.filter.now r.text.items) }
     ensures counts { IfOk result (λ r. (pages : List PageResult) → IsSiteCrawl bytes.now [] (map string_bytes seeds.now) settings.now.filter.now pages → AreCounts settings.now.workers (result_urls pages) r.counts.items) }
     ensures refused { IfErr result (IsRefused settings.now.workers settings.now.max_pending bytes.now (map string_bytes seeds.now) settings.now.filter.now) }

@@ -3,12 +3,12 @@ ghost use Rattle.std.specs.Prelude.{◌≡◌, ◌++◌, ◌⊎◌, [], IfErr, I
 ghost use Rattle.std.specs.Io.KnownBytes.{Appends};
 ghost use Rattle.crawl_report.specs.Printing.{joined};
 ghost use Rattle.mercator.specs.Ending.{Begins, EndsByText};
-ghost use Rattle.mercator.specs.FaultText.{culprit_line, fault_line, losses_line, more_lines};
-ghost use Rattle.mercator.specs.Told.{told_lines};
-ghost use Rattle.mercator.specs.declared.commands.fault.Fault.TheVariants as wrong;
+ghost use Rattle.mercator.specs.ErrorText.{culprit_line, error_line, losses_line, more_lines};
+ghost use Rattle.mercator.specs.Outputs.{error_lines};
+ghost use Rattle.mercator.specs.declared.commands.error.CommandError.TheVariants as wrong;
 
-use crate::commands::fault::Fault;
-use crate::commands::fault_text::FaultText;
+use crate::commands::error::CommandError;
+use crate::commands::error_text::ErrorText;
 use crate::commands::planned::Plan;
 use crawl_keys::CanonUrl;
 use link_offers::Losses;
@@ -19,31 +19,31 @@ use std::io;
 use std::io::{ErrorKind, Write};
 
 /// Writes the whole output of a command, and flushes it.
-pub fn end<O: Write>(out: &mut O, text: &[u8]) -> Result<(), Fault>
+pub fn end<O: Write>(out: &mut O, text: &[u8]) -> Result<(), CommandError>
     ensures { EndsByText text.now (O.contents out.old) (O.contents out.new) result }
 {
     if out.write_all(text).is_err() || out.flush().is_err() {
-        return Err(Fault::CannotWrite);
+        return Err(CommandError::CannotWrite);
     }
     Ok(())
 }
 
 /// Like [`end`], for an output in consecutive chunks.
-pub fn end_by_chunks<O: Write>(out: &mut O, chunks: &[Vec<u8>]) -> Result<(), Fault>
+pub fn end_by_chunks<O: Write>(out: &mut O, chunks: &[Vec<u8>]) -> Result<(), CommandError>
     ensures { EndsByText (joined chunks.now) (O.contents out.old) (O.contents out.new) result }
 {
     for chunk in chunks {
         let Ok(()) = out.write_all(chunk) else {
-            return Err(Fault::CannotWrite);
+            return Err(CommandError::CannotWrite);
         };
     }
     end(out, &[])
 }
 
 /// Like [`end`], for a saved web.
-pub fn end_by_web<O: Write>(out: &mut O, web: &WebText) -> Result<(), Fault>
+pub fn end_by_web<O: Write>(out: &mut O, web: &WebText) -> Result<(), CommandError>
     ensures gained { OnOk result (Appends (O.contents out.old) (O.contents out.new) web.now) }
-    ensures fault { IfErr result (λ fault. (fault ≡ wrong.CannotWrite) ⊎ (fault ≡ wrong.NoMemory)) }
+    ensures error { IfErr result (λ error. (error ≡ wrong.CannotWrite) ⊎ (error ≡ wrong.NoMemory)) }
 {
     if let Err(error) = web.write(out) {
         return Err(unwritten(&error));
@@ -52,58 +52,63 @@ pub fn end_by_web<O: Write>(out: &mut O, web: &WebText) -> Result<(), Fault>
 }
 
 /// Returns the error for a saved web that could not be written.
-fn unwritten(error: &io::Error) -> Fault
+fn unwritten(error: &io::Error) -> CommandError
     ensures { (result ≡ wrong.CannotWrite) ⊎ (result ≡ wrong.NoMemory) }
 {
     match error.kind() {
-        ErrorKind::OutOfMemory => Fault::NoMemory,
-        _ => Fault::CannotWrite,
+        ErrorKind::OutOfMemory => CommandError::NoMemory,
+        _ => CommandError::CannotWrite,
     }
 }
 
 /// Reports an error that belongs to no plan. What `err` does not accept of the line is dropped; so is the line if there is no
 /// memory for it.
-pub fn tell_fault<E: Write>(alloc: Global, err: &mut E, fault: &Fault)
-    ensures { Begins (E.contents err.old) (E.contents err.new) (fault_line [] fault.now) }
+pub fn report_error<E: Write>(alloc: Global, err: &mut E, error: &CommandError)
+    ensures { Begins (E.contents err.old) (E.contents err.new) (error_line [] error.now) }
 {
-    if let Ok(line) = fault_line(alloc, "", fault) {
+    if let Ok(line) = error_line(alloc, "", error) {
         begin(err, line.as_bytes());
     }
 }
 
-/// Reports the error of a plan's command, as [`tell_fault`] does. If the plan asks for it, further lines have the first URL at which
+/// Reports the error of a plan's command, as [`report_error`] does. If the plan asks for it, further lines have the first URL at which
 /// a crawl failed, and what was lost.
-pub fn tell_ended<E: Write>(alloc: Global, err: &mut E, plan: &Plan, fault: &Fault)
-    ensures { Begins (E.contents err.old) (E.contents err.new) (told_lines plan.now fault.now) }
+pub fn report_ending<E: Write>(alloc: Global, err: &mut E, plan: &Plan, error: &CommandError)
+    ensures { Begins (E.contents err.old) (E.contents err.new) (error_lines plan.now error.now) }
 {
-    if let Ok(lines) = told_lines(alloc, plan, fault) {
+    if let Ok(lines) = error_lines(alloc, plan, error) {
         begin(err, lines.as_bytes());
     }
 }
 
 /// Returns the line of the error and, if the plan is a crawl with `--explain`, the lines about the failed crawl.
-fn told_lines(alloc: Global, plan: &Plan, fault: &Fault) -> Result<String, AllocError>
-    ensures { IfOk result (λ lines. string_bytes lines ≡ told_lines plan.now fault.now) }
+fn error_lines(alloc: Global, plan: &Plan, error: &CommandError) -> Result<String, AllocError>
+    ensures { IfOk result (λ lines. string_bytes lines ≡ error_lines plan.now error.now) }
 {
-    let file = plan.told_file(fault);
-    let mut lines = fault_line(alloc, file, fault)?;
+    let file = plan.file_of_error(error);
+    let mut lines = error_line(alloc, file, error)?;
     if plan.explains() {
-        push_more(alloc, &mut lines, file, fault)?;
+        push_more(alloc, &mut lines, file, error)?;
     }
     Ok(lines)
 }
 
 /// Appends the lines about the URL of a crawl's failure and the losses, if the error has a URL.
-fn push_more(alloc: Global, lines: &mut String, file: &str, fault: &Fault) -> Result<(), AllocError>
-    ensures { IfOk result (λ _. string_bytes lines.new ≡ string_bytes lines.old ++ more_lines file.now fault.now) }
+fn push_more(
+    alloc: Global,
+    lines: &mut String,
+    file: &str,
+    error: &CommandError,
+) -> Result<(), AllocError>
+    ensures { IfOk result (λ _. string_bytes lines.new ≡ string_bytes lines.old ++ more_lines file.now error.now) }
 {
-    let Fault::Crawl(failure) = fault else {
+    let CommandError::Crawl(failure) = error else {
         return Ok(());
     };
     let Some(url) = &failure.culprit else {
         return Ok(());
     };
-    push_culprit(alloc, lines, file, fault, url)?;
+    push_culprit(alloc, lines, file, error, url)?;
     push_losses(lines, failure.losses)
 }
 
@@ -112,15 +117,15 @@ fn push_culprit(
     alloc: Global,
     lines: &mut String,
     file: &str,
-    fault: &Fault,
+    error: &CommandError,
     url: &CanonUrl,
 ) -> Result<(), AllocError>
-    ensures { IfOk result (λ _. string_bytes lines.new ≡ string_bytes lines.old ++ culprit_line file.now fault.now url.now) }
+    ensures { IfOk result (λ _. string_bytes lines.new ≡ string_bytes lines.old ++ culprit_line file.now error.now url.now) }
 {
     let name = shown(alloc, file)?;
-    let text = FaultText {
+    let text = ErrorText {
         file: name.as_str(),
-        fault,
+        error,
     };
     let url = url.as_str();
     writeln!(lines, "mercator: {text}: {url}")?;
@@ -152,15 +157,15 @@ fn push_losses(lines: &mut String, losses: Losses) -> Result<(), AllocError>
 /// `mercator_site` reports a folder that cannot be read as `mercator: cannot read NAME`:
 ///
 /// ```rust
-/// fault_line(alloc, name, &Fault::CannotRead)
+/// error_line(alloc, name, &CommandError::CannotRead)
 /// ```
-pub fn fault_line(alloc: Global, file: &str, fault: &Fault) -> Result<String, AllocError>
-    ensures { IfOk result (λ line. string_bytes line ≡ fault_line file.now fault.now) }
+pub fn error_line(alloc: Global, file: &str, error: &CommandError) -> Result<String, AllocError>
+    ensures { IfOk result (λ line. string_bytes line ≡ error_line file.now error.now) }
 {
     let file = shown(alloc, file)?;
-    let text = FaultText {
+    let text = ErrorText {
         file: file.as_str(),
-        fault,
+        error,
     };
     let mut line = String::new(alloc);
     writeln!(line, "mercator: {text}")?;

@@ -1,5 +1,5 @@
 //! Readers, writers and flushes that fail late.
-use crate::tests::runs::{ALL, BAD_COMMAND, DONE, FAULT, Failing, INCOMPLETE, Row, holds};
+use crate::tests::runs::{ALL, BAD_COMMAND, DONE, ERROR, Failing, INCOMPLETE, Row, holds};
 use std::alloc::Global;
 use std::fs::Files;
 use std::sync::Wait;
@@ -9,15 +9,15 @@ const SCRIPT: &str = "workers 1 max 9\nlook 0\nenter 0\n";
 
 const REQUESTS: &str = "offer http://a.test/\nnext 0\n";
 
-const ANSWERS: &str = "accepted 0 0\ntaken http://a.test/\n";
+const REPLIES: &str = "accepted 0 0\ntaken http://a.test/\n";
 
 const ROWS: &[(Row, Failing)] = &[
     (
         Row {
             name: "second_read_fails",
-            words: "replay -",
+            arguments: "replay -",
             input: SCRIPT,
-            status: FAULT,
+            status: ERROR,
             out: "",
             err: "mercator: cannot read -\n",
         },
@@ -31,9 +31,9 @@ const ROWS: &[(Row, Failing)] = &[
     (
         Row {
             name: "second_read_fails",
-            words: "crawl - x",
+            arguments: "crawl - x",
             input: SCRIPT,
-            status: FAULT,
+            status: ERROR,
             out: "",
             err: "mercator: cannot read -\n",
         },
@@ -47,9 +47,9 @@ const ROWS: &[(Row, Failing)] = &[
     (
         Row {
             name: "first_write_fails",
-            words: "replay -",
+            arguments: "replay -",
             input: SCRIPT,
-            status: FAULT,
+            status: ERROR,
             out: "",
             err: "mercator: cannot write\n",
         },
@@ -63,9 +63,9 @@ const ROWS: &[(Row, Failing)] = &[
     (
         Row {
             name: "last_write_fails",
-            words: "replay -",
+            arguments: "replay -",
             input: SCRIPT,
-            status: FAULT,
+            status: ERROR,
             out: "word 1 open\nentered 2",
             err: "mercator: cannot write\n",
         },
@@ -79,9 +79,9 @@ const ROWS: &[(Row, Failing)] = &[
     (
         Row {
             name: "flush_fails",
-            words: "replay -",
+            arguments: "replay -",
             input: SCRIPT,
-            status: FAULT,
+            status: ERROR,
             out: "word 1 open\nentered 2\n",
             err: "mercator: cannot write\n",
         },
@@ -95,7 +95,7 @@ const ROWS: &[(Row, Failing)] = &[
     (
         Row {
             name: "nothing_fails",
-            words: "replay -",
+            arguments: "replay -",
             input: SCRIPT,
             status: DONE,
             out: "word 1 open\nentered 2\n",
@@ -111,9 +111,9 @@ const ROWS: &[(Row, Failing)] = &[
     (
         Row {
             name: "nobody_hears_a_fault",
-            words: "key mailto:x",
+            arguments: "key mailto:x",
             input: "savedweb 1",
-            status: FAULT,
+            status: ERROR,
             out: "",
             err: "",
         },
@@ -127,9 +127,9 @@ const ROWS: &[(Row, Failing)] = &[
     (
         Row {
             name: "a_fault_is_cut_off",
-            words: "key mailto:x",
+            arguments: "key mailto:x",
             input: "savedweb 1",
-            status: FAULT,
+            status: ERROR,
             out: "",
             err: "merca",
         },
@@ -143,7 +143,7 @@ const ROWS: &[(Row, Failing)] = &[
     (
         Row {
             name: "nobody_hears_a_fault",
-            words: "crawl --max-pending 1 - http://a.test/",
+            arguments: "crawl --max-pending 1 - http://a.test/",
             input: "savedweb 1",
             status: INCOMPLETE,
             out: "",
@@ -159,7 +159,7 @@ const ROWS: &[(Row, Failing)] = &[
     (
         Row {
             name: "a_fault_is_cut_off",
-            words: "crawl --max-pending 1 - http://a.test/",
+            arguments: "crawl --max-pending 1 - http://a.test/",
             input: "savedweb 1",
             status: INCOMPLETE,
             out: "",
@@ -175,7 +175,7 @@ const ROWS: &[(Row, Failing)] = &[
     (
         Row {
             name: "nobody_hears_a_fault",
-            words: "crawl",
+            arguments: "crawl",
             input: "savedweb 1",
             status: BAD_COMMAND,
             out: "",
@@ -191,7 +191,7 @@ const ROWS: &[(Row, Failing)] = &[
     (
         Row {
             name: "a_fault_is_cut_off",
-            words: "crawl",
+            arguments: "crawl",
             input: "savedweb 1",
             status: BAD_COMMAND,
             out: "",
@@ -207,10 +207,10 @@ const ROWS: &[(Row, Failing)] = &[
     (
         Row {
             name: "second_read_of_a_session_fails",
-            words: "serve --workers 1",
+            arguments: "serve --workers 1",
             input: REQUESTS,
-            status: FAULT,
-            out: ANSWERS,
+            status: ERROR,
+            out: REPLIES,
             err: "mercator: cannot read -\n",
         },
         Failing {
@@ -223,9 +223,9 @@ const ROWS: &[(Row, Failing)] = &[
     (
         Row {
             name: "write_of_an_answer_fails",
-            words: "serve --workers 1",
+            arguments: "serve --workers 1",
             input: REQUESTS,
-            status: FAULT,
+            status: ERROR,
             out: "accepted 0 0\ntaken",
             err: "mercator: cannot write\n",
         },
@@ -239,10 +239,10 @@ const ROWS: &[(Row, Failing)] = &[
     (
         Row {
             name: "flush_of_answers_fails",
-            words: "serve --workers 1",
+            arguments: "serve --workers 1",
             input: REQUESTS,
-            status: FAULT,
-            out: ANSWERS,
+            status: ERROR,
+            out: REPLIES,
             err: "mercator: cannot write\n",
         },
         Failing {
@@ -255,10 +255,10 @@ const ROWS: &[(Row, Failing)] = &[
     (
         Row {
             name: "nothing_fails_in_a_session",
-            words: "serve --workers 1",
+            arguments: "serve --workers 1",
             input: REQUESTS,
             status: DONE,
-            out: ANSWERS,
+            out: REPLIES,
             err: "",
         },
         Failing {

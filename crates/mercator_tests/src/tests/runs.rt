@@ -11,7 +11,7 @@ use std::thread::Threads;
 /// The exit statuses: success, an error, an incomplete crawl, a bad command line.
 pub const DONE: u8 = 0;
 
-pub const FAULT: u8 = 1;
+pub const ERROR: u8 = 1;
 
 pub const INCOMPLETE: u8 = 2;
 
@@ -22,7 +22,7 @@ pub struct Row {
     /// The name of the row.
     pub name: &'static str,
     /// The arguments, separated by spaces.
-    pub words: &'static str,
+    pub arguments: &'static str,
     /// The contents of the input.
     pub input: &'static str,
     pub status: u8,
@@ -93,14 +93,14 @@ impl Write for Writer {
 }
 
 /// The arguments in a text that are separated by spaces.
-fn words(alloc: Global, text: &str) -> Result<Vec<String>, AllocError> {
-    let mut words = Vec::new(alloc);
+fn arguments(alloc: Global, text: &str) -> Result<Vec<String>, AllocError> {
+    let mut arguments = Vec::new(alloc);
     for word in text.split(' ') {
         if !word.is_empty() {
-            words.push(String::from_str(alloc, word)?)?;
+            arguments.push(String::from_str(alloc, word)?)?;
         }
     }
-    Ok(words)
+    Ok(arguments)
 }
 
 /// An observer that does nothing.
@@ -124,7 +124,7 @@ fn platform_of<R>(rt: &R) -> Platform<'_, R, NoLocks, Unobserved> {
 fn ends<R: Files<File: Send, Dir: Send> + Threads + Wait + Sync>(
     rt: &R,
     alloc: Global,
-    words: &[String],
+    arguments: &[String],
     row: &Row,
     failing: Failing,
 ) -> bool {
@@ -146,7 +146,7 @@ fn ends<R: Files<File: Send, Dir: Send> + Threads + Wait + Sync>(
     let status = run_words(
         &platform_of(rt),
         alloc,
-        words,
+        arguments,
         &mut input,
         &mut out,
         &mut err,
@@ -163,8 +163,8 @@ pub fn holds<R: Files<File: Send, Dir: Send> + Threads + Wait + Sync>(
     row: &Row,
     failing: Failing,
 ) -> bool {
-    match words(alloc, row.words) {
-        Ok(words) => ends(rt, alloc, &words, row, failing),
+    match arguments(alloc, row.arguments) {
+        Ok(arguments) => ends(rt, alloc, &arguments, row, failing),
         Err(_) => false,
     }
 }

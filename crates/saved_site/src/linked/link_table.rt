@@ -159,12 +159,12 @@ impl LinkTable {
 }
 
 /// Whether what is known of the last page stays known on the next one.
-#[tactic(auto, using(crate::proofs::LinkIndices::known_beside))]
+#[tactic(auto, using(crate::proofs::LinkIndices::known_in_folder))]
 fn stays(last: &Option<Base>, next: &Base) -> bool
     ensures { result ≡ true → (table : LinkTable) → IsTable last.now table → IsTableOf next.now table }
 {
     match last {
-        Some(base) => base.is_beside(next),
+        Some(base) => base.shares_folder(next),
         None => false,
     }
 }

@@ -7,7 +7,7 @@ ghost use Rattle.crawl_pages.specs.declared.page.Page.{Page};
 
 use crate::ahead::{BLOCKS, CHUNKS};
 use crate::link_cache::LinkCache;
-use crate::links::page_behind;
+use crate::links::page_after;
 use crate::long;
 use crate::web_pages::WebPages;
 use crawl_keys::{Base, CanonUrl};
@@ -118,7 +118,7 @@ impl Chunk {
 impl LinksAhead {
     /// Returns the page with these links.
     fn page(&self, alloc: Global, urls: &UrlList) -> Option<Page>
-        ensures { (page : Page) → IsAhead page urls.now self.now → IfSome result (λ told. told ≡ page) }
+        ensures { (page : Page) → IsAhead page urls.now self.now → IfSome result (λ found. found ≡ page) }
     {
         let links = copies(alloc, urls, &self.indices)?;
         Some(Page::Found {
@@ -179,7 +179,7 @@ fn links_of<'a>(
     let Ok(base) = Base::canonical(alloc, page.url()) else {
         return Ok(None);
     };
-    match page_behind(alloc, cache, base, page.behind())? {
+    match page_after(alloc, cache, base, page.following())? {
         Page::Found { links, skipped } => Ok(Some(LinksAhead {
             indices: indices_of(alloc, urls, links.as_slice())?,
             skipped,

@@ -1,4 +1,4 @@
-use Rattle.crawl_certificate.proofs.Prelude.{ap, subst, sym, slice_cmp, IsPermutation, IsSortedByKey, nat_cmp, allows, PageResult, DifferByUrl, unless_fault}
+use Rattle.crawl_certificate.proofs.Prelude.{ap, subst, sym, slice_cmp, IsPermutation, IsSortedByKey, nat_cmp, allows, PageResult, DifferByUrl, unless_error}
 use Rattle.crawl_pages.specs.ResultOrder.{is_before}
 use Rattle.crawl_pages.proofs.OrderLaws.{results_by_url-in_order}
 use Rattle.crawl_pages.proofs.StableSort.{IsPermutation-stable_sort}
@@ -16,9 +16,9 @@ returns c =
     let all =
     certified c.args.account.now (allows c.args.filter.now) c.args.seeds.now accepted.accepted results pages.pages.items
     accepted.ensures.all (subst DifferByUrl accepted.ensures.all accepted.ensures.apart) accepted.ensures.queues
-    (c.in_ok-fault_by_marks.ensures results c.in_ok-marks.ensures) same sorted in
+    (c.in_ok-error_by_marks.ensures results c.in_ok-marks.ensures) same sorted in
     record {
-      fault = ap unless_fault all.fault;
+      error = ap unless_error all.error;
       same = same;
       ascends = all.ascends;
       one_each = all.one_each;

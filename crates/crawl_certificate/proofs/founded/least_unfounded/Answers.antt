@@ -11,8 +11,8 @@ loop-index-preserved c = λ linked is.
     let founded : Bool → Bool = λ b. allows c.args.filter.now x.now.url && (if x.now.hops == 0 then is_in c.args.seeds.now x.now.url else b) in
     let test : Entry → Bool = λ e. not (allows c.args.filter.now e.url && (if e.hops == 0 then is_in c.args.seeds.now e.url else linked e)) in
     let m = mark_of linked all c.args.marks.now k x false is c.loop-index-test.true c.index-entries-index.is in
-    entry_more test all k x (not c.is_founded-founded.result) (url_of c.loop-index.least) (url_of c.where_at_fault-one.result) (url_of c.lesser-least.result)
-    c.loop-index-test.true c.index-entries-index.is (ap not (c.is_founded-founded.ensures ∙ ap founded m)) c.where_at_fault-one.ensures c.lesser-least.ensures (c.loop-index.invariant linked is)
+    entry_more test all k x (not c.is_founded-founded.result) (url_of c.loop-index.least) (url_of c.culprit_if-one.result) (url_of c.lesser-least.result)
+    c.loop-index-test.true c.index-entries-index.is (ap not (c.is_founded-founded.ensures ∙ ap founded m)) c.culprit_if-one.ensures c.lesser-least.ensures (c.loop-index.invariant linked is)
 
 pub returns : goal.returns
 returns c = λ linked is.

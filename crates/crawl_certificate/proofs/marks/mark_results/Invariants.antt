@@ -5,7 +5,7 @@ abbrev pub invariant-loop-one : goal.invariant-loop-one
 invariant-loop-one l = record {
   fetched : l.fetched ≡ map (λ e. has_result (take l.one-index l.results) e.url) l.accepted;
   linked : l.linked ≡ map (is_linked l.accepted (take l.one-index l.results)) l.accepted;
-  missing : IsLeast (λ url. is_a_link (take l.one-index l.results) url && is_lost (allows l.filter) l.accepted url) (url_of l.told.missing);
-  stray : IsLeast (is_a_stray l.accepted (take l.one-index l.results)) (url_of l.told.stray);
-  twice : url_of l.told.stray ≡ None → IsLeast (is_twice (take l.one-index l.results)) (url_of l.told.twice);
+  missing : IsLeast (λ url. is_a_link (take l.one-index l.results) url && is_lost (allows l.filter) l.accepted url) (url_of l.least.missing);
+  stray : IsLeast (is_a_stray l.accepted (take l.one-index l.results)) (url_of l.least.stray);
+  twice : url_of l.least.stray ≡ None → IsLeast (is_twice (take l.one-index l.results)) (url_of l.least.twice);
 }

@@ -5,5 +5,5 @@ use Rattle.crawl_certificate.proofs.missing.least_missing.Goals as goal
 pub loop-url-preserved : goal.loop-url-preserved
 loop-url-preserved c =
     let x = c.url-item.result in
-    text_more (is_lost (allows c.args.filter.now) c.args.accepted.now) c.args.urls.now c.loop-url.url-index x (url_of c.loop-url.least) (url_of c.where_at_fault-one.result) (url_of c.lesser-least.result)
-    c.loop-url-test.true c.url-item.is (c.where_at_fault-one.ensures ∙ ap (λ b. url_if b x) c.is_missing.ensures) c.lesser-least.ensures c.loop-url.invariant
+    text_more (is_lost (allows c.args.filter.now) c.args.accepted.now) c.args.urls.now c.loop-url.url-index x (url_of c.loop-url.least) (url_of c.culprit_if-one.result) (url_of c.lesser-least.result)
+    c.loop-url-test.true c.url-item.is (c.culprit_if-one.ensures ∙ ap (λ b. url_if b x) c.is_missing.ensures) c.lesser-least.ensures c.loop-url.invariant

@@ -27,8 +27,8 @@ loop-index-preserved c =
           ap (λ ms. get_or ms i false) kept.marks ∙ in_one_beyond old so_far i false (omega (arith, long))
           ∙ mark_of own all old i x false is c.loop-index-test.true c.index-entries-index.is in
           let more_mark = mark_of its all more i x false more_is c.loop-index-test.true c.index-entries-index.is in
-          entry_more (λ e. own e && its e) all i x (get_or c.loop-index.marks i false && one) (url_of c.loop-index.both) (url_of c.where_at_fault-one.result) (url_of c.lesser-both.result)
-          c.loop-index-test.true c.index-entries-index.is (λ k. mark k && more_mark k) c.where_at_fault-one.ensures c.lesser-both.ensures (kept.both own its is more_is);
+          entry_more (λ e. own e && its e) all i x (get_or c.loop-index.marks i false && one) (url_of c.loop-index.both) (url_of c.culprit_if-one.result) (url_of c.lesser-both.result)
+          c.loop-index-test.true c.index-entries-index.is (λ k. mark k && more_mark k) c.culprit_if-one.ensures c.lesser-both.ensures (kept.both own its is more_is);
     }
 
 pub returns : goal.returns

@@ -1,5 +1,5 @@
-use Rattle.crawl_certificate.proofs.Prelude.{◌≡◌, ◌+◌, true, Some, slice_get, subst, ◌∙◌, arith, is_linked, stands_in}
-use Rattle.crawl_certificate.proofs.Walks.{linked_from, own_more, read_at, stands_here}
+use Rattle.crawl_certificate.proofs.Prelude.{◌≡◌, ◌+◌, true, Some, slice_get, subst, ◌∙◌, arith, is_linked, contains_url}
+use Rattle.crawl_certificate.proofs.Walks.{linked_from, own_more, read_at, has_url_here}
 use Rattle.crawl_certificate.proofs.walk.walk.Goals as goal
 
 pub loop-index-preserved : goal.loop-index-preserved
@@ -17,9 +17,9 @@ loop-index-preserved c =
       own = λ fits.
           let index : c.saturating_add.result ≡ first + i = omega (arith, c.saturating_add.ensures, fits, c.loop-index-test.true) in
           let there = subst (λ j. slice_get entries j ≡ Some before) index c.in-Some.ensures.0 in
-          own_more entries first results i r (kept.own fits) at (stands_here entries (first + i) before r.url there c.in-Some.ensures.1);
+          own_more entries first results i r (kept.own fits) at (has_url_here entries (first + i) before r.url there c.in-Some.ensures.1);
       marks = λ marked.
           c.walk_page.ensures.marks (is_linked entries results)
-          (λ e link far. linked_from entries results i c.saturating_add.result r before at c.in-Some.ensures.0 c.in-Some.ensures.1 e (subst (λ ls. stands_in ls e.url ≡ true) c.links_of-links.ensures link) far)
+          (λ e link far. linked_from entries results i c.saturating_add.result r before at c.in-Some.ensures.0 c.in-Some.ensures.1 e (subst (λ ls. contains_url ls e.url ≡ true) c.links_of-links.ensures link) far)
           (kept.marks marked);
     }

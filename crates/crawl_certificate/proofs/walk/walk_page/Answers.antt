@@ -1,5 +1,5 @@
 use Rattle.std.proofs.Common.{◌∙◌}
-use Rattle.crawl_certificate.proofs.Walks.{stands_at_place}
+use Rattle.crawl_certificate.proofs.Walks.{has_url_at_place}
 use Rattle.crawl_certificate.proofs.walk.walk_page.Goals as goal
 
 pub loop-link-preserved : goal.loop-link-preserved
@@ -9,5 +9,5 @@ loop-link-preserved c =
     record {
       long = c.mark_next.ensures.long ∙ before.long;
       marks = λ holds fits marked.
-          c.mark_next.ensures.marks holds (λ e same far. fits e (stands_at_place c.args.links.now c.loop-link.link-index link e.url c.loop-link-test.true c.link-item.is same) far) (before.marks holds fits marked);
+          c.mark_next.ensures.marks holds (λ e same far. fits e (has_url_at_place c.args.links.now c.loop-link.link-index link e.url c.loop-link-test.true c.link-item.is same) far) (before.marks holds fits marked);
     }

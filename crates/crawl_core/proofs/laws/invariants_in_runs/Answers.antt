@@ -1,5 +1,5 @@
 use Rattle.crawl_core.proofs.RunLaws.{gate_invariant, subqueue_invariant, state_of_history}
-use Rattle.crawl_core.proofs.RunParts.{tells_units, tells_closing}
+use Rattle.crawl_core.proofs.RunParts.{reports_units, reports_closing}
 use Rattle.crawl_core.proofs.laws.invariants_in_runs.Goals as goal
 
 pub returns-clause-gate : goal.returns-clause-gate
@@ -11,8 +11,8 @@ returns-clause-subqueues c = subqueue_invariant
 pub returns-clause-history : goal.returns-clause-history
 returns-clause-history c = state_of_history
 
-pub returns-clause-told : goal.returns-clause-told
-returns-clause-told c = tells_units
+pub returns-clause-reported : goal.returns-clause-reported
+returns-clause-reported c = reports_units
 
-pub returns-clause-told_closing : goal.returns-clause-told_closing
-returns-clause-told_closing c = tells_closing
+pub returns-clause-reported_closing : goal.returns-clause-reported_closing
+returns-clause-reported_closing c = reports_closing

@@ -11,9 +11,9 @@ returns-clause-url c =
     let own = c.in-Some.scheme.now in
     let rest = c.in-Some-strip_prefix.rest.now in
     let front : own ≡ before_first (λ b. b == 58) text = search rules in
-    let back : c.in-Some.behind.now ≡ after_first (λ b. b == 58) text = search rules in
+    let back : c.in-Some.following.now ≡ after_first (λ b. b == 58) text = search rules in
     let inside : position_or_len (λ b. b == 58) text < length text = search rules in
-    let slashes : c.in-Some.behind.now ≡ codes "//" ++ rest = search rules in
+    let slashes : c.in-Some.following.now ≡ codes "//" ++ rest = search rules in
     let whole : text ≡ own ++ 58 ∷ 47 ∷ 47 ∷ rest = cut_at 58 text inside ∙ (λ i. sym front i ++ 58 ∷ (sym back ∙ slashes) i) in
     let authority = c.before_path.result.0.now in
     let path = c.before_path.result.1.now in

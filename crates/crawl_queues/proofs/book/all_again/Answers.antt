@@ -9,4 +9,4 @@ pub loop-queue-preserved : goal.loop-queue-preserved
 loop-queue-preserved c = grind (arith, common_steps, slice_get_read, set_same, get_or_from_slice_get, take_more)
 
 pub returns-clause-again : goal.returns-clause-again
-returns-clause-again c = c.loop-queue.invariant.1 ∙ take_all c.loop-queue.queue c.args.told.now.items (omega (arith, c.requires.len))
+returns-clause-again c = c.loop-queue.invariant.1 ∙ take_all c.loop-queue.queue c.args.learned.now.items (omega (arith, c.requires.len))

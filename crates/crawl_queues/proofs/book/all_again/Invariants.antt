@@ -2,5 +2,5 @@ use Rattle.crawl_queues.proofs.Prelude.{◌≡◌, ◌≤◌, take, vec_len, vec
 use Rattle.crawl_queues.proofs.book.all_again.Given as goal
 
 abbrev pub invariant-loop-queue : goal.invariant-loop-queue
-invariant-loop-queue l = (l.told.items ≡ l.initial.told.items) × (l.all.items ≡ take l.queue l.initial.told.items)
+invariant-loop-queue l = (l.learned.items ≡ l.initial.learned.items) × (l.all.items ≡ take l.queue l.initial.learned.items)
     × (vec_len l.all ≡ l.queue) × (vec_len l.queues ≤ vec_capacity l.all)

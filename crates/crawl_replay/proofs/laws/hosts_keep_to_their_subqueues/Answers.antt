@@ -10,7 +10,7 @@ returns-clause-once c workers max events replies run assigned =
     let second = placed_at workers events j (Admit other url there) assigned at_j in
     first ∙ sym second)
 
-pub returns-clause-alone : goal.returns-clause-alone
-returns-clause-alone c workers max events replies run assigned place queue url at =
+pub returns-clause-own_queue : goal.returns-clause-own_queue
+returns-clause-own_queue c workers max events replies run assigned place queue url at =
     let admitted = c.admitted_before.ensures.taken workers max events replies run place queue url at in
     (placed_at workers events admitted.0 (Admit admitted.1 url queue) assigned admitted.2)

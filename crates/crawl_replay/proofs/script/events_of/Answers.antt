@@ -1,5 +1,5 @@
 use Rattle.crawl_replay.proofs.Prelude.{◌+◌, Ok, ap, ◌∙◌, arith, lines, All-push, IsAddressed, events_of}
-use Rattle.crawl_replay.proofs.LineWords.{read_event}
+use Rattle.crawl_replay.proofs.LineFields.{read_event}
 use Rattle.crawl_replay.proofs.script.events_of.Goals as goal
 
 pub loop-line-preserved-in-Continue-branch-2 : goal.loop-line-preserved-in-Continue-branch-2

@@ -1,11 +1,11 @@
 use Rattle.crawl_replay.proofs.Prelude.{◌≡◌, ◌+◌, ◌≤◌, length, lines, AreAddressed, events_of}
-use Rattle.crawl_replay.proofs.LineWords.{behind}
+use Rattle.crawl_replay.proofs.LineFields.{following}
 use Rattle.crawl_replay.proofs.script.events_of.Given as goal
 
 abbrev pub invariant-loop-line : goal.invariant-loop-line
 invariant-loop-line l = record {
   few : l.number + length l.rest ≤ length l.bytes + 1;
-  so_far : behind l.events.items (events_of l.workers (l.number + 1) (lines l.rest)) ≡ events_of l.workers 2 (lines l.bytes);
+  so_far : following l.events.items (events_of l.workers (l.number + 1) (lines l.rest)) ≡ events_of l.workers 2 (lines l.bytes);
   addressed : AreAddressed l.workers l.events.items;
 }
 

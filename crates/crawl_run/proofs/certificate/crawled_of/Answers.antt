@@ -9,7 +9,7 @@ use Rattle.crawl_run.proofs.certificate.crawled_of.Goals as goal
 
 pub returns-in_ok-counts-in-Ok-clause-pages : goal.returns-in_ok-counts-in-Ok-clause-pages
 returns-in_ok-counts-in-Ok-clause-pages g c = λ meaning found.
-    whole_crawl meaning (allows c.args.settings.now.filter.now) c.args.seeds.now (entries_of c.args.ran.account) _ _ c.in-Ok.ensures.fault found c.in-Ok.ensures.same c.in-Ok.ensures.ascends
+    whole_crawl meaning (allows c.args.settings.now.filter.now) c.args.seeds.now (entries_of c.args.ran.account) _ _ c.in-Ok.ensures.error found c.in-Ok.ensures.same c.in-Ok.ensures.ascends
 
 pub returns-in_ok-counts-in-Ok-clause-counts : goal.returns-in_ok-counts-in-Ok-clause-counts
 returns-in_ok-counts-in-Ok-clause-counts g c = urls_counted c.args.ran.account _ _ c.in_ok-counts-in-Ok.ensures c.in-Ok.ensures.counts
@@ -25,8 +25,8 @@ returns-in-Err-clause-judged g c = grind (arith, culprit_judged)
 
 pub returns-in-Err-clause-lost : goal.returns-in-Err-clause-lost
 returns-in-Err-clause-lost g c =
-    rw c.of_culprit.ensures (culprit_lost (allows c.args.settings.now.filter.now) c.args.seeds.now (entries_of c.args.ran.account) _ c.in-Err.culprit c.args.ran.losses (λ none. nothing_lost (allows c.args.settings.now.filter.now) c.args.seeds.now (entries_of c.args.ran.account) _ (c.requires.lost none)) c.in-Err.ensures.fault)
+    rw c.of_culprit.ensures (culprit_lost (allows c.args.settings.now.filter.now) c.args.seeds.now (entries_of c.args.ran.account) _ c.in-Err.culprit c.args.ran.losses (λ none. nothing_lost (allows c.args.settings.now.filter.now) c.args.seeds.now (entries_of c.args.ran.account) _ (c.requires.lost none)) c.in-Err.ensures.error)
 
 pub returns-in-Err-clause-counted : goal.returns-in-Err-clause-counted
 returns-in-Err-clause-counted g c = λ workers meaning run.
-    rw c.of_culprit.ensures (culprit_counted workers (allows c.args.settings.now.filter.now) meaning c.args.seeds.now (entries_of c.args.ran.account) _ c.args.ran.losses c.in-Err.culprit run c.in-Err.ensures.fault)
+    rw c.of_culprit.ensures (culprit_counted workers (allows c.args.settings.now.filter.now) meaning c.args.seeds.now (entries_of c.args.ran.account) _ c.args.ran.losses c.in-Err.culprit run c.in-Err.ensures.error)

@@ -11,16 +11,16 @@ static MESSAGES: [(CertError, &str); 6] = [
     (CertError::NoMemory, "out of memory"),
 ];
 
-fn prints(alloc: Global, fault: CertError, text: &str) -> bool {
-    match format!(in alloc; "{fault}") {
-        Ok(told) => told.as_str() == text,
+fn prints(alloc: Global, error: CertError, text: &str) -> bool {
+    match format!(in alloc; "{error}") {
+        Ok(found) => found.as_str() == text,
         Err(_) => false,
     }
 }
 
 #[test]
 fn messages(rt: HostRuntime) {
-    for (fault, text) in MESSAGES {
-        assert!(rt; prints(rt.alloc(), fault, text), "{text}");
+    for (error, text) in MESSAGES {
+        assert!(rt; prints(rt.alloc(), error, text), "{text}");
     }
 }

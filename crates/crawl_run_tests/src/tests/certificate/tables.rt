@@ -59,11 +59,11 @@ pub enum Expected {
     /// This number of pages.
     Count(usize),
     /// This error, at this URL.
-    Fault(CertError, &'static str),
+    Error(CertError, &'static str),
 }
 
 use Change::{Links, More, Moves, Nothing, Without};
-use Expected::{Count, Fault, Pages};
+use Expected::{Count, Error, Pages};
 
 const A: &str = "http://a.test/";
 
@@ -105,31 +105,31 @@ page http://b.test/
 link http://a.test/
 ";
 
-const CERTIFICATE_FAULTS: &[Case] = &[
+const CERTIFICATE_ERRORS: &[Case] = &[
     (NONE, &[A], Nothing, Pages(ALL_FOUR)),
     (NONE, &[A, A], Nothing, Pages(ALL_FOUR)),
-    (NONE, &[A, D], Nothing, Fault(SeedMissing, D)),
-    (NONE, &[A], Without(GONE), Fault(NotFetched, GONE)),
-    (NONE, &[A], Links(GONE, D), Fault(LinkMissing, D)),
+    (NONE, &[A, D], Nothing, Error(SeedMissing, D)),
+    (NONE, &[A], Without(GONE), Error(NotFetched, GONE)),
+    (NONE, &[A], Links(GONE, D), Error(LinkMissing, D)),
     (NONE, &[A], Links(GONE, B), Pages(ALL_FOUR)),
-    (NONE, NONE, Nothing, Fault(Unfounded, A)),
-    (NONE, &[B], Nothing, Fault(Unfounded, A)),
-    (NONE, &[A], More(D), Fault(Unfounded, D)),
-    (NONE, &[A], More(GONE), Fault(Twice, GONE)),
-    (NONE, &[A], More(A), Fault(Twice, A)),
+    (NONE, NONE, Nothing, Error(Unfounded, A)),
+    (NONE, &[B], Nothing, Error(Unfounded, A)),
+    (NONE, &[A], More(D), Error(Unfounded, D)),
+    (NONE, &[A], More(GONE), Error(Twice, GONE)),
+    (NONE, &[A], More(A), Error(Twice, A)),
     (NONE, &[A], Links(C, GONE), Pages(ALL_FOUR)),
     // No page links to `gone`, and then none to `c`.
-    (NONE, &[A], Links(C, A), Fault(Unfounded, GONE)),
-    (NONE, &[A], Links(B, A), Fault(Unfounded, C)),
+    (NONE, &[A], Links(C, A), Error(Unfounded, GONE)),
+    (NONE, &[A], Links(B, A), Error(Unfounded, C)),
     // If there are several errors, the first one is returned.
-    (NONE, &[D], Without(GONE), Fault(SeedMissing, D)),
-    (NONE, &[B], Without(GONE), Fault(NotFetched, GONE)),
-    (NONE, &[B], Links(GONE, D), Fault(LinkMissing, D)),
-    (NONE, &[B], More(GONE), Fault(Unfounded, A)),
+    (NONE, &[D], Without(GONE), Error(SeedMissing, D)),
+    (NONE, &[B], Without(GONE), Error(NotFetched, GONE)),
+    (NONE, &[B], Links(GONE, D), Error(LinkMissing, D)),
+    (NONE, &[B], More(GONE), Error(Unfounded, A)),
     // If several URLs have the error, the least one is named.
-    (NONE, &[E, A, D], Nothing, Fault(SeedMissing, D)),
-    (NONE, &[A], Moves(A, None), Fault(Unfounded, B)),
-    (NONE, NONE, More(D), Fault(Unfounded, A)),
+    (NONE, &[E, A, D], Nothing, Error(SeedMissing, D)),
+    (NONE, &[A], Moves(A, None), Error(Unfounded, B)),
+    (NONE, NONE, More(D), Error(Unfounded, A)),
 ];
 
 /// Groups of small webs.
@@ -140,7 +140,7 @@ pub static GROUPS: [Group; 10] = [
         within: NONE,
         seeds: &[A],
         web: RING,
-        cases: CERTIFICATE_FAULTS,
+        cases: CERTIFICATE_ERRORS,
     },
     Group {
         name: "certificate_faults, three workers",
@@ -148,7 +148,7 @@ pub static GROUPS: [Group; 10] = [
         within: NONE,
         seeds: &[A],
         web: RING,
-        cases: CERTIFICATE_FAULTS,
+        cases: CERTIFICATE_ERRORS,
     },
     Group {
         name: "moved_pages",
@@ -158,11 +158,11 @@ pub static GROUPS: [Group; 10] = [
         web: MOVED,
         cases: &[
             (NONE, &[A, C], Nothing, Pages(ALL_FOUR)),
-            (NONE, &[A, C], Without(B), Fault(NotFetched, B)),
-            (NONE, &[A, C], Moves(B, Some(D)), Fault(LinkMissing, D)),
+            (NONE, &[A, C], Without(B), Error(NotFetched, B)),
+            (NONE, &[A, C], Moves(B, Some(D)), Error(LinkMissing, D)),
             (NONE, &[A, C], Moves(B, Some(A)), Pages(ALL_FOUR)),
-            (NONE, &[A, C], Moves(A, None), Fault(Unfounded, B)),
-            (NONE, &[A, C], More(A), Fault(Twice, A)),
+            (NONE, &[A, C], Moves(A, None), Error(Unfounded, B)),
+            (NONE, &[A, C], More(A), Error(Twice, A)),
         ],
     },
     // After the change only `b` links to `c`, and it has the same number of hops.
@@ -174,7 +174,7 @@ pub static GROUPS: [Group; 10] = [
         web: TRIANGLE,
         cases: &[
             (NONE, &[A], Nothing, Pages(ALL_FOUR)),
-            (NONE, &[A], Links(A, B), Fault(Unfounded, C)),
+            (NONE, &[A], Links(A, B), Error(Unfounded, C)),
         ],
     },
     // Two pages link to each other: without a seed among them they are not reached.
@@ -186,8 +186,8 @@ pub static GROUPS: [Group; 10] = [
         web: CYCLE,
         cases: &[
             (NONE, &[C, A], Nothing, Pages(&[A, B, C])),
-            (NONE, &[C], Nothing, Fault(Unfounded, A)),
-            (NONE, &[C, B], Nothing, Fault(Unfounded, A)),
+            (NONE, &[C], Nothing, Error(Unfounded, A)),
+            (NONE, &[C, B], Nothing, Error(Unfounded, A)),
         ],
     },
     // Neither a seed nor links to `b.test` are errors.
@@ -199,10 +199,10 @@ pub static GROUPS: [Group; 10] = [
         web: TRIANGLE,
         cases: &[
             (WITHIN_A_AND_C, &[A, B], Nothing, Pages(&[A, C, GONE])),
-            (NONE, &[A, B], Nothing, Fault(SeedMissing, B)),
-            (NONE, &[A], Nothing, Fault(LinkMissing, B)),
-            (WITHIN_A, &[A], Nothing, Fault(Unfounded, C)),
-            (WITHIN_A_AND_C, &[A, B], More(B), Fault(Unfounded, B)),
+            (NONE, &[A, B], Nothing, Error(SeedMissing, B)),
+            (NONE, &[A], Nothing, Error(LinkMissing, B)),
+            (WITHIN_A, &[A], Nothing, Error(Unfounded, C)),
+            (WITHIN_A_AND_C, &[A, B], More(B), Error(Unfounded, B)),
         ],
     },
     Group {
@@ -273,46 +273,46 @@ const C4: &str = "http://a.test/c4";
 
 /// A run with enough results that four threads look at a chunk each. An error in any chunk is an error of the run. A page in
 /// each chunk links to no entry, or to itself; or it is fetched once more, at the end of the last chunk.
-pub static FAULTS_IN_EACH_CHUNK: Group = Group {
-    name: "faults_in_each_chunk",
+pub static ERRORS_IN_EACH_CHUNK: Group = Group {
+    name: "errors_in_each_chunk",
     workers: 1,
     within: NONE,
     seeds: &[A],
     web: LONG_WEB,
     cases: &[
         (NONE, &[A], Nothing, Count(5_001)),
-        (NONE, &[A], Links(IN_CHUNK_1, D), Fault(LinkMissing, D)),
-        (NONE, &[A], Links(IN_CHUNK_2, D), Fault(LinkMissing, D)),
-        (NONE, &[A], Links(IN_CHUNK_3, D), Fault(LinkMissing, D)),
-        (NONE, &[A], Links(IN_CHUNK_4, D), Fault(LinkMissing, D)),
+        (NONE, &[A], Links(IN_CHUNK_1, D), Error(LinkMissing, D)),
+        (NONE, &[A], Links(IN_CHUNK_2, D), Error(LinkMissing, D)),
+        (NONE, &[A], Links(IN_CHUNK_3, D), Error(LinkMissing, D)),
+        (NONE, &[A], Links(IN_CHUNK_4, D), Error(LinkMissing, D)),
         (
             NONE,
             &[A],
             Links(IN_CHUNK_1, IN_CHUNK_1),
-            Fault(Unfounded, C1),
+            Error(Unfounded, C1),
         ),
         (
             NONE,
             &[A],
             Links(IN_CHUNK_2, IN_CHUNK_2),
-            Fault(Unfounded, C2),
+            Error(Unfounded, C2),
         ),
         (
             NONE,
             &[A],
             Links(IN_CHUNK_3, IN_CHUNK_3),
-            Fault(Unfounded, C3),
+            Error(Unfounded, C3),
         ),
         (
             NONE,
             &[A],
             Links(IN_CHUNK_4, IN_CHUNK_4),
-            Fault(Unfounded, C4),
+            Error(Unfounded, C4),
         ),
-        (NONE, &[A], More(IN_CHUNK_1), Fault(Twice, IN_CHUNK_1)),
-        (NONE, &[A], More(IN_CHUNK_2), Fault(Twice, IN_CHUNK_2)),
-        (NONE, &[A], More(IN_CHUNK_3), Fault(Twice, IN_CHUNK_3)),
-        (NONE, &[A], More(IN_CHUNK_4), Fault(Twice, IN_CHUNK_4)),
+        (NONE, &[A], More(IN_CHUNK_1), Error(Twice, IN_CHUNK_1)),
+        (NONE, &[A], More(IN_CHUNK_2), Error(Twice, IN_CHUNK_2)),
+        (NONE, &[A], More(IN_CHUNK_3), Error(Twice, IN_CHUNK_3)),
+        (NONE, &[A], More(IN_CHUNK_4), Error(Twice, IN_CHUNK_4)),
     ],
 };
 

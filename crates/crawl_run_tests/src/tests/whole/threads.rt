@@ -21,7 +21,7 @@ enum Outcome {
     /// A page is missing.
     Lacks,
     /// Another error.
-    Fault,
+    Error,
 }
 
 /// A report, and counts of queues, if these matter.
@@ -50,7 +50,7 @@ fn outcome_by<F: Fetch + Sync, R: Threads + Wait + Sync>(
             }
         }
         Some(Err(CrawlError::Cert(CertError::NotFetched))) => Outcome::Lacks,
-        _ => Outcome::Fault,
+        _ => Outcome::Error,
     }
 }
 

@@ -80,7 +80,7 @@ fn is_reported<R: Threads + Wait + Sync>(
 
 // All pages are of one host, so that one worker fetches them all.
 #[test]
-fn an_observer_is_told_of_each_64_pages(rt: HostRuntime) -> Result<(), AllocError> {
+fn an_observer_sees_each_64_pages(rt: HostRuntime) -> Result<(), AllocError> {
     let web = star(rt.alloc(), 300)?;
     for mode in [Mode::Turns, Mode::Threads] {
         assert!(rt; is_reported(&rt, rt.alloc(), &web, mode) == Some(true));

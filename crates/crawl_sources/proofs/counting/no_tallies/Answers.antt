@@ -4,7 +4,7 @@ use Rattle.crawl_sources.proofs.counting.no_tallies.Goals as goal
 
 pub loop-one-preserved : goal.loop-one-preserved
 loop-one-preserved c = λ url.
-    let all = c.args.told.now in
+    let all = c.args.listed.now in
     let i = c.loop-one.one-index in
     let x = c.one-item.result in
     let P : List PageResult → Type 0 = λ rs. count_of c.insert.new.self url ≡ (if list_any (λ (r : PageResult). bytes_eq r.url url) rs then Some none_counted else None) in

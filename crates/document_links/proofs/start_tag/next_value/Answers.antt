@@ -1,6 +1,6 @@
 use Rattle.document_links.proofs.Prelude.{◌≡◌, ◌∙◌, ◌==◌, false, not, length, ap, sym, subst, arith, length-drop}
 use Rattle.std.proofs.lemmas.Bool.{not-false}
-use Rattle.html_links.specs.Shown.{Stopped, behind}
+use Rattle.html_links.specs.Shown.{Stopped, following}
 use Rattle.html_links.proofs.Jumps.{shorter}
 use Rattle.document_links.specs.Markup.{is_quote, is_unquoted}
 use Rattle.document_links.proofs.Marking.{next_value}
@@ -11,10 +11,10 @@ returns-clause-reads c = λ name.
     let quote = c.in-Some.quote in
     let stopped : is_unquoted quote ≡ false = subst (Stopped is_unquoted) c.in-Some.ensures c.split_quote.ensures.stopped in
     next_value name c.args.bytes.now c.split_quote.result.0.now c.in-Some.inner.now c.before_quote.result.0.now c.before_quote.result.1.now quote
-    c.split_quote.ensures.since (sym c.in-Some.ensures ∙ c.split_quote.ensures.quoted) (not-false (is_quote quote) stopped) c.before_quote.ensures.text c.before_quote.ensures.behind
+    c.split_quote.ensures.since (sym c.in-Some.ensures ∙ c.split_quote.ensures.quoted) (not-false (is_quote quote) stopped) c.before_quote.ensures.text c.before_quote.ensures.following
 
 pub returns-clause-leaves : goal.returns-clause-leaves
 returns-clause-leaves c =
     let quote = c.in-Some.quote in
     let inner = c.in-Some.inner.now in
-    omega (arith, ap length c.before_quote.ensures.behind, length-drop 1 (behind (λ b. not (b == quote)) inner), shorter (λ b. not (b == quote)) inner, ap length (sym c.in-Some.ensures ∙ c.split_quote.ensures.quoted), shorter is_unquoted c.args.bytes.now)
+    omega (arith, ap length c.before_quote.ensures.following, length-drop 1 (following (λ b. not (b == quote)) inner), shorter (λ b. not (b == quote)) inner, ap length (sym c.in-Some.ensures ∙ c.split_quote.ensures.quoted), shorter is_unquoted c.args.bytes.now)

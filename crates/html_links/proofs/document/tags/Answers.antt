@@ -1,4 +1,4 @@
-use Rattle.html_links.proofs.Prelude.{◌∙◌, ◌∷◌, ◌++◌, ◌<◌, ap, arith, length, map, refl, sym, lower, tag_at, tag_of, tags_of, Start, start_tag_at, start_tags, tag_context, inner_context, values_at, wanted_of}
+use Rattle.html_links.proofs.Prelude.{◌∙◌, ◌∷◌, ◌++◌, ◌<◌, ap, arith, length, map, refl, sym, lower, tag_at, tag_of, tags_of, Start, start_tag_at, start_tags, tag_context, inner_context, values_at, names_of_attributes}
 use Rattle.html_links.proofs.Documents.{nothing_more, read_text, read_less, read_open_end_tag, read_open_start_tag, none_tag, end_starts, end_less, one_more, last_one, read_start_tag, start_less, start_content, cut_shorter}
 use Rattle.html_links.proofs.document.tags.Goals as goal
 
@@ -32,7 +32,7 @@ pub returns-in_default-values_in : goal.returns-in_default-values_in
 returns-in_default-values_in c =
     nothing_more c.markup.context (map start_tag_at c.markup.tags.items) (tags_of c.args.bytes.now) c.markup.rest.now c.markup.invariant
     (read_open_start_tag c.markup.context c.markup.rest.now c.in-Some.opened.now (map lower c.in-Start.name.now) c.in-Start.more.now c.in-Some.ensures.1 c.in-Start.ensures.reads
-    (none_tag (wanted_of c.element_at-element.result) (tag_of c.in-Start.more.now) c.in_default-values_in.ensures))
+    (none_tag (names_of_attributes c.element_at-element.result) (tag_of c.in-Start.more.now) c.in_default-values_in.ensures))
 
 pub markup-preserved-in-Start : goal.markup-preserved-in-Start
 markup-preserved-in-Start c =

@@ -12,18 +12,18 @@ pub returns-then-is_end : goal.returns-then-is_end
 returns-then-is_end c =
     let name = map to_ascii_lowercase c.args.name.now in
     sym (read_less name c.tags.rest.now c.in-Some.opened.now c.in-Some.ensures.1
-    ∙ read_end name c.in-Some.opened.now c.in-Some-behind_byte.slashed.now c.split_letters.result.0.now c.split_letters.result.1.now true (some_name c.args.name.now c.requires) c.in-Some-behind_byte.ensures
+    ∙ read_end name c.in-Some.opened.now c.in-Some-after_byte.slashed.now c.split_letters.result.0.now c.split_letters.result.1.now true (some_name c.args.name.now c.requires) c.in-Some-after_byte.ensures
     c.split_letters.ensures.letters c.split_letters.ensures.rest (sym c.is_end.ensures ∙ c.if-is_end.true))
     ∙ c.tags.invariant
 
-pub tags-smaller-in-Some-behind_byte : goal.tags-smaller-in-Some-behind_byte
-tags-smaller-in-Some-behind_byte c = raw_less c.tags.rest.now c.in-Some.opened.now c.in-Some-behind_byte.slashed.now c.split_letters.result.1.now c.in-Some.ensures.1 c.in-Some-behind_byte.ensures c.split_letters.ensures.rest
+pub tags-smaller-in-Some-after_byte : goal.tags-smaller-in-Some-after_byte
+tags-smaller-in-Some-after_byte c = raw_less c.tags.rest.now c.in-Some.opened.now c.in-Some-after_byte.slashed.now c.split_letters.result.1.now c.in-Some.ensures.1 c.in-Some-after_byte.ensures c.split_letters.ensures.rest
 
-pub tags-preserved-in-Some-behind_byte : goal.tags-preserved-in-Some-behind_byte
-tags-preserved-in-Some-behind_byte c =
+pub tags-preserved-in-Some-after_byte : goal.tags-preserved-in-Some-after_byte
+tags-preserved-in-Some-after_byte c =
     let name = map to_ascii_lowercase c.args.name.now in
     sym (read_less name c.tags.rest.now c.in-Some.opened.now c.in-Some.ensures.1
-    ∙ read_end name c.in-Some.opened.now c.in-Some-behind_byte.slashed.now c.split_letters.result.0.now c.split_letters.result.1.now false (some_name c.args.name.now c.requires) c.in-Some-behind_byte.ensures
+    ∙ read_end name c.in-Some.opened.now c.in-Some-after_byte.slashed.now c.split_letters.result.0.now c.split_letters.result.1.now false (some_name c.args.name.now c.requires) c.in-Some-after_byte.ensures
     c.split_letters.ensures.letters c.split_letters.ensures.rest (sym c.is_end.ensures ∙ c.if-is_end.false))
     ∙ c.tags.invariant
 

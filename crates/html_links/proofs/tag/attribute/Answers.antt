@@ -8,8 +8,8 @@ returns-in-Some-clause-reads c = grind (arith, read_quote)
 pub returns-in-Some-clause-leaves : goal.returns-in-Some-clause-leaves
 returns-in-Some-clause-leaves c = grind (arith, leaves_less, quote_within)
 
-pub returns-in-Some-behind_byte-clause-reads : goal.returns-in-Some-behind_byte-clause-reads
-returns-in-Some-behind_byte-clause-reads c = grind (arith, read_name, skip_before_value)
+pub returns-in-Some-after_byte-clause-reads : goal.returns-in-Some-after_byte-clause-reads
+returns-in-Some-after_byte-clause-reads c = grind (arith, read_name, skip_before_value)
 
 pub returns-in-None-clause-reads : goal.returns-in-None-clause-reads
 returns-in-None-clause-reads c = grind (arith, read_bare)
@@ -17,5 +17,5 @@ returns-in-None-clause-reads c = grind (arith, read_bare)
 pub returns-in-None-clause-leaves : goal.returns-in-None-clause-leaves
 returns-in-None-clause-leaves c = grind (arith, name_shorter)
 
-pub returns-in-Some-behind_byte-clause-leaves : goal.returns-in-Some-behind_byte-clause-leaves
-returns-in-Some-behind_byte-clause-leaves c = grind (arith, name_shorter, shorter, leaves_less)
+pub returns-in-Some-after_byte-clause-leaves : goal.returns-in-Some-after_byte-clause-leaves
+returns-in-Some-after_byte-clause-leaves c = grind (arith, name_shorter, shorter, leaves_less)

@@ -8,5 +8,5 @@ returns-in-Some-clause-reads c = λ all. read_class c.args.bytes.now c.in-Some.m
 pub returns-in-Some-clause-leaves : goal.returns-in-Some-clause-leaves
 returns-in-Some-clause-leaves c = grind (arith, leaves_less)
 
-pub returns-in-Some-behind_href-clause-leaves : goal.returns-in-Some-behind_href-clause-leaves
-returns-in-Some-behind_href-clause-leaves c = grind (arith, leaves_less)
+pub returns-in-Some-after_href-clause-leaves : goal.returns-in-Some-after_href-clause-leaves
+returns-in-Some-after_href-clause-leaves c = grind (arith, leaves_less)

@@ -12,7 +12,7 @@ use Rattle.site_check.specs.Invalid.{texts_if}
 use Rattle.site_check.specs.LinkBase.{base_hint_of}
 use Rattle.site_check.specs.Locations.{IsLocated}
 use Rattle.site_check.specs.Reported.{AreReported}
-use Rattle.site_check.specs.Told.{way_of}
+use Rattle.site_check.specs.RowMeanings.{way_of}
 use Rattle.site_check.specs.Totals.{totals_of}
 use Rattle.site_check.specs.Unreached.{unreached_in}
 use Rattle.site_check.specs.Worst.{file_links, worst_of}

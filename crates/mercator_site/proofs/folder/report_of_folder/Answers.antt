@@ -1,13 +1,13 @@
 use Rattle.mercator_site.proofs.Prelude.{List, ℕ, Result, IfOk, subst, ◌≡◌, ◌∙◌, ap, map}
 use Rattle.mercator_site.specs.Ends.{IsCheckOf}
 use Rattle.mercator_site.specs.declared.check.CheckReport.{CheckReport}
-use Rattle.mercator_site.specs.declared.fault.SiteFault.{SiteFault}
+use Rattle.mercator_site.specs.declared.error.FolderError.{FolderError}
 use Rattle.mercator_site.specs.declared.mapped.MapNames.{MapNames}
 use Rattle.mercator_site.specs.declared.maps.FolderMap.{FolderMap}
 use Rattle.mercator_site.specs.declared.options.CheckOptions.{CheckOptions}
 use Rattle.mercator_site.proofs.folder.report_of_folder.Goals as goal
 
-same_check : (answer : Result CheckReport SiteFault) (options : CheckOptions) (maps others : List FolderMap) (entries listed : List (List ℕ)) → maps ≡ others → entries ≡ listed
+same_check : (answer : Result CheckReport FolderError) (options : CheckOptions) (maps others : List FolderMap) (entries listed : List (List ℕ)) → maps ≡ others → entries ≡ listed
     → IfOk answer (λ report. IsCheckOf options maps entries report.is_broken report.text.items) → IfOk answer (λ report. IsCheckOf options others listed report.is_broken report.text.items)
 same_check answer options maps others entries listed same_maps same_entries is =
     subst (λ ms. IfOk answer (λ report. IsCheckOf options ms listed report.is_broken report.text.items)) same_maps

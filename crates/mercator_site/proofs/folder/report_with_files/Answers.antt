@@ -2,18 +2,18 @@ use Rattle.mercator_site.proofs.Prelude.{ℕ, List, Result, Ok, Err, IfOk, map, 
 use Rattle.std.specs.Prelude.{Bool, IfErr}
 use Rattle.mercator_site.specs.Checks.{IsAny}
 use Rattle.mercator_site.specs.Ends.{IsCheckOf, front_of, name_of}
-use Rattle.mercator_site.specs.Faults.{IsSiteIncomplete}
+use Rattle.mercator_site.specs.Errors.{IsSiteIncomplete}
 use Rattle.mercator_site.specs.Maps.{AreMapped}
 use Rattle.mercator_site.specs.Rules.{AreCheckRules}
 use Rattle.mercator_site.specs.declared.check.CheckReport.{CheckReport}
-use Rattle.mercator_site.specs.declared.fault.SiteFault.{SiteFault}
+use Rattle.mercator_site.specs.declared.error.FolderError.{FolderError}
 use Rattle.mercator_site.specs.declared.mapped.MappedFolder.{MappedFolder}
 use Rattle.mercator_site.specs.declared.maps.FolderMap.{FolderMap}
 use Rattle.mercator_site.specs.declared.options.CheckOptions.{CheckOptions}
 use Rattle.site_files.specs.declared.files.SiteFiles.{SiteFiles}
 use Rattle.mercator_site.proofs.folder.report_with_files.Goals as goal
 
-check_of : (answer : Result CheckReport SiteFault) (options : CheckOptions) (maps : List FolderMap) (entries : List (List ℕ)) (files : SiteFiles) (name : List ℕ) (asks : Asks) (folders : List MappedFolder)
+check_of : (answer : Result CheckReport FolderError) (options : CheckOptions) (maps : List FolderMap) (entries : List (List ℕ)) (files : SiteFiles) (name : List ℕ) (asks : Asks) (folders : List MappedFolder)
     → IsTop (string_bytes options.site.base) (string_bytes files.site.top) → AreCheckRules options files.rules.now → AreMapped maps folders → name ≡ name_of options (string_bytes files.site.top) → asks ≡ asks_of options (front_of options (string_bytes files.site.top)) entries folders
     → IfOk answer (λ report. IsSiteCheck files IsAny name asks report.is_broken report.text.items) → IfOk answer (λ report. IsCheckOf options maps entries report.is_broken report.text.items)
 check_of (Ok report) options maps entries files name asks folders is_top ruled mapped named settled is = record {
@@ -25,12 +25,12 @@ check_of (Ok report) options maps entries files name asks folders is_top ruled m
   site =
       subst (λ (a : Asks). IsSiteCheck files IsAny (name_of options (string_bytes files.site.top)) a report.is_broken report.text.items) settled (subst (λ n. IsSiteCheck files IsAny n asks report.is_broken report.text.items) named is);
 }
-check_of (Err fault) options maps entries files name asks folders is_top ruled mapped named settled is = tt
+check_of (Err error) options maps entries files name asks folders is_top ruled mapped named settled is = tt
 
-incomplete_of : (answer : Result CheckReport SiteFault) (options : CheckOptions) (top : List ℕ) (reachable : Bool) (links : List (List ℕ)) (workers : ℕ) → IsTop (string_bytes options.site.base) top → reachable ≡ options.reachable
-    → links ≡ seeds_of options → workers ≡ options.workers → IfErr answer (λ fault. is_unfinished fault ≡ true → IsIncompleteAt top reachable links workers) → IfErr answer (λ fault. is_unfinished fault ≡ true → IsSiteIncomplete options)
+incomplete_of : (answer : Result CheckReport FolderError) (options : CheckOptions) (top : List ℕ) (reachable : Bool) (links : List (List ℕ)) (workers : ℕ) → IsTop (string_bytes options.site.base) top → reachable ≡ options.reachable
+    → links ≡ seeds_of options → workers ≡ options.workers → IfErr answer (λ error. is_unfinished error ≡ true → IsIncompleteAt top reachable links workers) → IfErr answer (λ error. is_unfinished error ≡ true → IsSiteIncomplete options)
 incomplete_of (Ok report) options top reachable links workers is_top same_reach same_links same_workers is = tt
-incomplete_of (Err fault) options top reachable links workers is_top same_reach same_links same_workers is = λ two. record {
+incomplete_of (Err error) options top reachable links workers is_top same_reach same_links same_workers is = λ two. record {
   top = top;
   is_top = is_top;
   incomplete =

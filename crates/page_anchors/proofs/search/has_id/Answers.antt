@@ -1,10 +1,10 @@
 use Rattle.page_anchors.proofs.Prelude.{◌∙◌, ap, arith, sym, is_eq, is_lt}
-use Rattle.page_anchors.proofs.Searched.{half_before, half_behind, none_found}
+use Rattle.page_anchors.proofs.Searched.{half_before, half_after, none_found}
 use Rattle.page_anchors.proofs.search.has_id.Goals as goal
 
 pub halves-preserved-then-is_lt : goal.halves-preserved-then-is_lt
 halves-preserved-then-is_lt c =
-    half_behind c.args.ids.now c.args.text.now c.id.result.now c.halves.low _ c.halves.high c.halves.invariant (omega (arith, c.halves-test.true)) c.id.ensures
+    half_after c.args.ids.now c.args.text.now c.id.result.now c.halves.low _ c.halves.high c.halves.invariant (omega (arith, c.halves-test.true)) c.id.ensures
     (ap is_lt (sym c.order-found.ensures) ∙ sym c.is_lt.ensures ∙ c.if-is_lt.true)
 
 pub halves-preserved : goal.halves-preserved

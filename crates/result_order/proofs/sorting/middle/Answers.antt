@@ -7,15 +7,15 @@ parted_before : (pages : List Numbered) (at index : ℕ) (here : Numbered) → a
 parted_before pages at index here there is_here some bound point = grind (arith, cases_lt, ltb-true, zero-le, length-take-le, get_or-take, get_or-drop, ltb-false, length-drop)
 
 -- the numbers after the index are greater than the number at one of the indices
-parted_behind : (pages : List Numbered) (at index : ℕ) (here : Numbered) → at < length pages → here ≡ get_or pages at here → index < length pages
+parted_after : (pages : List Numbered) (at index : ℕ) (here : Numbered) → at < length pages → here ≡ get_or pages at here → index < length pages
     → IsPartitionPoint (λ c. leb c.number here.number ≡ true) (λ c. leb c.number here.number ≡ false) pages index → ArePartedAt pages index
-parted_behind pages at index here there is_here more point = grind (arith, cases_lt, leb-false, length-take-le, get_or-take, get_or-drop, leb-true, zero-le, length-drop)
+parted_after pages at index here there is_here more point = grind (arith, cases_lt, leb-false, length-take-le, get_or-take, get_or-drop, leb-true, zero-le, length-drop)
 
 -- if no number is less than this one, and none is greater, all are equal
-equal_to_one : (pages : List Numbered) (first behind number : ℕ) → first ≡ 0 → length pages ≤ behind
+equal_to_one : (pages : List Numbered) (first following number : ℕ) → first ≡ 0 → length pages ≤ following
     → IsPartitionPoint (λ c. ltb c.number number ≡ true) (λ c. ltb c.number number ≡ false) pages first
-    → IsPartitionPoint (λ c. leb c.number number ≡ true) (λ c. leb c.number number ≡ false) pages behind → AllEqual pages
-equal_to_one pages first behind number none all low high = grind arith
+    → IsPartitionPoint (λ c. leb c.number number ≡ true) (λ c. leb c.number number ≡ false) pages following → AllEqual pages
+equal_to_one pages first following number none all low high = grind arith
 
 pub returns-then-first-gt0-clause-some : goal.returns-then-first-gt0-clause-some
 returns-then-first-gt0-clause-some c =
@@ -31,7 +31,7 @@ returns-then-above-pages-clause-some c =
     let here = c.in_ok-number.field-0.now in
     let parted = IsPartitionedBy-leb (λ (c : Numbered). c.number) pages here.number c.requires in
     let point = IsPartitionPoint-from_clause (λ (c : Numbered). leb c.number here.number) pages c.partition_point-above.result c.partition_point-above.ensures.partitioned parted (λ a r q k. search rules) in
-    parted_behind pages _ c.partition_point-above.result here c.in_ok-number.ensures.lookup.3.0 c.in_ok-number.ensures.lookup.1 c.if-above-pages.true point
+    parted_after pages _ c.partition_point-above.result here c.in_ok-number.ensures.lookup.3.0 c.in_ok-number.ensures.lookup.1 c.if-above-pages.true point
 
 pub returns-else-above-pages-clause-none : goal.returns-else-above-pages-clause-none
 returns-else-above-pages-clause-none c = λ _.
@@ -40,5 +40,5 @@ returns-else-above-pages-clause-none c = λ _.
     let low = IsPartitionedBy-ltb (λ (c : Numbered). c.number) pages number c.requires in
     let high = IsPartitionedBy-leb (λ (c : Numbered). c.number) pages number c.requires in
     let first = IsPartitionPoint-from_clause (λ (c : Numbered). ltb c.number number) pages c.partition_point-first.result c.partition_point-first.ensures.partitioned low (λ a r q k. search rules) in
-    let behind = IsPartitionPoint-from_clause (λ (c : Numbered). leb c.number number) pages c.partition_point-above.result c.partition_point-above.ensures.partitioned high (λ a r q k. search rules) in
-    equal_to_one pages c.partition_point-first.result c.partition_point-above.result number (omega arith) (omega arith) first behind
+    let following = IsPartitionPoint-from_clause (λ (c : Numbered). leb c.number number) pages c.partition_point-above.result c.partition_point-above.ensures.partitioned high (λ a r q k. search rules) in
+    equal_to_one pages c.partition_point-first.result c.partition_point-above.result number (omega arith) (omega arith) first following

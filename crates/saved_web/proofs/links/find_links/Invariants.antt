@@ -6,9 +6,9 @@ invariant-loop-text l = record {
   text : shadow (Utf8 l.rest);
   page : l.folder ≡ l.fn.folder;
   known : AreLinks l.folder l.known;
-  few : l.skipped + length l.rest ≤ length l.behind;
-  kept : l.links.items ++ filter_map (link_url l.folder) (link_texts (lines l.rest)) ≡ filter_map (link_url l.folder) (link_texts (lines l.behind));
-  counted : l.skipped + count_by (λ text. is_none (link_url l.folder text)) (link_texts (lines l.rest)) ≡ count_by (λ text. is_none (link_url l.folder text)) (link_texts (lines l.behind));
+  few : l.skipped + length l.rest ≤ length l.following;
+  kept : l.links.items ++ filter_map (link_url l.folder) (link_texts (lines l.rest)) ≡ filter_map (link_url l.folder) (link_texts (lines l.following));
+  counted : l.skipped + count_by (λ text. is_none (link_url l.folder text)) (link_texts (lines l.rest)) ≡ count_by (λ text. is_none (link_url l.folder text)) (link_texts (lines l.following));
 }
 
 abbrev pub decreases-loop-text : goal.decreases-loop-text

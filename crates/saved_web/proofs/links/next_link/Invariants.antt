@@ -4,8 +4,8 @@ use Rattle.saved_web.proofs.links.next_link.Given as goal
 abbrev pub invariant-loop-line : goal.invariant-loop-line
 invariant-loop-line l = record {
   text : shadow (Utf8 l.rest);
-  same : link_texts (lines l.rest) ≡ link_texts (lines l.behind);
-  within : length l.rest ≤ length l.behind;
+  same : link_texts (lines l.rest) ≡ link_texts (lines l.following);
+  within : length l.rest ≤ length l.following;
 }
 
 abbrev pub decreases-loop-line : goal.decreases-loop-line

@@ -4,7 +4,7 @@ use Rattle.saved_web.proofs.long.long_page.Goals as goal
 
 pub returns-in-None : goal.returns-in-None
 returns-in-None g c =
-    let all = lines c.args.behind.now in
+    let all = lines c.args.following.now in
     let own = lines c.cut_before_page.result.0.now in
     let after = lines c.cut_before_page.result.1.now in
     let split : all ≡ own ++ after = search rules in

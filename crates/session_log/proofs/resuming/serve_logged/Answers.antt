@@ -12,5 +12,5 @@ returns-in-Ok-clause-served g c =
     ap (λ i. prepend_known (items logged.window) (g.I.Read.remaining i)) c.in_ok-logged.ensures.begun ∙ ap (λ b. prepend_known b input) c.in_ok-logged.ensures.empty ∙ prepend_known-nil input in
     subst (λ i. ServesInput c.args.session.now i (g.O.Write.contents c.args.out.now) (g.O.Write.contents c.serve.new.out) c.serve.new.session) same c.in-Ok.ensures
 
-pub returns-clause-fault : goal.returns-clause-fault
-returns-clause-fault g c = rw c.fault_of.ensures (is_break _ c.in-Err.why)
+pub returns-clause-error : goal.returns-clause-error
+returns-clause-error g c = rw c.error_of.ensures (is_break _ c.in-Err.why)

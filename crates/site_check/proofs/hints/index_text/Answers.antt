@@ -1,7 +1,7 @@
 use Rattle.site_check.proofs.Prelude.{Global, IfOk-weaker, ◌≡◌, ◌∙◌, ◌∷◌, ◌++◌, ap, arith, drop, subst, sym, take-append-drop}
 use Rattle.std.proofs.Common.{String, codes}
 use Rattle.std.proofs.lemmas.Str.Pattern.{NoCharPasses-char, drop_at_char}
-use Rattle.site_check.proofs.FileNames.{file_alone, file_cut, folder_alone, folder_cut}
+use Rattle.site_check.proofs.FileNames.{file_only, file_cut, folder_only, folder_cut}
 use Rattle.site_check.proofs.Outsides.{IsName}
 use Rattle.site_check.proofs.hints.index_text.Goals as goal
 
@@ -23,6 +23,6 @@ pub returns-in-None : goal.returns-in-None
 returns-in-None c =
     let name = c.args.name.now in
     let free : IsName name = λ i below. NoCharPasses-char 47 name i c.in-None.ensures.cases (omega arith) below in
-    let last = file_alone name free in
-    let front = folder_alone name free in
+    let last = file_only name free in
+    let front = folder_only name free in
     IfOk-weaker c.folder_text-in-None.result _ _ (λ (text : String Global) own. own ∙ (λ i. front i ++ codes "/ has " ++ last i ++ codes ": --index-file " ++ last i)) c.folder_text-in-None.ensures

@@ -9,9 +9,9 @@ returns-then-eq c =
     let name = c.in-Some.folder in
     let other = c.in-Some-split_once.other in
     let above = split_parts 47 c.args.top.now (Some (name, c.in-Some.below)) c.in-Some.ensures.cases (omega arith) in
-    let ahead = split_parts 47 c.args.url.now (Some (other, c.in-Some-split_once.behind)) c.in-Some-split_once.ensures.cases (omega arith) in
+    let ahead = split_parts 47 c.args.url.now (Some (other, c.in-Some-split_once.following)) c.in-Some-split_once.ensures.cases (omega arith) in
     let is : bytes_eq name.now other.now ≡ true = search rules in (
-      path_below c.args.top.now c.args.url.now name.now c.in-Some.below.now other.now c.in-Some-split_once.behind.now above.0 ahead.0 above.1 ((bytes_eq-Decides name.now other.now).0 is),
+      path_below c.args.top.now c.args.url.now name.now c.in-Some.below.now other.now c.in-Some-split_once.following.now above.0 ahead.0 above.1 ((bytes_eq-Decides name.now other.now).0 is),
       omega (arith, ap length above.0, length-append name.now (47 ∷ c.in-Some.below.now)),
     )
 
@@ -20,9 +20,9 @@ returns-else-eq c =
     let name = c.in-Some.folder in
     let other = c.in-Some-split_once.other in
     let above = split_parts 47 c.args.top.now (Some (name, c.in-Some.below)) c.in-Some.ensures.cases (omega arith) in
-    let ahead = split_parts 47 c.args.url.now (Some (other, c.in-Some-split_once.behind)) c.in-Some-split_once.ensures.cases (omega arith) in
+    let ahead = split_parts 47 c.args.url.now (Some (other, c.in-Some-split_once.following)) c.in-Some-split_once.ensures.cases (omega arith) in
     let off : bytes_eq name.now other.now ≡ false = search rules in
-    path_differs c.args.top.now c.args.url.now name.now c.in-Some.below.now other.now c.in-Some-split_once.behind.now above.0 ahead.0 above.1 ahead.1
+    path_differs c.args.top.now c.args.url.now name.now c.in-Some.below.now other.now c.in-Some-split_once.following.now above.0 ahead.0 above.1 ahead.1
     (λ e. true≢false (sym ((bytes_eq-Decides name.now other.now).1 e) ∙ off))
 
 pub returns-in-None-split_once : goal.returns-in-None-split_once

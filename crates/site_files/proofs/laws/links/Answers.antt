@@ -5,7 +5,7 @@ pub returns : goal.returns
 returns c = record {
   link = refl;
   folder = refl;
-  folder_alone = refl;
+  folder_only = refl;
   inside = refl;
   longer_name = refl;
   folder_above = refl;

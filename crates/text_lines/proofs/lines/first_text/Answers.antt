@@ -17,5 +17,5 @@ returns-in-Some-clause-cut c = grind (arith, lines_at)
 pub returns-in-None-2-clause-cut : goal.returns-in-None-2-clause-cut
 returns-in-None-2-clause-cut c = grind (arith, lines_only, nonempty)
 
-pub returns-in-None-2-clause-behind : goal.returns-in-None-2-clause-behind
-returns-in-None-2-clause-behind c = grind (arith, ltb-false, drop_all)
+pub returns-in-None-2-clause-following : goal.returns-in-None-2-clause-following
+returns-in-None-2-clause-following c = grind (arith, ltb-false, drop_all)

@@ -1,4 +1,4 @@
-use Rattle.crawl_frontier.proofs.Prelude.{◌≡◌, ◌<◌, ◌+◌, ◌∷◌, ◌++◌, ◌∙◌, [], None, length, map, vec_len, sym, ap, subst, arith, rules, ℕ, zero, suc, ◌≤◌, Bool, true, false, cond, eqb, List, Some, refl, ⊎_elim, nil_from_length, append_assoc, map-append, MatchOption, book_of, BookId, sent_to, Numbered, IsBook, queue_of, AgreesBelow, DisagreesAt, AgreeTo, Stands, LogStands, CountsStand, CountFails, OneDisagrees, KeepRuleBelow, nat_tests, cases_lt, Entry, Logged, Accepted, Seen, count_of, entries_of, Book, At, rule-numbered}
+use Rattle.crawl_frontier.proofs.Prelude.{◌≡◌, ◌<◌, ◌+◌, ◌∷◌, ◌++◌, ◌∙◌, [], None, length, map, vec_len, sym, ap, subst, arith, rules, ℕ, zero, suc, ◌≤◌, Bool, true, false, cond, eqb, List, Some, refl, ⊎_elim, nil_from_length, append_assoc, map-append, MatchOption, book_of, BookId, sent_to, Numbered, IsBook, queue_of, AgreesBelow, DisagreesAt, AgreeTo, HoldsIn, LogHolds, CountsHold, CountFails, OneDisagrees, KeepRuleBelow, nat_tests, cases_lt, Entry, Logged, Accepted, Seen, count_of, entries_of, Book, At, rule-numbered}
 use Rattle.crawl_frontier.proofs.finish.compare.books_agree.Goals as goal
 
 -- the k-th entry of a numbered list has the k-th number
@@ -9,12 +9,12 @@ numbered_at id n (y ∷ ys) (suc k) x all at = let r = numbered_at id (n + 1) ys
 
 -- two numbered lists of equal length are the same if each entry of the first is in the second
 same_numbered : (id n : ℕ) (xs ys : List Entry) → Numbered id n xs → Numbered id n ys → length xs ≡ length ys → ((j : ℕ) (x : Entry) → At xs j x → (k : ℕ) × At ys k x) → xs ≡ ys
-same_numbered id n [] [] a b len stands = refl
-same_numbered id n [] (y ∷ ys) a b len stands = absurd (omega arith)
-same_numbered id n (x ∷ xs) [] a b len stands = absurd (omega arith)
-same_numbered id n (x ∷ xs) (y ∷ ys) a b len stands =
-    let s = stands 0 x refl in
-    λ i. first s.0 s.1 i ∷ same_numbered id (n + 1) xs ys a.2 b.2 (omega arith) (λ j z at. let t = stands (suc j) z at in rest j z at t.0 t.1) i
+same_numbered id n [] [] a b len holds = refl
+same_numbered id n [] (y ∷ ys) a b len holds = absurd (omega arith)
+same_numbered id n (x ∷ xs) [] a b len holds = absurd (omega arith)
+same_numbered id n (x ∷ xs) (y ∷ ys) a b len holds =
+    let s = holds 0 x refl in
+    λ i. first s.0 s.1 i ∷ same_numbered id (n + 1) xs ys a.2 b.2 (omega arith) (λ j z at. let t = holds (suc j) z at in rest j z at t.0 t.1) i
   where
     first : (k : ℕ) → At (y ∷ ys) k x → x ≡ y
     first zero at = cc
@@ -49,25 +49,25 @@ entries_of-at id (e ∷ es) (suc k) x at own = later (eqb e.sender id) (entries_
     later false r = r
 
 -- each accepted entry of the log is in the list
-sent_to-stands : (q : ℕ) (es : List Entry) (log : List Logged) → ((k : ℕ) (l : Logged) → At log k l → queue_of l ≡ q → Stands es l) → (j : ℕ) (x : Entry) → At (sent_to q log) j x → (k : ℕ) × At es k x
-sent_to-stands q es [] stands j x at = absurd (cc (at))
-sent_to-stands q es (Seen u p ∷ ls) stands j x at = sent_to-stands q es ls (λ k. stands (suc k)) j x at
-sent_to-stands q es (Accepted e p ∷ ls) stands j x at = by_case (eqb p q) refl j at (λ i here. sent_to-stands q es ls (λ k. stands (suc k)) i x here)
+sent_to-holds : (q : ℕ) (es : List Entry) (log : List Logged) → ((k : ℕ) (l : Logged) → At log k l → queue_of l ≡ q → HoldsIn es l) → (j : ℕ) (x : Entry) → At (sent_to q log) j x → (k : ℕ) × At es k x
+sent_to-holds q es [] holds j x at = absurd (cc (at))
+sent_to-holds q es (Seen u p ∷ ls) holds j x at = sent_to-holds q es ls (λ k. holds (suc k)) j x at
+sent_to-holds q es (Accepted e p ∷ ls) holds j x at = by_case (eqb p q) refl j at (λ i here. sent_to-holds q es ls (λ k. holds (suc k)) i x here)
   where
     by_case : (t : Bool) → eqb p q ≡ t → (j : ℕ) → At (cond t (e ∷ sent_to q ls) (sent_to q ls)) j x → ((i : ℕ) → At (sent_to q ls) i x → (k : ℕ) × At es k x) → (k : ℕ) × At es k x
     by_case true is zero here rest =
         let same : p ≡ q = grind (arith, nat_tests) in
         let equal : e ≡ x = cc in
-        subst (λ z. (k : ℕ) × At es k z) equal (stands 0 (Accepted e p) refl same)
+        subst (λ z. (k : ℕ) × At es k z) equal (holds 0 (Accepted e p) refl same)
     by_case true is (suc j) here rest = rest j here
     by_case false is j here rest = rest j here
 
 -- comparing the counts is enough: if they agree, the book agrees with the lists
 agrees : (workers least below : ℕ) (lists : List (List Entry)) (b : BookId) → IsBook workers b → least ≤ workers → KeepRuleBelow workers least lists
-    → below ≤ least → LogStands below lists b.log → (now : ℕ) → now ≤ below → CountsStand now lists b → AgreesBelow now lists b
-agrees workers least below lists b is within rule under stands now under' counts q es lt at = record {
+    → below ≤ least → LogHolds below lists b.log → (now : ℕ) → now ≤ below → CountsHold now lists b → AgreesBelow now lists b
+agrees workers least below lists b is within rule under holds now under' counts q es lt at = record {
   sent = same_numbered b.id 0 (sent_to q b.log) (entries_of b.id es) (is.numbered q) (rule-numbered workers q b.id [] es (rule q es (omega arith) at)) len found;
-  seen = λ k url here. stands k (Seen url q) here (omega arith) es at;
+  seen = λ k url here. holds k (Seen url q) here (omega arith) es at;
 }
   where
     len : length (sent_to q b.log) ≡ length (entries_of b.id es)
@@ -76,12 +76,12 @@ agrees workers least below lists b is within rule under stands now under' counts
         let same : length (sent_to q b.log) ≡ count_of b.id es = cc in
         same ∙ sym (entries_of-length b.id es)
 
-    in_list : (k : ℕ) (l : Logged) → At b.log k l → queue_of l ≡ q → Stands es l
-    in_list k l here queue = stands k l here (omega (arith, queue)) es (subst (λ p. At lists p es) (sym queue) at)
+    in_list : (k : ℕ) (l : Logged) → At b.log k l → queue_of l ≡ q → HoldsIn es l
+    in_list k l here queue = holds k l here (omega (arith, queue)) es (subst (λ p. At lists p es) (sym queue) at)
 
     found : (j : ℕ) (x : Entry) → At (sent_to q b.log) j x → (k : ℕ) × At (entries_of b.id es) k x
     found j x here =
-        let r = sent_to-stands q es b.log in_list j x here in
+        let r = sent_to-holds q es b.log in_list j x here in
         entries_of-at b.id es r.0 x r.1 (numbered_at b.id 0 (sent_to q b.log) j x (is.numbered q) here).0
 
 -- ---- a difference that is found is an error
@@ -121,11 +121,11 @@ last_one all books left b bs is last = grind (arith, map-append, append_assoc)
 is_one : (all : List BookId) (left : List BookId) (b : BookId) (bs : List BookId) → all ≡ left ++ b ∷ bs → (j : ℕ) × At all j b
 is_one all left b bs is = let here = second_half left (b ∷ bs) 0 b refl in (here.0, subst (λ xs. At xs here.0 b) (sym is) here.1)
 
-pub counts_stand-least-requires-clause-lists : goal.counts_stand-least-requires-clause-lists
-counts_stand-least-requires-clause-lists c = omega (arith, c.requires.least, c.loop-book.invariant.2.0)
+pub counts_hold-least-requires-clause-lists : goal.counts_hold-least-requires-clause-lists
+counts_hold-least-requires-clause-lists c = omega (arith, c.requires.least, c.loop-book.invariant.2.0)
 
-pub counts_stand-least-requires-clause-counts : goal.counts_stand-least-requires-clause-counts
-counts_stand-least-requires-clause-counts c =
+pub counts_hold-least-requires-clause-counts : goal.counts_hold-least-requires-clause-counts
+counts_hold-least-requires-clause-counts c =
     let b = c.in-Some.book in
     let left = c.pop.new.self.items in
     let inv = c.loop-book.invariant in
@@ -144,10 +144,10 @@ loop-book-preserved c =
     let all = last_one (map book_of c.args.books.items) c.loop-book.books.items left b inv.0 inv.1 c.in-Some.ensures.items in
     let here = is_one (map book_of c.args.books.items) (map book_of left) (book_of b) inv.0 all in
     let is = c.requires.books here.0 (book_of b) here.1 in
-    let count = c.counts_stand-least.ensures in
-    let next = c.counts_stand-least.result in
+    let count = c.counts_hold-least.ensures in
+    let next = c.counts_hold-least.result in
     let agree : AgreesBelow next lists (book_of b) = agrees (length lists) old old lists (book_of b) is (omega (arith, c.requires.least, inv.2.0)) (λ q es lt at. c.requires.rule q es (omega (arith, lt, inv.2.0)) at) (omega arith)
-    (λ k l at lt. c.requires.logs here.0 (book_of b) here.1 k l at (omega (arith, lt, inv.2.0))) next count.below count.stands in
+    (λ k l at lt. c.requires.logs here.0 (book_of b) here.1 k l at (omega (arith, lt, inv.2.0))) next count.below count.holds in
     let differ : next < old → DisagreesAt next lists (book_of b) = λ lt. count_disagrees (length lists) next lists (book_of b) is (omega (arith, lt, c.requires.least, inv.2.0)) (count.fails lt) in
     (book_of b ∷ inv.0, all, agree_first lists (book_of b) inv.0 c.args.least old next inv.2 count.below agree differ)
 

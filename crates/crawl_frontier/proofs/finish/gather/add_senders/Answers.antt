@@ -1,5 +1,5 @@
 use Rattle.crawl_frontier.proofs.Prelude.{rules, arith, ◌≡◌, ◌+◌, ◌∙◌, ◌++◌, ◌∷◌, [], List, None, map, vec_len, sym, ap, subst, map-append, nil_from_length, MatchOption, BookId, Knows, book_of, IsBook, SenderId, AllAre, Gathered}
-use Rattle.crawl_frontier.proofs.Telling.{all_snoc}
+use Rattle.crawl_frontier.proofs.Learning.{all_snoc}
 use Rattle.crawl_frontier.proofs.Gathering.{gather-sender}
 use Rattle.crawl_frontier.proofs.finish.gather.add_senders.Goals as goal
 

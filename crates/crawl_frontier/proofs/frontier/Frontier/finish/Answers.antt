@@ -1,4 +1,4 @@
-use Rattle.crawl_frontier.proofs.Prelude.{◌∙◌, sym, ◌≡◌, ℕ, ◌<◌, ◌≤◌, List, [], length, map, ap, subst, arith, MatchResult, Entry, KeepsRule, IsBook, book_of, WorkerId, SenderId, Accounts, AccountId, AllKeepRule, FinishFails, AllAre, AgreeTo, CanCompare, KeepRuleBelow, LogsStand}
+use Rattle.crawl_frontier.proofs.Prelude.{◌∙◌, sym, ◌≡◌, ℕ, ◌<◌, ◌≤◌, List, [], length, map, ap, subst, arith, MatchResult, Entry, KeepsRule, IsBook, book_of, WorkerId, SenderId, Accounts, AccountId, AllKeepRule, FinishFails, AllAre, AgreeTo, CanCompare, KeepRuleBelow, LogsHold}
 use Rattle.std.proofs.lemmas.Result.{MatchResult-weaker}
 use Rattle.std.specs.declared.result.Result.{Result}
 use Rattle.crawl_frontier.specs.declared.error.FinishError.{FinishError}
@@ -11,9 +11,9 @@ use Rattle.crawl_frontier.proofs.frontier.Frontier.finish.Goals as goal
 module _ (workers : ℕ) (closed : List WorkerId) (senders : List SenderId) (s : Settled) (can : CanCompare workers closed senders s) where
   -- what a comparison requires
   pub askable : (lists : List (List Entry)) → lists ≡ s.lists.items
-      → (s.least ≤ length lists) × AllAre (IsBook (length lists)) (map book_of s.books.items) × KeepRuleBelow (length lists) s.least lists × LogsStand s.least lists (map book_of s.books.items)
+      → (s.least ≤ length lists) × AllAre (IsBook (length lists)) (map book_of s.books.items) × KeepRuleBelow (length lists) s.least lists × LogsHold s.least lists (map book_of s.books.items)
   askable lists same =
-      subst (λ ls. (s.least ≤ length ls) × AllAre (IsBook (length ls)) (map book_of s.books.items) × KeepRuleBelow (length ls) s.least ls × LogsStand s.least ls (map book_of s.books.items)) (sym same)
+      subst (λ ls. (s.least ≤ length ls) × AllAre (IsBook (length ls)) (map book_of s.books.items) × KeepRuleBelow (length ls) s.least ls × LogsHold s.least ls (map book_of s.books.items)) (sym same)
       (can.within, can.books, can.rule, can.logs)
 
   pub compared : (least : ℕ) (lists : List (List Entry)) → lists ≡ s.lists.items → AgreeTo least s.least lists (map book_of s.books.items) → AgreeTo least s.least s.lists.items (map book_of s.books.items)
@@ -32,7 +32,7 @@ module _ (workers : ℕ) (closed : List WorkerId) (senders : List SenderId) (s :
         ap (λ (b : AccountId). b.workers) is.1 ∙ can.workers_are,
         subst (λ (b : AccountId). Accounts workers closed senders b.queues) (sym is.1) (can.account least (omega (arith, is.0, can.workers_are)) agree),
       ))
-      (λ e is. subst (FinishFails workers closed senders) (sym is.1) (can.fault least (omega (arith, is.0, can.workers_are)) agree))
+      (λ e is. subst (FinishFails workers closed senders) (sym is.1) (can.error least (omega (arith, is.0, can.workers_are)) agree))
 
 pub books_agree-least-requires-clause-least : goal.books_agree-least-requires-clause-least
 books_agree-least-requires-clause-least g c = (askable g.K.Name.workers c.args.closed.items c.args.senders.items c.in_ok-workers.field-0 c.in_ok-workers.ensures c.as_slice.result.now c.as_slice.ensures.value).0

@@ -22,4 +22,4 @@ new-requires-clause-len g c = c.setup.invariant.4 ∙ (ap (λ z. z.workers) c.se
 
 pub new-requires-clause-lists : goal.new-requires-clause-lists
 new-requires-clause-lists g c =
-    subst (λ (qs : List QueueId). ListsAre qs c.setup.inside.told.items) (ap (λ z. z.queues) c.setup.view_is ∙ c.requires.queues) c.setup.invariant.5
+    subst (λ (qs : List QueueId). ListsAre qs c.setup.inside.learned.items) (ap (λ z. z.queues) c.setup.view_is ∙ c.requires.queues) c.setup.invariant.5

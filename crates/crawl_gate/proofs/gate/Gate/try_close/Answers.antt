@@ -16,5 +16,5 @@ knows c = ap knows_closed (met c) ∙ knows_closed-last c.pass.inside.seat.me.0 
 pub invariant_of-result-then-state : goal.invariant_of-result-then-state
 invariant_of-result-then-state c = grind (arith, knows, met)
 
-pub returns-then-state-clause-told : goal.returns-then-state-clause-told
-returns-then-state-clause-told c = knows c
+pub returns-then-state-clause-reported : goal.returns-then-state-clause-reported
+returns-then-state-clause-reported c = knows c

@@ -5,7 +5,7 @@ use Rattle.crawl_queues.proofs.book.Book.accept.Goals as goal
 pub returns-clause-log : goal.returns-clause-log
 returns-clause-log c = λ e has.
     let b = c.args.self.now in
-    let lists = lists_of b.told.items in
+    let lists = lists_of b.learned.items in
     let line : LogLine = record { index = c.args.index; queue = c.args.queue; accepted = true } in
     λ i. record {
       id = b.id;
@@ -16,7 +16,7 @@ returns-clause-log c = λ e has.
 pub returns-clause-known : goal.returns-clause-known
 returns-clause-known c = λ queues workers e has known.
     let b = c.args.self.now in
-    let lists = lists_of b.told.items in
+    let lists = lists_of b.learned.items in
     let line : LogLine = record { index = c.args.index; queue = c.args.queue; accepted = true } in
     record {
       len = known.len;

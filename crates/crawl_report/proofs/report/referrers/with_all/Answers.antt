@@ -4,6 +4,6 @@ use Rattle.crawl_report.proofs.report.referrers.with_all.Goals as goal
 pub returns : goal.returns
 returns c =
     let pages = c.args.pages.now in
-    subst (λ rs. IfOk c.with_told.result (λ more. Adds c.args.out more (flat_map (λ (r : PageResult). lines_at c.args.all pages r.url) rs)))
-    (ap pointed c.deref-2.ensures.value ∙ c.in_ok-told.ensures)
-    (c.with_told.ensures pages c.in_ok-tallies.ensures.counted)
+    subst (λ rs. IfOk c.with_listed.result (λ more. Adds c.args.out more (flat_map (λ (r : PageResult). lines_at c.args.all pages r.url) rs)))
+    (ap pointed c.deref-2.ensures.value ∙ c.in_ok-listed.ensures)
+    (c.with_listed.ensures pages c.in_ok-tallies.ensures.counted)

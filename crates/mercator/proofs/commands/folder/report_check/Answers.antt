@@ -3,32 +3,32 @@ use Rattle.mercator_site.specs.Ends.{IsFolderCheck}
 use Rattle.mercator.proofs.Folders.{can_print, gains_as, index_fails, list_fails, site_fails}
 use Rattle.mercator.proofs.commands.folder.report_check.Goals as goal
 
-pub returns-in_err-list-clause-fault : goal.returns-in_err-list-clause-fault
-returns-in_err-list-clause-fault g c = λ input.
+pub returns-in_err-list-clause-error : goal.returns-in_err-list-clause-error
+returns-in_err-list-clause-error g c = λ input.
     let r = c.from_residual in
     let same = err_from_is_err_and r.result r.ensures.1 in
-    rw (same.1, same.2) (inl (list_fails c.args.options.now c.args.ignores.now c.in_err-list.field-0.0 c.in_err-list.ensures.fault, refl))
+    rw (same.1, same.2) (inl (list_fails c.args.options.now c.args.ignores.now c.in_err-list.field-0.0 c.in_err-list.ensures.error, refl))
 
-pub returns-in_err-index-clause-fault : goal.returns-in_err-index-clause-fault
-returns-in_err-index-clause-fault g c = λ input.
+pub returns-in_err-index-clause-error : goal.returns-in_err-index-clause-error
+returns-in_err-index-clause-error g c = λ input.
     let r = c.from_residual-in_err-index in
     let same = err_from_is_err_and r.result r.ensures.1 in
-    rw (same.1, same.2) (inl (index_fails c.args.options.now c.args.ignores.now c.in_err-index.field-0.0 c.in_err-index.ensures.fault, refl))
+    rw (same.1, same.2) (inl (index_fails c.args.options.now c.args.ignores.now c.in_err-index.field-0.0 c.in_err-index.ensures.error, refl))
 
-pub returns-in_err-print_notes-clause-fault : goal.returns-in_err-print_notes-clause-fault
-returns-in_err-print_notes-clause-fault g c = λ input.
+pub returns-in_err-print_notes-clause-error : goal.returns-in_err-print_notes-clause-error
+returns-in_err-print_notes-clause-error g c = λ input.
     let r = c.from_residual-in_err-print_notes in
     let same = err_from_is_err_and r.result r.ensures.1 in
     rw (same.1, same.2) (inl (tt, refl))
 
-pub returns-in_err-report-clause-fault : goal.returns-in_err-report-clause-fault
-returns-in_err-report-clause-fault g c = λ input.
+pub returns-in_err-report-clause-error : goal.returns-in_err-report-clause-error
+returns-in_err-report-clause-error g c = λ input.
     let r = c.from_residual-in_err-report in
     let same = err_from_is_err_and r.result r.ensures.1 in
     rw (same.1, same.2) (inl (site_fails c.args.options.now c.args.ignores.now c.in_err-report.field-0.0 c.in_err-report.ensures.incomplete, refl))
 
-pub returns-in_err-end-clause-fault : goal.returns-in_err-end-clause-fault
-returns-in_err-end-clause-fault g c = λ input.
+pub returns-in_err-end-clause-error : goal.returns-in_err-end-clause-error
+returns-in_err-end-clause-error g c = λ input.
     let r = c.from_residual-in_err-end in
     let same = err_from_is_err_and r.result r.ensures.1 in
     let report = c.in_ok-report.report in

@@ -3,8 +3,8 @@ use Rattle.mercator.proofs.PlanTexts.{filter_is}
 use Rattle.mercator.proofs.Serves.{log_fails}
 use Rattle.mercator.proofs.commands.sessions.compact_plan.Goals as goal
 
-pub returns-in_err-left_out-clause-fault : goal.returns-in_err-left_out-clause-fault
-returns-in_err-left_out-clause-fault g c =
+pub returns-in_err-left_out-clause-error : goal.returns-in_err-left_out-clause-error
+returns-in_err-left_out-clause-error g c =
     let within = c.args.plan.now.log.session.within in
     let r = c.from_residual-in_err-left_out in
     let same = err_from_is_err_and r.result r.ensures.1 in

@@ -4,8 +4,8 @@ use Rattle.mercator.proofs.PlanTexts.{filter_is}
 use Rattle.mercator.proofs.Serves.{log_fails}
 use Rattle.mercator.proofs.commands.sessions.open_session.Goals as goal
 
-pub returns-in_err-opened-clause-fault : goal.returns-in_err-opened-clause-fault
-returns-in_err-opened-clause-fault g c =
+pub returns-in_err-opened-clause-error : goal.returns-in_err-opened-clause-error
+returns-in_err-opened-clause-error g c =
     let within = c.args.plan.now.session.within in
     let r = c.from_residual-in_err-opened in
     let same = err_from_is_err_and r.result r.ensures.1 in

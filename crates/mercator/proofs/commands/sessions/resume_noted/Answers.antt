@@ -1,5 +1,5 @@
 use Rattle.mercator.proofs.Prelude.{subst, Begins}
-use Rattle.mercator.specs.FaultText.{torn_line}
+use Rattle.mercator.specs.ErrorText.{torn_line}
 use Rattle.mercator.proofs.commands.sessions.resume_noted.Goals as goal
 
 pub returns-in_err-note_cut-clause-noted : goal.returns-in_err-note_cut-clause-noted

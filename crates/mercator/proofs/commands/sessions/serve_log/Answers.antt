@@ -2,11 +2,11 @@ use Rattle.mercator.proofs.Prelude.{inl, refl, sym, ◌∙◌, true≢false, ari
 use Rattle.mercator.proofs.Serves.{ends_logged, gains_on, plain_break}
 use Rattle.mercator.proofs.commands.sessions.serve_log.Goals as goal
 
-pub returns-in_err-log-clause-fault : goal.returns-in_err-log-clause-fault
-returns-in_err-log-clause-fault g c =
+pub returns-in_err-log-clause-error : goal.returns-in_err-log-clause-error
+returns-in_err-log-clause-error g c =
     let r = c.from_residual in
     let same = err_from_is_err_and r.result r.ensures.1 in
-    rw (same.1, same.2) (inl (c.in_err-log.ensures.fault, refl))
+    rw (same.1, same.2) (inl (c.in_err-log.ensures.error, refl))
 
 pub returns-in_err-log-clause-in_use : goal.returns-in_err-log-clause-in_use
 returns-in_err-log-clause-in_use g c =
@@ -14,11 +14,11 @@ returns-in_err-log-clause-in_use g c =
     let same = err_from_is_err_and r.result r.ensures.1 in
     rw (same.1, same.2) (λ five. (refl, c.in_err-log.ensures.in_use five))
 
-pub returns-in_err-serve_logged-clause-fault : goal.returns-in_err-serve_logged-clause-fault
-returns-in_err-serve_logged-clause-fault g c =
+pub returns-in_err-serve_logged-clause-error : goal.returns-in_err-serve_logged-clause-error
+returns-in_err-serve_logged-clause-error g c =
     let r = c.from_residual-in_err-serve_logged in
     let same = err_from_is_err_and r.result r.ensures.1 in
-    rw (same.1, same.2) (ends_logged c.args.plan.now (g.I.Read.remaining c.args.input.now) c.in_err-serve_logged.field-0.0 _ c.in_ok-log.ensures.suffix c.in_err-serve_logged.ensures.fault)
+    rw (same.1, same.2) (ends_logged c.args.plan.now (g.I.Read.remaining c.args.input.now) c.in_err-serve_logged.field-0.0 _ c.in_ok-log.ensures.suffix c.in_err-serve_logged.ensures.error)
 
 pub returns-in_err-serve_logged-clause-in_use : goal.returns-in_err-serve_logged-clause-in_use
 returns-in_err-serve_logged-clause-in_use g c = grind (arith, err_from_is_err_and, plain_break)

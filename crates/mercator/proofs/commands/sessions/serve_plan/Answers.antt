@@ -2,14 +2,14 @@ use Rattle.mercator.proofs.Prelude.{inl, refl, sym, ◌∙◌, true≢false, err
 use Rattle.mercator.proofs.Serves.{breaks_off, gains_answers}
 use Rattle.mercator.proofs.commands.sessions.serve_plan.Goals as goal
 
-pub returns-in_err-session-clause-fault : goal.returns-in_err-session-clause-fault
-returns-in_err-session-clause-fault g c =
+pub returns-in_err-session-clause-error : goal.returns-in_err-session-clause-error
+returns-in_err-session-clause-error g c =
     let r = c.from_residual in
     let same = err_from_is_err_and r.result r.ensures.1 in
-    rw (same.1, same.2) (inl (c.in_err-session.ensures.fault, refl))
+    rw (same.1, same.2) (inl (c.in_err-session.ensures.error, refl))
 
-pub returns-in_err-serve-clause-fault : goal.returns-in_err-serve-clause-fault
-returns-in_err-serve-clause-fault g c =
+pub returns-in_err-serve-clause-error : goal.returns-in_err-serve-clause-error
+returns-in_err-serve-clause-error g c =
     let r = c.from_residual-in_err-serve in
     let same = err_from_is_err_and r.result r.ensures.1 in
     rw (same.1, same.2) (breaks_off c.args.plan.now (g.I.Read.remaining c.args.input.now) c.in_err-serve.field-0.0 _ c.in_ok-session.ensures.suffix)

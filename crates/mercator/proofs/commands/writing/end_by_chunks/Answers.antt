@@ -1,4 +1,4 @@
-use Rattle.mercator.proofs.Prelude.{common_steps, ◌≡◌, ℕ, ◌+◌, ◌<◌, Option, Result, List, [], ◌++◌, length, take, get_or, Vec, Global, append-nil, arith, Appends-nil, take_all, take_more, Appends, joined, EndsByText, Fault}
+use Rattle.mercator.proofs.Prelude.{common_steps, ◌≡◌, ℕ, ◌+◌, ◌<◌, Option, Result, List, [], ◌++◌, length, take, get_or, Vec, Global, append-nil, arith, Appends-nil, take_all, take_more, Appends, joined, EndsByText, CommandError}
 use Rattle.crawl_report.proofs.Printed.{joined_push}
 use Rattle.mercator.proofs.commands.writing.end_by_chunks.Goals as goal
 
@@ -7,7 +7,7 @@ joined_more : (chunks : List (Vec ℕ Global)) (k : ℕ) (d chunk : Vec ℕ Glob
 joined_more chunks k d chunk text below at so_far = grind (arith, common_steps, joined_push, take_more)
 
 -- what was written, and then nothing more
-ended : (front all : List ℕ) (old mid new : Option (List ℕ)) (result : Result (Unit {0}) Fault) → front ≡ all → Appends old mid front → EndsByText [] mid new result → EndsByText all old new result
+ended : (front all : List ℕ) (old mid new : Option (List ℕ)) (result : Result (Unit {0}) CommandError) → front ≡ all → Appends old mid front → EndsByText [] mid new result → EndsByText all old new result
 ended front all old mid new result same gained is = grind (arith, append-nil)
 
 pub loop-chunk-init : goal.loop-chunk-init

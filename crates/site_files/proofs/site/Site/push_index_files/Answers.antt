@@ -2,7 +2,7 @@ use Rattle.std.proofs.Common.{◌++◌, List, ℕ, map, string_bytes, subst, sym
 use Rattle.std.specs.Option.{option_to_list}
 use Rattle.site_files.specs.Entries.{Adds, expected, listed, server_at, texts}
 use Rattle.site_files.specs.Pages.{Page, index_page, index_pages}
-use Rattle.site_files.proofs.Listing.{Leaves, gone_on, numbered_left}
+use Rattle.site_files.proofs.Listing.{Leaves, continued, numbered_left}
 use Rattle.site_files.proofs.site.Site.push_index_files.Goals as goal
 
 pub names-preserved : goal.names-preserved
@@ -13,5 +13,5 @@ names-preserved c =
     let Q : List ℕ → Type 0 = λ text. Adds c.names.entries.items c.push_index.new.entries.items (option_to_list (index_page server c.args.index_file.now c.names.index text)) in
     let adds = subst Q c.as_str.ensures.value c.in_ok-push_index.ensures.page in
     let all = map listed c.args.entries.now.items ++ map expected (index_pages server (texts c.args.names.now) c.args.index_file.now) in
-    gone_on all c.names.entries.items c.push_index.new.entries.items (option_to_list (index_page server c.args.index_file.now c.names.index (string_bytes name))) _ adds
+    continued all c.names.entries.items c.push_index.new.entries.items (option_to_list (index_page server c.args.index_file.now c.names.index (string_bytes name))) _ adds
     (subst (λ (pages : List Page). Leaves all c.names.entries.items pages) left c.names.invariant)
