@@ -21,7 +21,7 @@ pub struct FolderMap {
 }
 
 /// Why texts are not those of maps.
-#[derive(Clone, Copy)]
+#[derive(Clone, Copy, Debug, PartialEq, Eq)]
 pub enum MapError {
     /// BASE is not an http or https URL.
     BadBase,

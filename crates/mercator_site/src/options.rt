@@ -3,7 +3,7 @@ use crate::maps::FolderMap;
 use check_report::Lists;
 
 /// The form of a report.
-#[derive(Clone, Copy)]
+#[derive(Clone, Copy, Debug, PartialEq, Eq)]
 pub enum CheckForm {
     /// Text.
     Text {
@@ -23,7 +23,7 @@ pub enum CheckForm {
 }
 
 /// Whether links are rewritten.
-#[derive(Clone, Copy)]
+#[derive(Clone, Copy, Debug, PartialEq, Eq)]
 pub enum Fix {
     /// No.
     Off,

@@ -25,7 +25,7 @@ pub struct InputLimits {
 }
 
 /// Why an input was not read to its end.
-#[derive(Clone, Copy, PartialEq, Eq)]
+#[derive(Clone, Copy, Debug, PartialEq, Eq)]
 pub enum Unread {
     /// A read failed.
     Failed,
