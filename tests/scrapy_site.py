@@ -59,10 +59,10 @@ HOSTS = 7
 RETRIES = 2
 WORK = 0.003  # seconds that the server takes for a response, so that a second request would be seen
 LONGEST = 240  # time limit of a crawl, in seconds
-TOLD = 600  # most characters of a failure message
+SHOWN = 600  # most characters of a failure message
 
-Asked = Tuple[str, str]  # a request: the address of the server and the path
-Told = Dict[str, Any]  # the settings of a crawl, or its results
+Target = Tuple[str, str]  # a request: the address of the server and the path
+Fields = Dict[str, Any]  # the plan of a crawl, or its outcome
 
 
 def name_of(number: int) -> str:
@@ -81,20 +81,20 @@ class Page(NamedTuple):
 
     kind: str
     body: str = ""
-    links: Tuple[Asked, ...] = ()
+    links: Tuple[Target, ...] = ()
 
 
 class Site:
     """Pages by host and path, and the requests that a crawl has to make."""
 
-    def __init__(self, seed: Asked) -> None:
+    def __init__(self, seed: Target) -> None:
         self.seed = seed
-        self.pages: Dict[Asked, Page] = {}
+        self.pages: Dict[Target, Page] = {}
 
-    def answer(self, asked: Asked) -> Page:
-        return self.pages.get(asked, Page("404"))
+    def answer(self, target: Target) -> Page:
+        return self.pages.get(target, Page("404"))
 
-    def wanted(self) -> Dict[Asked, int]:
+    def expected(self) -> Dict[Target, int]:
         """Search the site, and return how many times each URL has to be requested."""
         found, todo = {self.seed}, deque([self.seed])
         while todo:
@@ -103,12 +103,12 @@ class Site:
                     found.add(link)
                     todo.append(link)
         tries = {"500": RETRIES + 1, "flaky": 2, "dropped": 0, "made": 0}
-        return {asked: tries.get(self.answer(asked).kind, 1) for asked in found}
+        return {target: tries.get(self.answer(target).kind, 1) for target in found}
 
 
-def spelled(rand: Random, port: int, asked: Asked) -> str:
+def spelled(rand: Random, port: int, target: Target) -> str:
     """Return a random spelling of a URL. By the URL Standard, all of them are the same URL."""
-    host, path = asked
+    host, path = target
     number = int(host.rsplit(".", 1)[1]) - 1
     if number == HOSTS - 1:  # this host has no name, only its address
         host = rand.choice((host, f"127.0.{256 + number + 1}", f"0x7f0001{number + 1:02x}"))
@@ -132,9 +132,9 @@ def drawn_site(rand: Random, port: int, pages: int) -> Site:
     for number in range(pages):
         paths.append((address_of(rand.randrange(HOSTS)), f"/{rand.choice('pqr')}/{number}"))
     site = Site(paths[0])
-    for number, asked in enumerate(paths):
+    for number, target in enumerate(paths):
         kind = "200" if number == 0 else rand.choice(kinds)
-        links: List[Asked] = []
+        links: List[Target] = []
         body = ""
         if kind in ("301", "302"):
             links = [rand.choice(paths)]
@@ -146,7 +146,7 @@ def drawn_site(rand: Random, port: int, pages: int) -> Site:
         if kind == "raises":
             links = []  # its callback fails before it reads the links
         # Scrapy's own scheduler drops a redirect to a URL that was seen before, like this one.
-        site.pages[asked] = Page(kind, body, tuple(links))
+        site.pages[target] = Page(kind, body, tuple(links))
     return site
 
 
@@ -155,29 +155,29 @@ def numbered_site(rand: Random, port: int, pages: int) -> Site:
     paths = [(address_of(rand.randrange(HOSTS)), f"/{rand.choice('pqr')}/{number}")
              for number in range(pages)]
     site = Site(paths[0])
-    for number, asked in enumerate(paths):
+    for number, target in enumerate(paths):
         kind = "200" if number == 0 else rand.choice(["200"] * 8 + ["flaky", "404"])
         # Page n is linked from page n // 3, which is a page with links.
-        links = [link for link in paths[3 * number:3 * number + 3] if link != asked]
+        links = [link for link in paths[3 * number:3 * number + 3] if link != target]
         links += [rand.choice(paths) for _ in range(rand.randrange(5))]
         if kind == "404" and 3 * number < pages:
             kind = "200"
         if kind == "404":
             links = []
         body = page_of(spelled(rand, port, link) for link in links)
-        site.pages[asked] = Page(kind, body, tuple(links))
+        site.pages[target] = Page(kind, body, tuple(links))
         site.pages[form_of(number)] = Page("200")
     return site
 
 
-def form_of(number: int) -> Asked:
+def form_of(number: int) -> Target:
     return address_of(number % 3), f"/form/{number}"
 
 
-def forms_of(site: Site) -> Dict[Asked, int]:
+def forms_of(site: Site) -> Dict[Target, int]:
     """Return the forms that the spider posts in a numbered site, each once."""
-    found = site.wanted()
-    links = {link for asked in found for link in site.answer(asked).links}
+    found = site.expected()
+    links = {link for target in found for link in site.answer(target).links}
     numbers = {int(path.rsplit("/", 1)[1]) for _, path in links}
     return {form_of(number): 1 for number in numbers if number % 5 == 0}
 
@@ -189,11 +189,11 @@ class FolderSite(Site):
         super().__init__((host, "/"))
         self.folder = folder
 
-    def answer(self, asked: Asked) -> Page:
-        path = unquote(urlsplit(asked[1]).path)
+    def answer(self, target: Target) -> Page:
+        path = unquote(urlsplit(target[1]).path)
         file = self.folder / path.lstrip("/")
         if file.is_dir() and not path.endswith("/"):
-            return Page("301", asked[1] + "/")
+            return Page("301", target[1] + "/")
         if file.is_dir():
             file = file / "index.html"
         if not file.is_file():
@@ -221,13 +221,13 @@ def without_dots(target: str) -> str:
     return "/" + "/".join(kept) + mark + query
 
 
-def canonical(asked: Asked, url: str) -> str:
+def canonical(target: Target, url: str) -> str:
     """Return the URL of a request, with its port, as the URL Standard spells it."""
-    number = int(asked[0].rsplit(".", 1)[1]) - 1
-    host = asked[0] if number == HOSTS - 1 else name_of(number)
-    names = {host, asked[0]}  # the example site has the address of a host that has a name
+    number = int(target[0].rsplit(".", 1)[1]) - 1
+    host = target[0] if number == HOSTS - 1 else name_of(number)
+    names = {host, target[0]}  # the example site has the address of a host that has a name
     host = next((name for name in names if url.startswith(f"http://{name}:")), host)
-    return f"http://{host}:{url.split(':')[2].partition('/')[0]}{asked[1]}"
+    return f"http://{host}:{url.split(':')[2].partition('/')[0]}{target[1]}"
 
 
 class Count:
@@ -236,27 +236,27 @@ class Count:
     def __init__(self, site: Site) -> None:
         self.site = site
         self.lock = threading.Lock()
-        self.asked: Counter[Asked] = Counter()
-        self.posted: Counter[Asked] = Counter()
+        self.requested: Counter[Target] = Counter()
+        self.posted: Counter[Target] = Counter()
         self.active: Counter[str] = Counter()
         self.most = 0  # the greatest number of requests in progress at one host
-        self.order: List[Asked] = []
+        self.order: List[Target] = []
         self.odd: List[str] = []  # URLs of GET requests that are not canonical
 
-    def begins(self, method: str, asked: Asked, url: str) -> int:
+    def begins(self, method: str, target: Target, url: str) -> int:
         with self.lock:
-            counts = self.asked if method == "GET" else self.posted
-            if method == "GET" and url != canonical(asked, url):
+            counts = self.requested if method == "GET" else self.posted
+            if method == "GET" and url != canonical(target, url):
                 self.odd.append(url)
-            counts[asked] += 1
-            self.order.append(asked)
-            self.active[asked[0]] += 1
-            self.most = max(self.most, self.active[asked[0]])
-            return counts[asked]
+            counts[target] += 1
+            self.order.append(target)
+            self.active[target[0]] += 1
+            self.most = max(self.most, self.active[target[0]])
+            return counts[target]
 
-    def ends(self, asked: Asked) -> None:
+    def ends(self, target: Target) -> None:
         with self.lock:
-            self.active[asked[0]] -= 1
+            self.active[target[0]] -= 1
 
 
 class Handler(BaseHTTPRequestHandler):
@@ -271,10 +271,10 @@ class Handler(BaseHTTPRequestHandler):
 
     def serve(self, method: str) -> None:
         count: Count = self.server.count  # type: ignore[attr-defined]
-        asked = (str(self.server.server_address[0]), without_dots(self.path))  # type: ignore[index]
-        tries = count.begins(method, asked, f"http://{self.headers['Host']}{self.path}")
+        target = (str(self.server.server_address[0]), without_dots(self.path))  # type: ignore[index]
+        tries = count.begins(method, target, f"http://{self.headers['Host']}{self.path}")
         time.sleep(WORK)
-        page = count.site.answer(asked)
+        page = count.site.answer(target)
         status, headers = 200, {"Content-Type": "text/html; charset=utf-8"}
         if page.kind in ("301", "302"):
             status, headers["Location"] = int(page.kind), page.body
@@ -287,7 +287,7 @@ class Handler(BaseHTTPRequestHandler):
         body = page.body.encode() if status == 200 else b""
         # The client has no response yet, so a request that arrives from here on does not count as
         # one at the same time.
-        count.ends(asked)
+        count.ends(target)
         self.send_response(status)
         for name, value in headers.items():
             self.send_header(name, value)
@@ -372,19 +372,19 @@ class Spider(scrapy.Spider):
 
     name = "site"
 
-    def __init__(self, asked: Dict[str, Any], **rest: Any) -> None:
+    def __init__(self, plan: Dict[str, Any], **rest: Any) -> None:
         super().__init__(**rest)
-        self.asked = asked
-        self.answers = asked.get("answers", {})
-        self.raising = set(asked.get("raising", ()))
+        self.plan = plan
+        self.answers = plan.get("answers", {})
+        self.raising = set(plan.get("raising", ()))
         self.parsed: List[str] = []
         self.failed: List[str] = []
         self.is_stopped = False
 
     def start_requests(self) -> Iterable[scrapy.Request]:
-        for seed in self.asked["seeds"]:
+        for seed in self.plan["seeds"]:
             yield scrapy.Request(seed, self.parse, errback=self.fail, dont_filter=True)
-        for kind, url, extra in self.asked.get("extra", ()):
+        for kind, url, extra in self.plan.get("extra", ()):
             if kind == "post":
                 yield scrapy.Request(url, self.parse, method="POST", body=extra, errback=self.fail)
             elif kind == "again":
@@ -397,9 +397,9 @@ class Spider(scrapy.Spider):
 
     def record(self, callback: str, response: Any, number: int = -1) -> None:
         """Record that a callback ran, in the file of the settings, if there is one."""
-        if "record" in self.asked:
+        if "record" in self.plan:
             path = without_dots(urlsplit(response.url).path)
-            with open(self.asked["record"], "a", encoding="utf-8") as file:
+            with open(self.plan["record"], "a", encoding="utf-8") as file:
                 file.write(f"{callback} {response.request.method} {number} {path}\n")
 
     def parse_odd(self, response: Any, number: int) -> Iterable[scrapy.Request]:
@@ -417,10 +417,10 @@ class Spider(scrapy.Spider):
 
     def stored(self, response: Any) -> Iterable[scrapy.Request]:
         """Request the URLs of the settings, and stop the spider, in the callback of the seed."""
-        if self.is_stopped or "stored" not in self.asked:
+        if self.is_stopped or "stored" not in self.plan:
             return
         self.is_stopped = True
-        for kind, url in self.asked["stored"]:
+        for kind, url in self.plan["stored"]:
             if kind == "post":
                 yield scrapy.Request(url, self.parse_form, method="POST", body="a", priority=-1)
             elif kind == "odd":
@@ -434,7 +434,7 @@ class Spider(scrapy.Spider):
     def followed(self, response: Any) -> Iterable[scrapy.Request]:
         """Request the links of a page."""
         self.parsed.append(response.url)
-        if len(self.parsed) == self.asked.get("kill_after"):
+        if len(self.parsed) == self.plan.get("kill_after"):
             children = Path(f"/proc/self/task/{os.getpid()}/children").read_text(encoding="ascii")
             os.kill(int(children.split()[0]), signal.SIGKILL)
         if without_dots(urlsplit(response.url).path) in self.raising:
@@ -450,10 +450,10 @@ class Spider(scrapy.Spider):
                 url = urljoin(base, link)
             except ValueError:
                 continue
-            if self.asked.get("has_two_callbacks"):
+            if self.plan.get("has_two_callbacks"):
                 yield from self.two_kinds(url)
                 continue
-            priority = int(url.rsplit("/", 1)[1]) if self.asked.get("by_number") else 0
+            priority = int(url.rsplit("/", 1)[1]) if self.plan.get("by_number") else 0
             yield scrapy.Request(url, self.parse, errback=self.fail, priority=priority)
 
     def two_kinds(self, url: str) -> Iterable[scrapy.Request]:
@@ -470,45 +470,45 @@ class Spider(scrapy.Spider):
 
     def idle(self) -> None:
         """Add another request, like a spider that gets its requests from outside."""
-        if self.asked.get("when_idle"):
-            self.crawler.engine.crawl(scrapy.Request(self.asked["when_idle"].pop(), self.parse))
+        if self.plan.get("when_idle"):
+            self.crawler.engine.crawl(scrapy.Request(self.plan["when_idle"].pop(), self.parse))
             raise DontCloseSpider
 
     def fail(self, failure: Any) -> None:
         self.failed.append(failure.request.url)
 
 
-def crawl(asked: Dict[str, Any]) -> None:
+def crawl(plan: Dict[str, Any]) -> None:
     """Run a crawl with these settings, and write its results to the file that they name."""
     sys.path.insert(0, CLIENTS)
     settings = {
         "DNS_RESOLVER": "__main__.Resolver",
         "DOWNLOADER_MIDDLEWARES": {"__main__.Answers": 50},
-        "LOG_FILE": asked["log"],
+        "LOG_FILE": plan["log"],
         "LOG_LEVEL": "DEBUG",
         "REQUEST_FINGERPRINTER_IMPLEMENTATION": "2.7",
         "RETRY_TIMES": RETRIES,
         "TELNETCONSOLE_ENABLED": False,
-        **asked["settings"],
+        **plan["settings"],
     }
     process = CrawlerProcess(settings, install_root_handler=True)
     crawler = process.create_crawler(Spider)
-    told: Dict[str, Any] = {"dropped": 0}
+    outcome: Dict[str, Any] = {"dropped": 0}
 
     def drop(request: Any, spider: Any) -> None:
-        told["dropped"] += 1
+        outcome["dropped"] += 1
 
     def idle(spider: Any) -> None:
         spider.idle()
 
     crawler.signals.connect(drop, signal=signals.request_dropped)
     crawler.signals.connect(idle, signal=signals.spider_idle)
-    process.crawl(crawler, asked=asked)
+    process.crawl(crawler, plan=plan)
     process.start()
-    told["parsed"], told["failed"] = crawler.spider.parsed, crawler.spider.failed
+    outcome["parsed"], outcome["failed"] = crawler.spider.parsed, crawler.spider.failed
     stats = crawler.stats.get_stats()
-    told["stats"] = {name: stats[name] for name in stats if isinstance(stats[name], (int, str))}
-    Path(asked["told"]).write_text(json.dumps(told), encoding="utf-8")
+    outcome["stats"] = {name: stats[name] for name in stats if isinstance(stats[name], (int, str))}
+    Path(plan["outcome"]).write_text(json.dumps(outcome), encoding="utf-8")
 
 
 # ---------------------------------------------------------------- the tests
@@ -521,26 +521,26 @@ class Tests:
         self.servers = Servers()
         self.passed = self.failed = self.crawls = 0
 
-    def check(self, what: str, is_so: bool, told: Any = "") -> None:
+    def check(self, what: str, is_so: bool, shown: Any = "") -> None:
         if is_so:
             self.passed += 1
         else:
             self.failed += 1
-            print(f"FAILED {what}: {str(told)[:TOLD]}", flush=True)
+            print(f"FAILED {what}: {str(shown)[:SHOWN]}", flush=True)
 
-    def url(self, asked: Asked) -> str:
-        number = int(asked[0].rsplit(".", 1)[1]) - 1
-        host = asked[0] if number == HOSTS - 1 else name_of(number)
-        return f"http://{host}:{self.servers.port}{asked[1]}"
+    def url(self, target: Target) -> str:
+        number = int(target[0].rsplit(".", 1)[1]) - 1
+        host = target[0] if number == HOSTS - 1 else name_of(number)
+        return f"http://{host}:{self.servers.port}{target[1]}"
 
-    def crawl(self, site: Site, scheduler: str, asked: Told) -> Tuple[Count, Told]:
+    def crawl(self, site: Site, scheduler: str, plan: Fields) -> Tuple[Count, Fields]:
         """Crawl a site in a process of its own, and check that it ends by itself."""
         count = self.servers.counts(site)
-        return count, self.run(site, scheduler, asked)
+        return count, self.run(site, scheduler, plan)
 
-    def run(self, site: Site, scheduler: str, asked: Told) -> Told:
+    def run(self, site: Site, scheduler: str, plan: Fields) -> Fields:
         """Run a crawl and check that it ends by itself; return its results."""
-        process, files = self.start(site, scheduler, asked)
+        process, files = self.start(site, scheduler, plan)
         none = {"stats": {}, "parsed": [], "failed": [], "dropped": 0}
         try:
             _, errors = process.communicate(timeout=LONGEST)
@@ -552,22 +552,22 @@ class Tests:
         self.check(f"crawl {self.crawls} ends well", process.returncode == 0, errors[-2000:])
         if process.returncode != 0:
             return none
-        told: Told = json.loads(Path(files["told"]).read_text(encoding="utf-8"))
-        return told
+        outcome: Fields = json.loads(Path(files["outcome"]).read_text(encoding="utf-8"))
+        return outcome
 
     def start(
-        self, site: Site, scheduler: str, asked: Told
+        self, site: Site, scheduler: str, plan: Fields
     ) -> Tuple[subprocess.Popen[str], Dict[str, str]]:
         """Start a crawl, and return its process and its files."""
         self.crawls += 1
         settings = {"SCHEDULER": scheduler, "MERCATOR_PROGRAM": self.program}
-        settings.update(asked.get("settings", {}))
+        settings.update(plan.get("settings", {}))
         name = str(self.kept / str(self.crawls))
-        files = {kind: f"{name}.{kind}" for kind in ("log", "told", "asked")}
-        asked = {"seeds": [self.url(site.seed)], **asked, **files, "settings": settings}
-        Path(files["asked"]).write_text(json.dumps(asked), encoding="utf-8")
+        files = {kind: f"{name}.{kind}" for kind in ("log", "outcome", "plan")}
+        plan = {"seeds": [self.url(site.seed)], **plan, **files, "settings": settings}
+        Path(files["plan"]).write_text(json.dumps(plan), encoding="utf-8")
         process = subprocess.Popen(
-            [sys.executable, __file__, "--crawl", files["asked"]],
+            [sys.executable, __file__, "--crawl", files["plan"]],
             stdout=subprocess.DEVNULL, stderr=subprocess.PIPE, text=True,
             # A shell starts its background jobs with this signal ignored.
             preexec_fn=lambda: signal.signal(signal.SIGINT, signal.SIG_DFL),
@@ -575,15 +575,15 @@ class Tests:
         return process, files
 
     def check_mercator(
-        self, what: str, count: Count, told: Told, wanted: Optional[Dict[Asked, int]]
+        self, what: str, count: Count, outcome: Fields, expected: Optional[Dict[Target, int]]
     ) -> None:
         """Check what holds for every complete crawl with this scheduler."""
-        stats = told["stats"]
-        if wanted is not None:
+        stats = outcome["stats"]
+        if expected is not None:
             differ = {
-                asked: (count.asked[asked], wanted.get(asked, 0))
-                for asked in {*wanted, *count.asked}
-                if count.asked[asked] != wanted.get(asked, 0)
+                target: (count.requested[target], expected.get(target, 0))
+                for target in {*expected, *count.requested}
+                if count.requested[target] != expected.get(target, 0)
             }
             self.check(f"{what}: each URL once, but for retries", not differ, differ)
         self.check(f"{what}: canonical URLs", not count.odd, count.odd)
@@ -596,7 +596,7 @@ class Tests:
         parts = sum(stats.get(f"scheduler/enqueued/{place}", 0) for place in ("mercator", "memory"))
         self.check(f"{what}: the parts of enqueued", parts == inwards, (parts, inwards))
         dropped = stats.get("dupefilter/filtered", 0) + stats.get("mercator/filtered", 0)
-        counts = (dropped, told["dropped"])
+        counts = (dropped, outcome["dropped"])
         self.check(f"{what}: what is dropped is counted", counts[0] == counts[1], counts)
 
     # ---- each test
@@ -604,14 +604,14 @@ class Tests:
     def shipped_site(self) -> None:
         site = FolderSite(SITE, address_of(0))
         own, _ = self.crawl(site, OWN, {})
-        count, told = self.crawl(site, MERCATOR, {})
-        self.check_mercator("shipped site", count, told, None)
-        self.check("shipped site: pages", len(count.asked) > 15, len(count.asked))
-        twice = [asked for asked, times in count.asked.items() if times > 1]
+        count, outcome = self.crawl(site, MERCATOR, {})
+        self.check_mercator("shipped site", count, outcome, None)
+        self.check("shipped site: pages", len(count.requested) > 15, len(count.requested))
+        twice = [target for target, times in count.requested.items() if times > 1]
         self.check("shipped site: each URL once", not twice, twice)
-        differ = {*own.asked} ^ {*count.asked}
+        differ = {*own.requested} ^ {*count.requested}
         self.check("shipped site: the URLs of Scrapy's scheduler", not differ, differ)
-        failed, seen = told["failed"], told["stats"].get("dupefilter/filtered", 0)
+        failed, seen = outcome["failed"], outcome["stats"].get("dupefilter/filtered", 0)
         self.check("shipped site: no such host", "http://cogs.test/wheels" in failed, failed)
         self.check("shipped site: seen URLs", seen > 5, seen)
 
@@ -619,18 +619,18 @@ class Tests:
         for number, (pages, workers) in enumerate(((40, 1), (150, 4), (250, 64))):
             rand = Random(number)
             site = drawn_site(rand, self.servers.port, pages)
-            asked = {"settings": {"MERCATOR_WORKERS": workers}, **self.answers(site)}
+            plan = {"settings": {"MERCATOR_WORKERS": workers}, **self.answers(site)}
             what = f"random site {number}"
-            own, _ = self.crawl(site, OWN, asked)
-            count, told = self.crawl(site, MERCATOR, asked)
-            wanted = {one: times for one, times in site.wanted().items() if times}
-            self.check_mercator(what, count, told, wanted)
-            differ = {*own.asked} ^ {*count.asked}
+            own, _ = self.crawl(site, OWN, plan)
+            count, outcome = self.crawl(site, MERCATOR, plan)
+            expected = {one: times for one, times in site.expected().items() if times}
+            self.check_mercator(what, count, outcome, expected)
+            differ = {*own.requested} ^ {*count.requested}
             self.check(f"{what}: the URLs of Scrapy's scheduler", not differ, differ)
             if pages > 100:
                 # Show that the server detects simultaneous requests and repeated spellings.
                 self.check(f"{what}: Scrapy has two requests of a host", own.most > 1, own.most)
-                totals = (sum(own.asked.values()), sum(wanted.values()))
+                totals = (sum(own.requested.values()), sum(expected.values()))
                 self.check(f"{what}: Scrapy repeats spellings", totals[0] > totals[1], totals)
 
     @staticmethod
@@ -649,8 +649,8 @@ class Tests:
         site = Site((host, "/"))
         links = tuple((host, f"/p/{number}") for number in range(20))
         site.pages[site.seed] = Page("200", page_of(path for _, path in links), links)
-        for asked in links + ((other, "/form"), (host, "/form"), (host, "/" + "x" * 5000)):
-            site.pages[asked] = Page("200")
+        for target in links + ((other, "/form"), (host, "/form"), (host, "/" + "x" * 5000)):
+            site.pages[target] = Page("200")
         again = (host, "/again")
         site.pages[again] = Page("200", page_of([again[1]]), (again,))
         site.pages[(other, "/failing")] = Page("500")
@@ -658,39 +658,39 @@ class Tests:
         extra = [["post", form, body] for body in ("a", "b", "a")]  # one of them is a duplicate
         extra += [["post", self.url((other, "/form")), "a"], ["post", failing, ""]]
         for number, alias in enumerate((numeric, "127.0.263", "0x7f000107", "2130706695")):
-            asked = (numeric, f"/n/{number}")
-            links += (asked,)
-            site.pages[asked] = Page("200")
-            extra += [["get", self.url(asked), ""]]
+            target = (numeric, f"/n/{number}")
+            links += (target,)
+            site.pages[target] = Page("200")
+            extra += [["get", self.url(target), ""]]
             extra += [["post", f"http://{alias}:{self.servers.port}/form/{number}", "a"]]
         extra += [["again", self.url(again), ""]] * 3
         extra += [["get", self.url((host, "/" + "x" * 5000)), ""]] * 2
         extra += [["get", "data:text/html,text", ""]] * 2
         failing_urls = ["http://1.2.3.4.5:1/", "http://nowhere.test:1/", "ftp://nowhere.test/file"]
         extra += [["get", url, ""] for url in failing_urls]
-        count, told = self.crawl(site, MERCATOR, {"extra": extra})
-        wanted = {site.seed: 1, (host, "/" + "x" * 5000): 1, **{asked: 1 for asked in links}}
-        wanted[again] = 3  # three with dont_filter; the page's link to itself was seen
-        self.check_mercator("odd requests", count, told, wanted)
+        count, outcome = self.crawl(site, MERCATOR, {"extra": extra})
+        expected = {site.seed: 1, (host, "/" + "x" * 5000): 1, **{target: 1 for target in links}}
+        expected[again] = 3  # three with dont_filter; the page's link to itself was seen
+        self.check_mercator("odd requests", count, outcome, expected)
         posted = {(host, "/form"): 2, (other, "/form"): 1, (other, "/failing"): RETRIES + 1}
         posted.update({(numeric, f"/form/{number}"): 1 for number in range(4)})
         self.check("odd requests: posts", dict(count.posted) == posted, count.posted)
-        data = told["parsed"].count("data:text/html,text")
+        data = outcome["parsed"].count("data:text/html,text")
         self.check("odd requests: data", data == 1, data)
-        missing = set(failing_urls) - set(told["failed"])
+        missing = set(failing_urls) - set(outcome["failed"])
         self.check("odd requests: errbacks", not missing, missing)
 
     def small_frontier(self) -> None:
         """More URLs than the frontier has room for: the others wait in the scheduler."""
         rand = Random(99)
         site = drawn_site(rand, self.servers.port, 120)
-        wanted = {one: times for one, times in site.wanted().items() if times}
+        expected = {one: times for one, times in site.expected().items() if times}
         for most in (2, 8):
             settings = {"MERCATOR_WORKERS": 4, "MERCATOR_MAX_PENDING": most}
-            count, told = self.crawl(site, MERCATOR, {"settings": settings, **self.answers(site)})
+            count, outcome = self.crawl(site, MERCATOR, {"settings": settings, **self.answers(site)})
             # If two requests for a URL wait outside, the scheduler itself drops one later.
-            told["dropped"] = told["stats"].get("dupefilter/filtered", 0)
-            self.check_mercator(f"{most} pending", count, told, wanted)
+            outcome["dropped"] = outcome["stats"].get("dupefilter/filtered", 0)
+            self.check_mercator(f"{most} pending", count, outcome, expected)
 
     def within(self) -> None:
         site = Site((address_of(0), "/"))
@@ -698,9 +698,9 @@ class Tests:
         site.pages[site.seed] = Page("200", page_of(map(self.url, links)), links)
         for link in links:
             site.pages[link] = Page("200")
-        count, told = self.crawl(site, MERCATOR, {"settings": {"MERCATOR_WITHIN": "h0.test"}})
-        self.check_mercator("within", count, told, {site.seed: 1, links[0]: 1})
-        filtered = told["stats"].get("mercator/filtered")
+        count, outcome = self.crawl(site, MERCATOR, {"settings": {"MERCATOR_WITHIN": "h0.test"}})
+        self.check_mercator("within", count, outcome, {site.seed: 1, links[0]: 1})
+        filtered = outcome["stats"].get("mercator/filtered")
         self.check("within: kept out", filtered == HOSTS - 2, filtered)
 
     def priorities(self) -> None:
@@ -711,8 +711,8 @@ class Tests:
         for link in links:
             site.pages[link] = Page("200")
         settings = {"CONCURRENT_REQUESTS": 1, "MERCATOR_WORKERS": 512}
-        count, told = self.crawl(site, MERCATOR, {"by_number": True, "settings": settings})
-        self.check_mercator("priorities", count, told, {asked: 1 for asked in site.pages})
+        count, outcome = self.crawl(site, MERCATOR, {"by_number": True, "settings": settings})
+        self.check_mercator("priorities", count, outcome, {target: 1 for target in site.pages})
         # The engine may take a request as soon as the first of these was stored.
         first, *rest = count.order[1:] or links
         order = sorted({*links} - {first}, reverse=True)
@@ -722,17 +722,17 @@ class Tests:
         """A spider that adds requests when it is idle, two of them for URLs that were seen."""
         site = drawn_site(Random(5), self.servers.port, 30)
         more = [(address_of(number), f"/more/{number}") for number in range(3)]
-        urls = [self.url(asked) for asked in [*more, more[0], site.seed]]
-        count, told = self.crawl(site, MERCATOR, {"when_idle": urls, **self.answers(site)})
-        wanted = {one: times for one, times in site.wanted().items() if times}
-        self.check_mercator("idle spider", count, told, {**wanted, **{asked: 1 for asked in more}})
+        urls = [self.url(target) for target in [*more, more[0], site.seed]]
+        count, outcome = self.crawl(site, MERCATOR, {"when_idle": urls, **self.answers(site)})
+        expected = {one: times for one, times in site.expected().items() if times}
+        self.check_mercator("idle spider", count, outcome, {**expected, **{target: 1 for target in more}})
 
     def closed_spider(self) -> None:
         """A spider that is closed before the crawl is complete."""
         site = drawn_site(Random(1), self.servers.port, 150)
         settings = {"CLOSESPIDER_PAGECOUNT": 10}
-        count, told = self.crawl(site, MERCATOR, {"settings": settings, **self.answers(site)})
-        stats = told["stats"]
+        count, outcome = self.crawl(site, MERCATOR, {"settings": settings, **self.answers(site)})
+        stats = outcome["stats"]
         reason = stats.get("finish_reason")
         self.check("closed spider: why", reason == "closespider_pagecount", reason)
         self.check("closed spider: more was left", stats.get("mercator/pending", 0) > 0, stats)
@@ -742,8 +742,8 @@ class Tests:
     def lost_frontier(self) -> None:
         """The program is killed: the spider is closed with a reason of its own."""
         site = drawn_site(Random(1), self.servers.port, 150)
-        count, told = self.crawl(site, MERCATOR, {"kill_after": 10, **self.answers(site)})
-        stats = told["stats"]
+        count, outcome = self.crawl(site, MERCATOR, {"kill_after": 10, **self.answers(site)})
+        stats = outcome["stats"]
         reason = stats.get("finish_reason")
         self.check("lost frontier: the reason", reason == "mercator_ended", stats)
         self.check("lost frontier: not closed", "mercator/closed" not in stats, stats)
@@ -752,14 +752,14 @@ class Tests:
         site = Site((address_of(0), "/"))
         settings = {"MERCATOR_PROGRAM": "/no/such/program"}
         count, _ = self.crawl(site, MERCATOR, {"settings": settings})
-        self.check("missing program: no requests", not count.asked, count.asked)
+        self.check("missing program: no requests", not count.requested, count.requested)
 
     def refused_settings(self) -> None:
         """The program rejects its arguments: the spider is closed, and the log has one error."""
         site = Site((address_of(0), "/"))
-        count, told = self.crawl(site, MERCATOR, {"settings": {"MERCATOR_WORKERS": 513}})
-        reason = told["stats"].get("finish_reason")
-        is_right = reason == "mercator_ended" and not count.asked
+        count, outcome = self.crawl(site, MERCATOR, {"settings": {"MERCATOR_WORKERS": 513}})
+        reason = outcome["stats"].get("finish_reason")
+        is_right = reason == "mercator_ended" and not count.requested
         self.check("refused settings: the reason", is_right, reason)
         log = (self.kept / f"{self.crawls}.log").read_text(encoding="utf-8")
         errors = re.findall(r"^.*(?:CRITICAL:|Error\b).*", log, re.M)
@@ -789,32 +789,32 @@ class Tests:
         record.touch()
         settings = {"JOBDIR": str(folder), "MERCATOR_WORKERS": workers,
                     "MERCATOR_MAX_PENDING": most}
-        asked = {"settings": settings, "has_two_callbacks": True, "record": str(record)}
+        plan = {"settings": settings, "has_two_callbacks": True, "record": str(record)}
         count = self.servers.counts(site)
-        kills = sum(self.stop_at(site, asked, count, number, how) for number in at)
+        kills = sum(self.stop_at(site, plan, count, number, how) for number in at)
         self.check(f"{what}: it was stopped", kills >= len(at) - 1, kills)
-        told = self.run(site, MERCATOR, asked)
-        stats = told["stats"]
+        outcome = self.run(site, MERCATOR, plan)
+        stats = outcome["stats"]
         self.check(f"{what}: finished", stats.get("finish_reason") == "finished", stats)
         self.check(f"{what}: the frontier closed", stats.get("mercator/closed") is True, stats)
         self.check(f"{what}: canonical URLs", not count.odd, count.odd)
         in_progress = 0 if how == signal.SIGINT else kills * HOSTS
-        self.check_counts(f"{what}: pages", count.asked, site.wanted(), in_progress)
+        self.check_counts(f"{what}: pages", count.requested, site.expected(), in_progress)
         self.check_counts(f"{what}: forms", count.posted, forms_of(site), in_progress)
         self.check_callbacks(what, site, record, in_progress)
-        before = sum(count.asked.values()) + sum(count.posted.values())
-        self.run(site, MERCATOR, asked)
-        after = sum(count.asked.values()) + sum(count.posted.values())
+        before = sum(count.requested.values()) + sum(count.posted.values())
+        self.run(site, MERCATOR, plan)
+        after = sum(count.requested.values()) + sum(count.posted.values())
         self.check(f"{what}: nothing after the end", before == after, (before, after))
 
     def stop_at(
-        self, site: Site, asked: Told, count: Count, number: int, how: signal.Signals
+        self, site: Site, plan: Fields, count: Count, number: int, how: signal.Signals
     ) -> bool:
         """Run a crawl until the servers have had this number of requests, and send the signal.
 
         Return whether the crawl had not ended by then.
         """
-        process, _ = self.start(site, MERCATOR, asked)
+        process, _ = self.start(site, MERCATOR, plan)
         end = time.monotonic() + LONGEST
         while len(count.order) < number and process.poll() is None and time.monotonic() < end:
             time.sleep(0.002)
@@ -825,27 +825,27 @@ class Tests:
         return is_running
 
     def check_counts(
-        self, what: str, counts: Counter[Asked], wanted: Dict[Asked, int], more: int
+        self, what: str, counts: Counter[Target], expected: Dict[Target, int], more: int
     ) -> None:
-        """Check that each URL was requested as often as wanted, but for `more` requests."""
-        missing = {asked for asked, times in wanted.items() if counts[asked] < times}
+        """Check that each URL was requested as often as expected, but for `more` requests."""
+        missing = {target for target, times in expected.items() if counts[target] < times}
         self.check(f"{what}: none is missing", not missing, missing)
-        others = {*counts} - {asked for asked, times in wanted.items() if times}
+        others = {*counts} - {target for target, times in expected.items() if times}
         self.check(f"{what}: no others", not others, others)
-        again = {asked: counts[asked] - wanted[asked] for asked in wanted}
+        again = {target: counts[target] - expected[target] for target in expected}
         total = sum(times for times in again.values() if times > 0)
         self.check(f"{what}: at most {more} again", total <= more, again)
 
     def check_callbacks(self, what: str, site: Site, record: Path, more: int) -> None:
         """Check that the right callback ran for each page and form, with its argument."""
         lines = Counter(record.read_text(encoding="utf-8").splitlines())
-        wanted = [f"form POST -1 {path}" for _, path in forms_of(site)]
-        for (host, path), _ in site.wanted().items():
+        expected = [f"form POST -1 {path}" for _, path in forms_of(site)]
+        for (host, path), _ in site.expected().items():
             if site.answer((host, path)).kind != "404":
                 number = int(path.rsplit("/", 1)[1])
                 is_odd = number % 2 == 1
-                wanted.append(f"odd GET {number} {path}" if is_odd else f"even GET -1 {path}")
-        missing, others = {*wanted} - {*lines}, {*lines} - {*wanted}
+                expected.append(f"odd GET {number} {path}" if is_odd else f"even GET -1 {path}")
+        missing, others = {*expected} - {*lines}, {*lines} - {*expected}
         self.check(f"{what}: the callbacks", not missing and not others, (missing, others))
         again = sum(lines.values()) - len(lines)
         self.check(f"{what}: at most {more} callbacks again", again <= more, lines.most_common(3))
@@ -860,18 +860,18 @@ class Tests:
             (address_of(1), path) for path in ("/form", "/odd/7", "/again", "/lambda", "/each")
         ]
         site = Site(seed)
-        for asked in (seed, form, odd, again, unstored, each):
-            site.pages[asked] = Page("200", page_of([]))
+        for target in (seed, form, odd, again, unstored, each):
+            site.pages[target] = Page("200", page_of([]))
         record, folder = self.kept / "stored.record", self.kept / "stored"
         kinds = (("post", form), ("odd", odd), ("again", again), ("again", again),
                  ("lambda", unstored))
-        asked = {
+        plan = {
             "settings": {"JOBDIR": str(folder), "CONCURRENT_REQUESTS": 1}, "record": str(record),
             "stored": [[kind, self.url(one)] for kind, one in kinds],
             "extra": [["each run", self.url(each), ""]],
         }
         count = self.servers.counts(site)
-        stats = self.run(site, MERCATOR, asked)["stats"]
+        stats = self.run(site, MERCATOR, plan)["stats"]
         self.check("stored: stopped", stats.get("finish_reason") == "stopped", stats)
         self.check("stored: not closed", stats.get("mercator/closed") is False, stats)
         log = (self.kept / f"{self.crawls}.log").read_text(encoding="utf-8")
@@ -879,16 +879,16 @@ class Tests:
         self.check("stored: the function without a name", warnings == 1, warnings)
         with open(folder / "mercator.requests", "ab") as file:
             file.write(b"\xff\x00\x00\x00torn")  # the beginning of a record
-        first = count.asked.copy()
-        del asked["stored"]
-        stats = self.run(site, MERCATOR, asked)["stats"]
+        first = count.requested.copy()
+        del plan["stored"]
+        stats = self.run(site, MERCATOR, plan)["stats"]
         self.check("stored: finished", stats.get("finish_reason") == "finished", stats)
         self.check("stored: the frontier closed", stats.get("mercator/closed") is True, stats)
-        self.check("stored: the seed", count.asked[seed] == 1, count.asked)
-        others = [count.asked[odd], count.asked[unstored], count.asked[again], count.posted[form]]
+        self.check("stored: the seed", count.requested[seed] == 1, count.requested)
+        others = [count.requested[odd], count.requested[unstored], count.requested[again], count.posted[form]]
         self.check("stored: the others", others == [1, 1, 2, 1], others)
-        runs = count.asked[each] - first[each]
-        self.check("stored: sent in each run", runs == 1, count.asked)
+        runs = count.requested[each] - first[each]
+        self.check("stored: sent in each run", runs == 1, count.requested)
         lines = record.read_text(encoding="utf-8").splitlines()
         for line in ("form POST -1 /form", "odd GET 7 /odd/7", "even GET -1 /lambda"):
             self.check(f"stored: {line}", lines.count(line) == 1, lines)
@@ -905,7 +905,7 @@ class Tests:
         process.communicate(timeout=LONGEST)
         log = Path(files["log"]).read_text(encoding="utf-8")
         is_right = not count.order and "made with --workers 3" in log
-        self.check("used folder: refused", is_right, log[-TOLD:])
+        self.check("used folder: refused", is_right, log[-SHOWN:])
 
 
 def main() -> int:
@@ -918,11 +918,11 @@ def main() -> int:
     parser.add_argument("--test", action="append", metavar="NAME",
                         help="run only the test with this name; repeatable")
     parser.add_argument("--crawl", help=argparse.SUPPRESS)
-    asked = parser.parse_args()
-    if asked.crawl:
-        crawl(json.loads(Path(asked.crawl).read_text(encoding="utf-8")))
+    options = parser.parse_args()
+    if options.crawl:
+        crawl(json.loads(Path(options.crawl).read_text(encoding="utf-8")))
         return 0
-    program = shutil.which(asked.program or os.environ.get("MERCATOR") or BUILT)
+    program = shutil.which(options.program or os.environ.get("MERCATOR") or BUILT)
     if program is None:
         parser.error("no program: build it, or give --program or MERCATOR")
     kept = Path(tempfile.mkdtemp(prefix="scrapy_site."))
@@ -932,9 +932,9 @@ def main() -> int:
                  tests.lost_frontier, tests.missing_program, tests.refused_settings,
                  tests.stopped_crawl, tests.killed_crawl, tests.small_resumed_crawl,
                  tests.stored_requests, tests.used_folder):
-        if not asked.test or test.__name__ in asked.test:
+        if not options.test or test.__name__ in options.test:
             test()
-    if asked.keep or tests.failed:
+    if options.keep or tests.failed:
         print(f"logs of the crawls: {kept}")
     else:
         shutil.rmtree(kept)
