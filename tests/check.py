@@ -45,7 +45,7 @@ from checking.known import KNOWN, Known, To, Zeros
 from checking.known_fixes import FIXED, Fixed
 from checking.model import FLAGS, INDEX_FILES, LEADS_NOWHERE, LEADS_OUT, NOWHERE, Map, Model, Moved, Row, Settings, Site, is_short, last_of
 from checking.tags import document_tags
-from checking.webs import Converter, first_difference, model_fault
+from checking.webs import Converter, first_difference, model_error
 
 BASE = "http://docs.test/"
 LINE_ONLY = ("json", "follow", "workers")  # options that a configuration file cannot have
@@ -165,14 +165,14 @@ class Series:
     def __init__(self, name: str) -> None:
         self.name, self.passed, self.failed, self.skipped = name, 0, 0, 0
 
-    def add(self, what: str, fault: Optional[str], again: Sequence[str] = ()) -> None:
+    def add(self, what: str, error: Optional[str], again: Sequence[str] = ()) -> None:
         """Counts one comparison. `again` are the options that make only this one."""
-        if fault is None:
+        if error is None:
             self.passed += 1
             return
         self.failed += 1
         if self.failed <= SHOWN:
-            print(f"{self.name}, {what}: {fault if len(fault) < LONGEST else fault[:LONGEST] + '..'}")
+            print(f"{self.name}, {what}: {error if len(error) < LONGEST else error[:LONGEST] + '..'}")
             if again:
                 named = f"PROGRAM={shlex.quote(os.environ['PROGRAM'])} " if "PROGRAM" in os.environ else ""
                 print(f"to run only this: {named}{shlex.join([sys.argv[0], *again])}")
@@ -211,7 +211,7 @@ def write_known(known: Union[Known, Fixed], top: Path) -> str:
     return str(top)
 
 
-def known_fault(known: Known, rows: List[Row]) -> Optional[str]:
+def known_error(known: Known, rows: List[Row]) -> Optional[str]:
     """A result of the folder that these rows do not have."""
     if broken_links(rows) != sorted(known.broken):
         return f"{broken_links(rows)}, expected {sorted(known.broken)}"
@@ -224,10 +224,10 @@ def known_fault(known: Known, rows: List[Row]) -> Optional[str]:
     return None
 
 
-Faults = List[Tuple[str, Optional[str]]]  # of each comparison what was compared, and the error if there is one
+Errors = List[Tuple[str, Optional[str]]]  # of each comparison what was compared, and the error if there is one
 
 
-def known_faults(program: Optional[str], number: int) -> Faults:
+def known_errors(program: Optional[str], number: int) -> Errors:
     """Compares the model with the known results of a folder, and with the program, if there is one."""
     known = KNOWN[number]
     with tempfile.TemporaryDirectory() as scratch:
@@ -235,13 +235,13 @@ def known_faults(program: Optional[str], number: int) -> Faults:
         settings = Settings(BASE)._replace(**dict(known.settings))
         settings = settings._replace(maps=tuple(Map(prefix, os.path.join(scratch, name)) for prefix, name in settings.maps))
         shown = settings if settings.front else settings._replace(front=BASE)
-        faults = [(f"{known.name}, model", known_fault(known, Model(folder, shown).rows()))]
+        errors = [(f"{known.name}, model", known_error(known, Model(folder, shown).rows()))]
         if program:
-            faults.append((known.name, difference(printed_rows(program, settings, folder), Model(folder, settings).rows())))
-        return faults
+            errors.append((known.name, difference(printed_rows(program, settings, folder), Model(folder, settings).rows())))
+        return errors
 
 
-def fixed_faults(program: Optional[str], number: int) -> Faults:
+def fixed_errors(program: Optional[str], number: int) -> Errors:
     """Compares what the model's --fix does in a folder with the known results, and with the program, if there is one."""
     fixed = FIXED[number]
     with tempfile.TemporaryDirectory() as scratch:
@@ -250,23 +250,23 @@ def fixed_faults(program: Optional[str], number: int) -> Faults:
         found = fixes.fixes_of(Model(folder, settings))
         actual = {os.fsdecode(change.name): change.new for change in found.changes}
         expected = {name: content if isinstance(content, bytes) else content.encode() for name, content in fixed.changed.items()}
-        fault = f"{actual} {found.notes}, expected {expected} {fixed.notes}"
-        faults: Faults = [(f"{fixed.name}, model", None if (actual, found.notes) == (expected, fixed.notes) else fault)]
+        error = f"{actual} {found.notes}, expected {expected} {fixed.notes}"
+        errors: Errors = [(f"{fixed.name}, model", None if (actual, found.notes) == (expected, fixed.notes) else error)]
         if program:
-            faults.append((fixed.name, fix_fault(program, settings, folder)))
-        return faults
+            errors.append((fixed.name, fix_error(program, settings, folder)))
+        return errors
 
 
 def compare_known(program: Optional[str], jobs: int, name: Optional[str]) -> None:
     """Compares the folders with known results, or only the one with this name, with several processes."""
     series = Series("folders with known results")
     with ProcessPoolExecutor(jobs) as pool:
-        for folders, compare in ((KNOWN, known_faults), (FIXED, fixed_faults)):
+        for folders, compare in ((KNOWN, known_errors), (FIXED, fixed_errors)):
             numbers = [number for number, known in enumerate(folders) if name in (None, known.name)]
-            for number, faults in zip(numbers, pool.map(partial(compare, program), numbers)):
+            for number, errors in zip(numbers, pool.map(partial(compare, program), numbers)):
                 again = ["--part", "known", "--known", folders[number].name, *([] if program else ["--model"])]
-                for what, fault in faults:
-                    series.add(what, fault, again)
+                for what, error in errors:
+                    series.add(what, error, again)
     series.end()
 
 
@@ -306,7 +306,7 @@ def random_settings(draw: Random) -> Settings:
     return Settings(base, front, ignores, seeds=seeds, workers=draw.choice((1, 1, 2, 4, 64)))._replace(**flags)
 
 
-class Drawn(NamedTuple):
+class RandomFolder(NamedTuple):
     """A random folder, the settings of its check, and the options of its saved web."""
 
     folder: str
@@ -314,7 +314,7 @@ class Drawn(NamedTuple):
     options: List[str]
 
 
-def draw_number(seed: int, number: int, above: str) -> Drawn:
+def draw_number(seed: int, number: int, above: str) -> RandomFolder:
     """Makes the random folder with this number."""
     draw = Random(f"{seed} {number}")
     folder = Path(above, "site")
@@ -333,7 +333,7 @@ def draw_number(seed: int, number: int, above: str) -> Drawn:
     draw = Random(f"misspelled {seed} {number}")
     if draw.random() < 0.2:
         drawing.add_misspelled_links(draw, folder)
-    return Drawn(str(folder), settings._replace(maps=maps), options)
+    return RandomFolder(str(folder), settings._replace(maps=maps), options)
 
 
 def draw_maps(draw: Random, above: Path, base: str) -> Tuple[Map, ...]:
@@ -350,7 +350,7 @@ def draw_maps(draw: Random, above: Path, base: str) -> Tuple[Map, ...]:
     return tuple(maps)
 
 
-def draw_moved(seed: int, number: int, above: str) -> Drawn:
+def draw_moved(seed: int, number: int, above: str) -> RandomFolder:
     """Makes the random folder with this number, and moves some of its files. Symbolic links out of it are not followed."""
     made = draw_number(seed, number, above)
     settings = made.settings._replace(follow=False, seeds=())
@@ -363,7 +363,7 @@ class Outcome(NamedTuple):
     """What was found in a random folder. Its report is None if it has a URL that the model does not support."""
 
     number: int
-    faults: Faults
+    errors: Errors
     kinds: Counter[str]
     is_skipped: bool
 
@@ -374,7 +374,7 @@ def converter() -> Converter:
     return Converter()
 
 
-def web_fault(program: str, folder: str, options: List[str]) -> Optional[str]:
+def web_error(program: str, folder: str, options: List[str]) -> Optional[str]:
     """An error in the saved web of a folder."""
     done = run(program, ["site", *options, folder, BASE])
     if done.returncode != 0:
@@ -382,29 +382,29 @@ def web_fault(program: str, folder: str, options: List[str]) -> Optional[str]:
     return first_difference(done.stdout, converter().web(folder, options, BASE))
 
 
-def form_fault(program: str, settings: Settings, folder: str, rows: List[Row]) -> Optional[str]:
+def form_error(program: str, settings: Settings, folder: str, rows: List[Row]) -> Optional[str]:
     """An error in the other forms of the report of a folder: another output than these rows give, or a control character."""
     with tempfile.TemporaryDirectory() as scratch:
-        for name, (form, fault_of) in FORMS.items():
+        for name, (form, error_of) in FORMS.items():
             done = run(program, arguments(settings, folder, scratch, form))
             allowed = "\n\t" if name.startswith("page") else "\n"
-            fault = forms.control_fault(done.stdout, allowed) or forms.control_fault(done.stderr) or fault_of(done.stdout.decode(), rows, folder)
-            if fault:
-                return f"{name}: {fault}"
+            error = forms.control_error(done.stdout, allowed) or forms.control_error(done.stderr) or error_of(done.stdout.decode(), rows, folder)
+            if error:
+                return f"{name}: {error}"
     return None
 
 
-def text_fault(options: printing.Options, actual: str, rows: List[Row], _: str) -> Optional[str]:
+def text_error(options: printing.Options, actual: str, rows: List[Row], _: str) -> Optional[str]:
     """An error in the report as text."""
-    return line_fault(actual, printing.as_text(rows, options))
+    return line_error(actual, printing.as_text(rows, options))
 
 
-def annotation_fault(actual: str, rows: List[Row], folder: str) -> Optional[str]:
+def annotation_error(actual: str, rows: List[Row], folder: str) -> Optional[str]:
     """An error in the report as annotations."""
-    return line_fault(actual, printing.as_annotations(rows, folder))
+    return line_error(actual, printing.as_annotations(rows, folder))
 
 
-def line_fault(actual: str, expected: str) -> Optional[str]:
+def line_error(actual: str, expected: str) -> Optional[str]:
     """The first line in which two texts differ."""
     for one, other in zip(actual.split("\n"), expected.split("\n")):
         if one != other:
@@ -415,20 +415,20 @@ def line_fault(actual: str, expected: str) -> Optional[str]:
 SOURCES = "https://code.test/site/blob/main/"
 # The forms of a report: its options, and what finds an error in it
 FORMS: Dict[str, Tuple[Tuple[str, ...], Callable[[str, List[Row], str], Optional[str]]]] = {
-    "text": ((), partial(text_fault, printing.Options())),
-    "all": (("--all-sources", "--format=text"), partial(text_fault, printing.Options(all_sources=True))),
-    "by target": (("--by-target",), partial(text_fault, printing.Options(by_target=True))),
-    "all by target": (("--by-target", "--all-sources"), partial(text_fault, printing.Options(True, True))),
-    "annotations": (("--annotations",), annotation_fault),
-    "page": (("--html",), forms.page_fault),
-    "JUnit": (("--format", "junit"), structures.junit_fault),
-    "SARIF": (("--format", "sarif"), structures.sarif_fault),
-    "SARIF with sources": (("--format", "sarif", "--source-url", SOURCES), partial(structures.sarif_fault, sources=SOURCES)),
-    "page with sources": (("--format", "html", "--source-url", SOURCES), partial(forms.page_fault, sources=SOURCES)),
+    "text": ((), partial(text_error, printing.Options())),
+    "all": (("--all-sources", "--format=text"), partial(text_error, printing.Options(all_sources=True))),
+    "by target": (("--by-target",), partial(text_error, printing.Options(by_target=True))),
+    "all by target": (("--by-target", "--all-sources"), partial(text_error, printing.Options(True, True))),
+    "annotations": (("--annotations",), annotation_error),
+    "page": (("--html",), forms.page_error),
+    "JUnit": (("--format", "junit"), structures.junit_error),
+    "SARIF": (("--format", "sarif"), structures.sarif_error),
+    "SARIF with sources": (("--format", "sarif", "--source-url", SOURCES), partial(structures.sarif_error, sources=SOURCES)),
+    "page with sources": (("--format", "html", "--source-url", SOURCES), partial(forms.page_error, sources=SOURCES)),
 }
 
 
-def list_fault(program: str, draw: Random, folder: str, settings: Settings) -> Optional[str]:
+def list_error(program: str, draw: Random, folder: str, settings: Settings) -> Optional[str]:
     """An error in the check of a random list of a folder's pages."""
     with_base = settings._replace(base=BASE, front="", maps=()) if settings.is_rooted() else settings
     listed = archives.draw_list(draw, folder, with_base)
@@ -457,7 +457,7 @@ def fix_notes(done: "subprocess.CompletedProcess[bytes]") -> List[str]:
     return FIX_NOTE.findall(done.stderr.decode(errors="replace"))
 
 
-def dry_fault(program: str, words: List[str], expected: fixes.Fixes, folder: str) -> Optional[str]:
+def dry_error(program: str, words: List[str], expected: fixes.Fixes, folder: str) -> Optional[str]:
     """An error of --fix --dry-run: in its output, its status or its notes, or a change of the folder."""
     before = snapshot(folder)
     done = run(program, [*words, "--fix", "--dry-run"])
@@ -469,15 +469,15 @@ def dry_fault(program: str, words: List[str], expected: fixes.Fixes, folder: str
     return None if snapshot(folder) == before else "--dry-run changed the folder"
 
 
-def fix_fault(program: str, settings: Settings, folder: str) -> Optional[str]:
+def fix_error(program: str, settings: Settings, folder: str) -> Optional[str]:
     """An error of --fix, which changes the folder: other changes or notes than the model's, or another report than that of the changed folder."""
     model = Model(folder, settings)
     expected = fixes.fixes_of(model)
     with tempfile.TemporaryDirectory() as scratch:
         words = arguments(settings, folder, scratch)
-        fault = dry_fault(program, words, expected, folder) if model.fault is None else None
-        if fault:
-            return fault
+        error = dry_error(program, words, expected, folder) if model.error is None else None
+        if error:
+            return error
         before = snapshot(folder)
         done = run(program, [*words, "--fix"])
         for change in expected.changes:
@@ -491,11 +491,11 @@ def fix_fault(program: str, settings: Settings, folder: str) -> Optional[str]:
         if sorted(fix_notes(done)) != sorted(notes):
             return f"notes: actual {fix_notes(done)}, expected {notes}"
         changed = Model(folder, settings)
-        fault = difference(rows_of(done), changed.rows())
-        return fault or (dry_fault(program, words, fixes.fixes_of(changed), folder) if changed.fault is None else None)
+        error = difference(rows_of(done), changed.rows())
+        return error or (dry_error(program, words, fixes.fixes_of(changed), folder) if changed.error is None else None)
 
 
-def moved_fault(program: str, seed: int, number: int, kinds: Counter[str]) -> Optional[str]:
+def moved_error(program: str, seed: int, number: int, kinds: Counter[str]) -> Optional[str]:
     """An error of --fix in the random folder with this number, in which files were moved. Counts the links that are rewritten, and the notes."""
     with tempfile.TemporaryDirectory() as above:
         made = draw_moved(seed, number, above)
@@ -504,7 +504,7 @@ def moved_fault(program: str, seed: int, number: int, kinds: Counter[str]) -> Op
         kinds.update(found.kinds)
         kinds["fix_left"] += sum(": links left" in note for note in found.notes)
         kinds["fix_link"] += sum("symbolic link" in note for note in found.notes)
-        return fix_fault(program, made.settings, made.folder)
+        return fix_error(program, made.settings, made.folder)
 
 
 def suggestion_kind(name: str, page: str) -> str:
@@ -533,29 +533,29 @@ def compare_number(program: str, seed: int, number: int) -> Outcome:
     """Compares the random folder with this number."""
     with tempfile.TemporaryDirectory() as above:
         folder, settings, options = draw_number(seed, number, above)
-        faults: Faults = []
+        errors: Errors = []
         try:
-            faults.append((f"site {' '.join(options)}", web_fault(program, folder, options)))
+            errors.append((f"site {' '.join(options)}", web_error(program, folder, options)))
             model = Model(folder, settings)
             rows = model.rows()
-            faults.append((f"check --index {settings}", list_fault(program, Random(f"list {seed} {number}"), folder, settings)))
+            errors.append((f"check --index {settings}", list_error(program, Random(f"list {seed} {number}"), folder, settings)))
         except drawn.NotPlain:
-            return Outcome(number, faults, Counter(), True)
-        faults.append((f"check {settings}", difference(printed_rows(program, settings, folder), rows)))
+            return Outcome(number, errors, Counter(), True)
+        errors.append((f"check {settings}", difference(printed_rows(program, settings, folder), rows)))
         if number % EVERY == 0 and rows[0]["kind"] == "total":
-            faults.append((f"forms {settings}", form_fault(program, settings, folder, rows)))
+            errors.append((f"forms {settings}", form_error(program, settings, folder, rows)))
         if number % EVERY == 1:
-            faults.append((f"check --config {settings}", difference(printed_rows(program, settings, folder, in_file=True), rows)))
+            errors.append((f"check --config {settings}", difference(printed_rows(program, settings, folder, in_file=True), rows)))
         kinds = Counter(map(kind_of, rows))
         if number % EVERY in (2, 6):
             try:
-                faults.append((f"check --fix {settings}", moved_fault(program, seed, number, kinds)))
+                errors.append((f"check --fix {settings}", moved_error(program, seed, number, kinds)))
             except drawn.NotPlain:
                 kinds["fix_skipped"] += 1
         kinds["with_aliases"] += rows[0].get("aliases", 0) > 0
         kinds["mapped"] += sum(response is None and model.mapped.has(url) for url, response in model.others.items())
         kinds.update(kind for row in rows for kind in details(row))
-        return Outcome(number, faults, kinds, False)
+        return Outcome(number, errors, kinds, False)
 
 
 def compare_models(seed: int, number: int) -> Outcome:
@@ -567,20 +567,20 @@ def compare_models(seed: int, number: int) -> Outcome:
             served = Model(folder, SERVER)
         except drawn.NotPlain:
             return Outcome(number, [], Counter(), True)
-        faults: Faults = [
-            ("model", model_fault(model, converter().web(folder, site_options(settings), BASE))),
-            ("server", server_fault(served, folder)),
-            ("definitions of a server", twins.server_fault(model)),
-            ("definitions of feeds", feed_twins.feed_fault(model.site)),
+        errors: Errors = [
+            ("model", model_error(model, converter().web(folder, site_options(settings), BASE))),
+            ("server", server_error(served, folder)),
+            ("definitions of a server", twins.server_error(model)),
+            ("definitions of feeds", feed_twins.feed_error(model.site)),
         ]
-        return Outcome(number, faults, Counter(), False)
+        return Outcome(number, errors, Counter(), False)
 
 
 # The rules of Python's static server
 SERVER = Settings(BASE, follow=True, indices=("index.html", "index.htm"))
 
 
-def server_fault(model: Model, folder: str) -> Optional[str]:
+def server_error(model: Model, folder: str) -> Optional[str]:
     """A URL for which Python's static server returns something else than the model."""
     with samples.server(folder, "/") as connection:
         for url, response in model.responses.items():
@@ -634,10 +634,10 @@ def compare_random(program: Optional[str], numbers: range, seed: int, jobs: int)
         for outcome in pool.map(compare, numbers, chunksize=8):
             kinds += outcome.kinds
             series.skipped += outcome.is_skipped
-            for what, fault in outcome.faults:
-                kept = f", {keep(seed, outcome.number)}" if fault and series.failed < SHOWN else ""
+            for what, error in outcome.errors:
+                kept = f", {keep(seed, outcome.number)}" if error and series.failed < SHOWN else ""
                 again = ["--part", "random", "--seed", str(seed), "--first", str(outcome.number), "--drawn", "1"]
-                series.add(f"number {outcome.number}, {what}{kept}", fault, again if program else [*again, "--model"])
+                series.add(f"number {outcome.number}, {what}{kept}", error, again if program else [*again, "--model"])
     if program:
         print("rows of random folders:", dict(sorted(kinds.items())))
     if program and len(numbers) >= 1000:
@@ -685,8 +685,8 @@ def compare_forms(program: str, folder: str) -> None:
     with tempfile.TemporaryDirectory() as scratch:
         page = run(program, arguments(settings, folder, scratch, ("--html",))).stdout.decode()
     again = [*ONLY_FOLDERS, "--changed", "0", folder]
-    series.add(f"page of {folder}", forms.page_fault(page, Model(folder, settings).rows(), folder), again)
-    series.add(f"colour of {folder}", forms.colour_fault(program, folder), again)
+    series.add(f"page of {folder}", forms.page_error(page, Model(folder, settings).rows(), folder), again)
+    series.add(f"colour of {folder}", forms.colour_error(program, folder), again)
     series.end()
 
 
@@ -701,7 +701,7 @@ def compare_tags(count: int, seed: int) -> None:
 
     series, draw = Series("tags of documents"), Random(seed)
     for number in range(count):
-        text = links.drawn_document(draw, number % 2 == 1)
+        text = links.random_document(draw, number % 2 == 1)
         tags = (tag for tag in document_tags(text) if not tag.is_end)
         ours = [(tag.name, {one.name: one.value for one in reversed(tag.attributes)}) for tag in tags]
         series.add(repr(text), None if ours == theirs(text) else f"model {ours}, expected {theirs(text)}")

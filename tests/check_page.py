@@ -138,13 +138,13 @@ class Browser:
         self.profile.cleanup()
 
 
-class Faults:
+class Errors:
     """Counts and prints the errors of a page."""
 
     def __init__(self) -> None:
         self.count = 0
 
-    def want(self, what: str, given: object, wanted: object) -> None:
+    def expect(self, what: str, given: object, wanted: object) -> None:
         """Prints an error if two values differ."""
         if given != wanted:
             self.count += 1
@@ -193,19 +193,19 @@ def folders_of(text: str) -> List[List[object]]:
     return [[name, f"{count} target{'' if count == 1 else 's'}", links[name]] for name, count in targets.items()]
 
 
-def look_at_lists(browser: Browser, page: str, faults: Faults) -> Lines:
+def look_at_lists(browser: Browser, page: str, errors: Errors) -> Lines:
     """Compares the plain lists with the text that Python reads in the page, and the bars with the list of external links."""
     read = Lines()
     read.feed(Path(page).read_text("utf-8"))
-    faults.want("plain lists", browser.ask(LISTS), read.texts)
+    errors.expect("plain lists", browser.ask(LISTS), read.texts)
     hosts = hosts_of(read.texts.get("external", ""))
-    faults.want("hosts", browser.ask(HOSTS), hosts)
+    errors.expect("hosts", browser.ask(HOSTS), hosts)
     widths = [f"{100 * links / max(hosts.values()):.2f}" for links in sorted(hosts.values(), reverse=True)]
-    faults.want("bars", [f"{float(width[:-1]):.2f}" for width in browser.ask(WIDTHS)], widths)
+    errors.expect("bars", [f"{float(width[:-1]):.2f}" for width in browser.ask(WIDTHS)], widths)
     return read
 
 
-def search(browser: Browser, read: Lines, faults: Faults) -> None:
+def search(browser: Browser, read: Lines, errors: Errors) -> None:
     """Searches the list of broken links, and shows it in each view and order."""
     targets = targets_of(read.texts["broken"])
     counted = f"{len(targets)} target{'' if len(targets) == 1 else 's'}"
@@ -213,26 +213,26 @@ def search(browser: Browser, read: Lines, faults: Faults) -> None:
     for words in ["html", targets[0].split("\n")[0], "no such anchor", "\u2400nowhere"]:
         took = browser.change("q", words)
         found = sum(all(word in target for word in words.lower().split()) for target in targets)
-        faults.want(f"search for {words!r}", browser.ask(FOUND), f"{found} of {counted}")
+        errors.expect(f"search for {words!r}", browser.ask(FOUND), f"{found} of {counted}")
         print(f"search for {words!r}: {browser.ask(DRAWN)}; {took:.0f} ms")
     browser.change("q", "")
     took = browser.change("by", "folder")
     folders = folders_of(read.texts["broken"])
     print(f"by=folder: {browser.ask(DRAWN)}; {took:.0f} ms")
-    faults.want("groups of targets", browser.ask(ROWS), folders[:STEP])
-    faults.want("number of groups", browser.ask(FOUND), f"{len(folders)} of {len(folders)} folder{'' if len(folders) == 1 else 's'}")
+    errors.expect("groups of targets", browser.ask(ROWS), folders[:STEP])
+    errors.expect("number of groups", browser.ask(FOUND), f"{len(folders)} of {len(folders)} folder{'' if len(folders) == 1 else 's'}")
     for field, value in [("by", "file"), ("order", "most"), ("by", "folder"), ("by", "target")]:
         took = browser.change(field, value)
         print(f"{field}={value}: {browser.ask(DRAWN)}; {took:.0f} ms")
         shown = browser.ask(SOURCES)
-        faults.want("links to sources", bool(shown), bool(read.links))
-        faults.want("links to other sources than in the list", Counter(shown) - Counter(read.links), Counter())
-    faults.want("all targets again", browser.ask(FOUND), f"{len(targets)} of {counted}")
+        errors.expect("links to sources", bool(shown), bool(read.links))
+        errors.expect("links to other sources than in the list", Counter(shown) - Counter(read.links), Counter())
+    errors.expect("all targets again", browser.ask(FOUND), f"{len(targets)} of {counted}")
 
 
 def look(page: str, shots: Optional[str]) -> int:
     """Tests a page and returns the number of errors."""
-    browser, faults = Browser(), Faults()
+    browser, errors = Browser(), Errors()
 
     def shot(name: str) -> None:
         if shots:
@@ -240,21 +240,21 @@ def look(page: str, shots: Optional[str]) -> int:
             Path(shots, name + ".png").write_bytes(base64.b64decode(data))
 
     print(f"loaded after {browser.open(page):.2f} s; {browser.ask('document.title')!r}")
-    faults.want("the script ran", browser.ask("document.documentElement.className"), "js")
-    read = look_at_lists(browser, page, faults)
+    errors.expect("the script ran", browser.ask("document.documentElement.className"), "js")
+    read = look_at_lists(browser, page, errors)
     shot("light")
     if "broken" in read.texts:
-        search(browser, read, faults)
+        search(browser, read, errors)
     browser.call("Emulation.setEmulatedMedia", features=[{"name": "prefers-color-scheme", "value": "dark"}])
     shot("dark")
     browser.size(360, 700, True)
-    faults.want("wider than a narrow screen", browser.ask("document.documentElement.scrollWidth > innerWidth"), False)
+    errors.expect("wider than a narrow screen", browser.ask("document.documentElement.scrollWidth > innerWidth"), False)
     shot("narrow")
-    faults.want("foreign elements", browser.ask(FOREIGN), 0)
-    faults.want("links are http or fragments", browser.ask(LINKS), True)
-    faults.want("console", [event["params"] for event in browser.events if event["method"] in SAID], [])
+    errors.expect("foreign elements", browser.ask(FOREIGN), 0)
+    errors.expect("links are http or fragments", browser.ask(LINKS), True)
+    errors.expect("console", [event["params"] for event in browser.events if event["method"] in SAID], [])
     browser.close()
-    return faults.count
+    return errors.count
 
 
 def made_of(folder: str, page: str) -> None:

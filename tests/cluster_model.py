@@ -9,7 +9,7 @@ Redis, by a restart or while it runs.
     own     no URL is lost: in no state does the crawl look complete, or is recorded as complete, or
             is a gate closed before all URLs are fetched; and from each state, ordinary steps lead
             to the end
-    faults  each of the bugs that are planted in the protocol is found
+    bugs    each of the bugs that are planted in the protocol is found
     loss    like `own`, while Redis restarts without its last entries or with none, or loses all
             keys while it runs
     naive   a single counter of pending URLs, in three variants, fails in each; prints short traces
@@ -178,11 +178,11 @@ class Own:
 
     def __init__(
         self, of: Web, crashes: int = 1, doubles: int = 1, losses: int = 0,
-        fault: Optional[str] = None, to_the_close: bool = False,
+        bug: Optional[str] = None, to_the_close: bool = False,
     ) -> None:
         self.web, self.count = of, len(of.seeds)
         self.all, self.everyone = of.reached(), (1 << self.count) - 1
-        self.fault, self.to_the_close = fault, to_the_close
+        self.bug, self.to_the_close = bug, to_the_close
         self.crashes, self.doubles, self.losses = crashes, doubles, losses
         self.linked = [sum(1 << link for link in set(links)) for links in of.links]
 
@@ -193,7 +193,7 @@ class Own:
 
     def started(self, frontier: Frontier) -> Client:
         """Return the memory of a client at its start, which has the answer to `again`."""
-        sent = frontier.sent if self.fault == "assumes that the URLs in its log were sent" else 0
+        sent = frontier.sent if self.bug == "assumes that the URLs in its log were sent" else 0
         page = (self.web.links[frontier.hand], ()) if frontier.hand >= 0 else ()
         return Client(page=page, sent=sent)
 
@@ -213,7 +213,7 @@ class Own:
             return None
         if state.complete:
             return "recorded as complete before all URLs were fetched"
-        if self.is_complete(state) and self.fault != "looks at the streams one by one":
+        if self.is_complete(state) and self.bug != "looks at the streams one by one":
             return "looks complete before all URLs were fetched"
         if any(part.frontier.is_closed() for part in state.parts):
             return "a gate closed before all URLs were fetched"
@@ -286,12 +286,12 @@ class Own:
             return out
         for me, (frontier, client) in enumerate(state.parts):
             if client is None:
-                if frontier.ended and self.fault == STAYS_ENDED:
+                if frontier.ended and self.bug == STAYS_ENDED:
                     continue
                 after = self.with_part(state, me, frontier, self.started(frontier))
                 out.append((f"part {me} starts again", "step", after))
                 continue
-            if client.stale and self.fault != "does not notice that Redis lost its keys":
+            if client.stale and self.bug != "does not notice that Redis lost its keys":
                 after = self.with_part(state, me, frontier, None)
                 out.append((f"part {me} notices that Redis lost its keys", "step", after))
             self.reader_steps(state, me, frontier, client, out)
@@ -377,19 +377,19 @@ class Own:
             out.append((f"part {me}: {what}", kind, self.with_part(s, me, f, c)))
 
         is_ready = state.ready >> me & 1
-        is_early = self.fault == "is ready before it sends its seeds"
+        is_early = self.bug == "is ready before it sends its seeds"
         has_to_send = self.has_to_send(me, frontier, client)
         if has_to_send and (is_early and not frontier.seen if is_ready else not is_early):
-            again = 0 if self.fault == "sends nothing again" else frontier.sent
-            if self.fault == "sends no refused URL again":
+            again = 0 if self.bug == "sends nothing again" else frontier.sent
+            if self.bug == "sends no refused URL again":
                 again &= sum(1 << url for url, part in enumerate(self.web.part) if part != me)
             go("sends its seeds", c=client._replace(begun=1), s=self.begin(state, me, again))
-        elif not is_ready and (not client.stale or self.fault == HAS_NO_EPOCH):
+        elif not is_ready and (not client.stale or self.bug == HAS_NO_EPOCH):
             go("is ready", s=self.make_ready(state, me))
         if state.doubles and client.cursor:
             go("reads its stream from the start once more", c=client._replace(cursor=0, reading=()),
                s=state._replace(doubles=state.doubles - 1), kind="double")
-        if self.fault == "offers entries out of order":
+        if self.bug == "offers entries out of order":
             if client.reading and not client.aside:
                 go(f"sets entry {client.reading[0]} aside",
                    c=client._replace(reading=(), aside=client.reading))
@@ -400,7 +400,7 @@ class Own:
             number, urls, outbox = client.reading
             if urls:
                 answer, after = self.ask(me, frontier, urls[0])
-                if answer != "full" or self.fault == "drops refused URLs":
+                if answer != "full" or self.bug == "drops refused URLs":
                     outbox = self.brought(outbox, me, client, urls[0])
                     go(f"offer {self.names(urls[:1])} -> {answer} (entry {number})", f=after,
                        c=client._replace(reading=(number, urls[1:], outbox)))
@@ -409,7 +409,7 @@ class Own:
                 after_sending = self.has_sent(client, to, sent)
                 go(f"XADD {self.names(sent)} to part {to} (entry {number})", c=after_sending,
                    s=self.add(state, to, sent))
-                finishes_early = self.fault == "finishes an entry before its URLs are sent on"
+                finishes_early = self.bug == "finishes an entry before its URLs are sent on"
                 if finishes_early and not client.page:
                     offered = client.offered + (number,)
                     go(f"is done with entry {number}",
@@ -437,10 +437,10 @@ class Own:
             out.append((f"part {me}: {what}", "step", self.with_part(s, me, frontier, c)))
 
         kept = max(client.offered, default=0)
-        if self.fault == "keeps the entry that was read last":
+        if self.bug == "keeps the entry that was read last":
             kept = client.offered[-1] if client.offered else 0
         for number in client.offered:
-            if number != kept or self.fault == "keeps no entry":
+            if number != kept or self.bug == "keeps no entry":
                 rest = tuple(other for other in client.offered if other != number)
                 go(f"XDEL entry {number}", client._replace(offered=rest),
                    self.remove(state, me, (number,)))
@@ -452,7 +452,7 @@ class Own:
                self.remove(state, me, client.wire))
 
     def is_quiet(self, frontier: Frontier, client: Client) -> bool:
-        if self.fault == "is quiet while it fetches":
+        if self.bug == "is quiet while it fetches":
             return not frontier.queue
         return frontier.is_quiet() and not client.page
 
@@ -478,7 +478,7 @@ class Own:
             url = links[0]
             answer, after = self.ask(me, frontier, url)
             outbox = self.brought(outbox, me, client, url)
-            if answer == "full" and self.fault != "drops refused URLs":
+            if answer == "full" and self.bug != "drops refused URLs":
                 outbox = put(outbox, me, url)
             go(f"offer {self.names((url,))} -> {answer} (a link of {self.names((frontier.hand,))})",
                f=after, c=client._replace(page=(links[1:], outbox)))
@@ -490,7 +490,7 @@ class Own:
                 twice = self.add(after_adding, to, sent)._replace(doubles=state.doubles - 1)
                 go(f"XADD {self.names(sent)} to part {to}, twice", c=after_sending, s=twice,
                    kind="double")
-        early = self.fault == "done before its links are sent"
+        early = self.bug == "done before its links are sent"
         if not links and frontier.hand >= 0 and (not outbox or early):
             done = frontier._replace(hand=-1, done=frontier.done | 1 << frontier.hand)
             go(f"done ({self.names((frontier.hand,))})", f=done,
@@ -505,13 +505,13 @@ class Own:
             out.append((f"part {me}: {what}", "step", self.with_part(s, me, f, c)))
 
         if frontier.ended:
-            if frontier.is_closed() and not state.complete and self.fault is None:
+            if frontier.is_closed() and not state.complete and self.bug is None:
                 go("SET complete, since its log has `endseeds`", s=self.complete(state))
             return
-        if self.fault == "ends its seeds when it is quiet":
+        if self.bug == "ends its seeds when it is quiet":
             if state.ready >> me & 1 and self.is_quiet(frontier, client) and not client.reading:
                 go("endseeds", f=frontier._replace(ended=1))
-        elif self.fault == "looks at the streams one by one":
+        elif self.bug == "looks at the streams one by one":
             looked = client.looked
             if state.ready == self.everyone and looked < self.count and not state.streams[looked]:
                 go(f"finds the stream of part {looked} empty", c=client._replace(looked=looked + 1))
@@ -550,7 +550,7 @@ class Own:
     def loss(self, state: State) -> Iterator[Step]:
         """Restart Redis without its last entries, or with none; all connections are lost."""
         parts = tuple(Part(part.frontier, None) for part in state.parts)
-        ready = state.ready if self.fault == "stays ready when Redis restarts" else 0
+        ready = state.ready if self.bug == "stays ready when Redis restarts" else 0
         whole = sum(map(len, state.streams))
         for streams in beginnings(state.streams):
             for complete in {0, state.complete}:
@@ -571,7 +571,7 @@ class Own:
             if client is not None:
                 begun = client.begun or state.ready >> me & 1
                 parts[me] = Part(frontier, client._replace(stale=1, begun=begun))
-        if self.fault != HAS_NO_EPOCH:
+        if self.bug != HAS_NO_EPOCH:
             late = [(me, ("add", me, ()) if c[0] == "ready" else c) for me, c in late]
         return (
             "Redis LOSES its keys", "loss",
@@ -971,7 +971,7 @@ LOSS_ALL: Tuple[Row, ...] = ((ONE, 0, 1, 1), (ONE, 0, 0, 2), (ONE, 1, 0, 1), (RI
 # A mistake of the operator: the other parts wait.
 STAYS_ENDED = "is not started again after it had finished"
 HAS_NO_EPOCH = "is ready although Redis lost what it had sent"
-FAULTS: Tuple[Tuple[str, Row], ...] = (
+BUGS: Tuple[Tuple[str, Row], ...] = (
     ("done before its links are sent", (ONE, 1, 0, 0)), ("keeps no entry", (ONE, 0, 0, 0)),
     ("keeps the entry that was read last", (RING, 1, 1, 0)),
     ("offers entries out of order", (RING, 1, 0, 0)),
@@ -1027,11 +1027,11 @@ def own(totals: Totals, is_all: bool) -> None:
             totals.row(row)
 
 
-def faults(totals: Totals, is_all: bool) -> None:
-    for fault, (of, crashes, doubles, losses) in FAULTS:
-        to_the_close = fault in ("ends its seeds when it is quiet", STAYS_ENDED)
-        tried = Own(of, crashes, doubles, losses, fault, to_the_close)
-        totals.run(f"bug: {fault} ({of.name})", tried, holds=False)
+def bugs(totals: Totals, is_all: bool) -> None:
+    for bug, (of, crashes, doubles, losses) in BUGS:
+        to_the_close = bug in ("ends its seeds when it is quiet", STAYS_ENDED)
+        tried = Own(of, crashes, doubles, losses, bug, to_the_close)
+        totals.run(f"bug: {bug} ({of.name})", tried, holds=False)
 
 
 def loss(totals: Totals, is_all: bool) -> None:
@@ -1052,7 +1052,7 @@ def main() -> None:
     parser = argparse.ArgumentParser(
         description=__doc__, formatter_class=argparse.RawDescriptionHelpFormatter
     )
-    parts = {"own": own, "faults": faults, "loss": loss, "naive": naive}
+    parts = {"own": own, "bugs": bugs, "loss": loss, "naive": naive}
     parser.add_argument("what", nargs="*", metavar="|".join(parts),
                         help="groups to try (default: all)")
     parser.add_argument("--all", action="store_true",

@@ -68,7 +68,7 @@ class Web(NamedTuple):
         return ("\n".join(lines) + "\n").encode()
 
 
-def drawn_web(draw: random.Random, hosts: int, pages: int) -> Web:
+def random_web(draw: random.Random, hosts: int, pages: int) -> Web:
     """Return a random site: links in several spellings, missing pages, hosts of all parts."""
     urls = [f"http://h{draw.randrange(hosts)}.test/d/{number}" for number in range(pages)]
     links: Dict[str, List[str]] = {url: [] for url in urls}
@@ -508,11 +508,11 @@ class Trial:
 # ---------------------------------------------------------------- the tests
 
 
-def drawn_crawl(
+def random_crawl(
     trial: Trial, name: str, number: int, parts: int, faults: Faults = Faults(), **options: Any
 ) -> None:
     draw = trial.draw(f"{name} {number} {parts}")
-    web = drawn_web(draw, draw.choice((3, 20, 60)), draw.randrange(20, 800))
+    web = random_web(draw, draw.choice((3, 20, 60)), draw.randrange(20, 800))
     trial.one(draw, web, parts, draw.choice((1, 3, 16)), faults, **options)
 
 
@@ -520,7 +520,7 @@ def plain(trial: Trial) -> None:
     """1, 2, 4 and 8 parts, some with threads, fetch the URLs of one frontier, each once."""
     for parts in (1, 2, 4, 8):
         for number in range(trial.webs):
-            drawn_crawl(
+            random_crawl(
                 trial, "plain", number, parts, has_threads=number % 5 == 4,
                 is_synced=number % 2 == 0,
             )
@@ -530,21 +530,21 @@ def killed(trial: Trial) -> None:
     """Parts (client, frontier or both) are killed at random moments and started again."""
     for parts in (1, 2, 4, 8):
         for number in range(max(1, trial.webs // 2)):
-            drawn_crawl(trial, "killed", number, parts, Faults(kills=8))
+            random_crawl(trial, "killed", number, parts, Faults(kills=8))
 
 
 def twice_and_late(trial: Trial) -> None:
     """Every entry arrives twice, and 1 or 10% of the URLs late; sometimes parts are killed too."""
     for number in range(trial.webs):
         faults = Faults(is_twice=True, late=(0.01, 0.1)[number % 2], kills=3 * (number % 3 == 0))
-        drawn_crawl(trial, "twice", number, (2, 4)[number % 2], faults)
+        random_crawl(trial, "twice", number, (2, 4)[number % 2], faults)
 
 
 def lost_redis(trial: Trial) -> None:
     """Redis is killed and started again, with or without its files; sometimes parts are too."""
     for number in range(trial.webs):
         faults = Faults(losses=4, kills=2 * (number % 2))
-        drawn_crawl(trial, "lost", number, (2, 4)[number % 2], faults, has_threads=number % 4 == 3)
+        random_crawl(trial, "lost", number, (2, 4)[number % 2], faults, has_threads=number % 4 == 3)
 
 
 def emptied_redis(trial: Trial) -> None:
@@ -552,12 +552,12 @@ def emptied_redis(trial: Trial) -> None:
     for number in range(trial.webs):
         faults = Faults(flushes=3, losses=number % 3 == 1, kills=2 * (number % 3 == 2))
         parts = (1, 2, 4)[number // 2 % 3]
-        drawn_crawl(trial, "emptied", number, parts, faults, has_threads=number % 4 == 3)
+        random_crawl(trial, "emptied", number, parts, faults, has_threads=number % 4 == 3)
 
 
 def reported_loss(trial: Trial) -> None:
     """`run` reports that Redis has lost the keys, and completes the crawl."""
-    shared = trial.new(drawn_web(trial.draw("reported"), 1, 9), 1, 1, Faults())
+    shared = trial.new(random_web(trial.draw("reported"), 1, 9), 1, 1, Faults())
     fetches: List[str] = []
 
     def fetch(queue: int, url: str) -> Tuple[str, List[str]]:
@@ -577,7 +577,7 @@ def reported_loss(trial: Trial) -> None:
 
 def emptied_before_ready(trial: Trial) -> None:
     """Redis is emptied after a part has sent its seeds, and before the part is ready."""
-    shared = trial.new(drawn_web(trial.draw("before ready"), 3, 20), 1, 2, Faults())
+    shared = trial.new(random_web(trial.draw("before ready"), 3, 20), 1, 2, Faults())
     expected = expected_of(shared.web, trial.program, shared.folder)
     make_ready, losses = mercator_cluster._Broker.make_ready, iter([True])
 
@@ -651,7 +651,7 @@ def lost_at_the_end(trial: Trial) -> None:
             draw = trial.draw(f"lost at the end {number}")
             # With one host, which is of part 0, part 1 sends nothing, and all streams look empty.
             hosts, workers = ((1, 1), (20, 3))[number % 2]
-            web = drawn_web(draw, hosts, draw.randrange(2, 60))
+            web = random_web(draw, hosts, draw.randrange(2, 60))
             shared = trial.new(web, 2, workers, Faults())
             expected = expected_of(web, trial.program, shared.folder)
             parts = [ByHand(shared, part) for part in range(2)]
@@ -700,27 +700,27 @@ def full(trial: Trial) -> None:
         some = 2 * (number % 2)
         faults = (Faults(kills=some), Faults(losses=some), Faults(flushes=some))[number // 2 % 3]
         parts = (1, 2, 4)[number % 3]
-        drawn_crawl(trial, "full", number, parts, faults, max_pending=(2, 9, 40)[number % 3])
+        random_crawl(trial, "full", number, parts, faults, max_pending=(2, 9, 40)[number % 3])
 
 
 def one_host(trial: Trial) -> None:
     """One host: one part has all the work."""
     for number in range(max(1, trial.webs // 5)):
         draw = trial.draw(f"one host {number}")
-        trial.one(draw, drawn_web(draw, 1, 200), 4, 3, Faults(kills=2))
+        trial.one(draw, random_web(draw, 1, 200), 4, 3, Faults(kills=2))
 
 
 def many_queues(trial: Trial) -> None:
     """512 queues in all, and 2,048."""
     for parts, workers in ((2, 256), (8, 64), (4, 512)):
         draw = trial.draw(f"queues {parts}")
-        trial.one(draw, drawn_web(draw, 700, 2000), parts, workers, has_threads=parts == 8)
+        trial.one(draw, random_web(draw, 700, 2000), parts, workers, has_threads=parts == 8)
 
 
 def refused(trial: Trial) -> None:
     """Another number of parts, another log, or a Redis that evicts: an exception."""
     draw = trial.draw("refused")
-    web = drawn_web(draw, 5, 30)
+    web = random_web(draw, 5, 30)
     shared = trial.one(draw, web, 2, 3)
     log = shared.folder / "other.log"
     for crawl_of_all, part, kind in (
@@ -748,7 +748,7 @@ def full_redis(trial: Trial) -> None:
     """A Redis without free memory refuses entries: the pages wait until it has memory again."""
     draw = trial.draw("full redis")
     client = trial.server.client
-    web = drawn_web(draw, 40, 1500)
+    web = random_web(draw, 40, 1500)
     process = os.fork()
     if process == 0:
         try:
@@ -918,7 +918,7 @@ def long_base(trial: Trial) -> None:
 def unix_socket(trial: Trial) -> None:
     """A Redis whose URL is that of its Unix socket."""
     draw = trial.draw("socket")
-    web = drawn_web(draw, 20, 100)
+    web = random_web(draw, 20, 100)
     shared = trial.new(web, 2, 3, Faults())
     expected = expected_of(web, trial.program, shared.folder)
     crawl = shared.crawl._replace(redis=f"unix://{trial.server.folder}/socket")
@@ -950,7 +950,7 @@ def interrupted(trial: Trial) -> None:
 
 def gone_redis(trial: Trial) -> None:
     """`run` survives the loss of a connection, but not a Redis that does not answer for long."""
-    web = drawn_web(trial.draw("gone redis"), 1, 2)
+    web = random_web(trial.draw("gone redis"), 1, 2)
     shared = trial.new(web, 1, 1, Faults())
     losses = iter([True])
 

@@ -81,8 +81,8 @@ def compare_number(program: Optional[str], seed: int, is_counted: bool, number: 
                 outcome = Comparison(library, folder, settings, program).outcome(forms)
                 if number % EVERY == 1:
                     listed = archives.draw_list(Random(f"list {seed} {number}"), folder, settings)
-                    found = tuple(f"site list: {fault}" for fault in lists.faults(library, folder, listed))
-                    outcome = Outcome(outcome.faults + found, {**outcome.counts, "site lists": 1})
+                    found = tuple(f"site list: {error}" for error in lists.errors(library, folder, listed))
+                    outcome = Outcome(outcome.errors + found, {**outcome.counts, "site lists": 1})
                 return outcome
             except drawn.NotPlain:
                 return None
@@ -102,12 +102,12 @@ def compare_package(program: Optional[str], is_counted: bool, site: real_sites.S
         other = Comparison(library, site.folder, without._replace(base=real_sites.BASE, front=""), program).outcome(("json",))
         counts = Counter(outcome.counts)
         counts.update(other.counts)
-        return Outcome(outcome.faults + tuple(f"with BASE: {fault}" for fault in other.faults), dict(counts))
+        return Outcome(outcome.errors + tuple(f"with BASE: {error}" for error in other.errors), dict(counts))
 
     return Compared(site.name, in_deep_thread(work), dict(called))
 
 
-def first_fault(seed: int, library: Tables, number: int) -> Optional[str]:
+def first_error(seed: int, library: Tables, number: int) -> Optional[str]:
     """The first difference in a random folder, by these definitions."""
     library.forget()
 
@@ -115,7 +115,7 @@ def first_fault(seed: int, library: Tables, number: int) -> Optional[str]:
         with tempfile.TemporaryDirectory() as above:
             folder, settings, _ = draw_number(seed, number, above)
             try:
-                return next(Comparison(library, folder, settings, None).faults(("json",)), None)
+                return next(Comparison(library, folder, settings, None).errors(("json",)), None)
             except drawn.NotPlain:
                 return None
 
@@ -137,11 +137,11 @@ class Totals:
             self.skipped += 1
             return
         self.counts.update(compared.outcome.counts)
-        self.failed += bool(compared.outcome.faults)
-        self.passed += not compared.outcome.faults
-        for fault in compared.outcome.faults[:SHOWN]:
-            print(f"{compared.name}: {fault if len(fault) < LONGEST else fault[:LONGEST] + '..'}")
-        if compared.outcome.faults:
+        self.failed += bool(compared.outcome.errors)
+        self.passed += not compared.outcome.errors
+        for error in compared.outcome.errors[:SHOWN]:
+            print(f"{compared.name}: {error if len(error) < LONGEST else error[:LONGEST] + '..'}")
+        if compared.outcome.errors:
             print(f"to run only this: {sys.argv[0]} {' '.join(again)}", flush=True)
 
     def end(self) -> None:
@@ -163,9 +163,9 @@ def has_difference(seed: int, count: int, edit: Edit) -> Optional[str]:
     """The first difference that a change of a definition makes in one of the random folders."""
     library = Tables((edit,))
     for number in range(count):
-        fault = first_fault(seed, library, number)
-        if fault is not None:
-            return f"folder {number}, {fault}"
+        error = first_error(seed, library, number)
+        if error is not None:
+            return f"folder {number}, {error}"
     return None
 
 

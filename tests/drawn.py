@@ -9,7 +9,7 @@ These are the kinds of inputs:
 - large web: thousands of pages, some with URLs that have the same hash, or with one page twice
 - narrow crawl: one worker, with little room for pending URLs
 - seeds: files of seeds: valid ones, pieces, and changed ones
-- crawl at fault: the suffix, the saved web, the file of seeds and the seeds, each valid or not
+- crawl with errors: the suffix, the saved web, the file of seeds and the seeds, each valid or not
 - key: URLs for the command `key`
 - script: valid scripts, most of them long enough for every reply
 - script pieces, changed script: like those of saved webs
@@ -248,13 +248,13 @@ def queue_of(url: Url, workers: int) -> int:
 # ---------------------------------------------------------------- reading inputs
 
 
-class Fault(Exception):
+class InputError(Exception):
     """Raised for an invalid input, with the message that the program has to print."""
 
     status = 1
 
 
-class Incomplete(Fault):
+class Incomplete(InputError):
     """Raised for an incomplete crawl, with the message that the program has to print."""
 
     status = 2
@@ -267,11 +267,11 @@ def lines_of(data: bytes, what: str) -> Iterator[tuple[str, str]]:
     for number, line in enumerate([*lines, last] if last else lines, 1):
         place = f"{what}: line {number}"
         if len(line) > LINE_LIMIT:
-            raise Fault(f"{place}: line too long")
+            raise InputError(f"{place}: line too long")
         try:
             text = line.decode()
         except UnicodeDecodeError:
-            raise Fault(f"{place}: not UTF-8") from None
+            raise InputError(f"{place}: not UTF-8") from None
         yield place, text
 
 
@@ -294,7 +294,7 @@ def read_web(data: bytes) -> Web:
     lines = lines_of(data, "saved web")
     header = next(lines, ("", ""))[1]
     if header not in ("savedweb 1", "savedweb 2"):
-        raise Fault("saved web: bad header")
+        raise InputError("saved web: bad header")
     words = ("page", "link", "moved") if header == "savedweb 2" else ("page", "link")
     web: Web = {}
     url = None
@@ -303,18 +303,18 @@ def read_web(data: bytes) -> Web:
         if not line:
             continue
         if word not in words or not space:
-            raise Fault(f"{place}: bad line")
+            raise InputError(f"{place}: bad line")
         if word == "page":
             url = url_or_none(text)
             if url is None:
-                raise Fault(f"{place}: bad page URL")
+                raise InputError(f"{place}: bad page URL")
             if url in web:
-                raise Fault(f"{place}: page twice")
+                raise InputError(f"{place}: page twice")
             web[url] = Page()
         elif url is None:
-            raise Fault(f"{place}: link before page")
+            raise InputError(f"{place}: link before page")
         elif web[url].moved or (word == "moved" and web[url].links):
-            raise Fault(f"{place}: mixed page")
+            raise InputError(f"{place}: mixed page")
         else:
             web[url].moved = word == "moved"
             web[url].links.append(url_or_none(text, url))
@@ -325,9 +325,9 @@ def seed_of(text: str, place: str) -> Url:
     try:
         return url_of(text)
     except NotUrl:
-        raise Fault(f"{place}: not a URL") from None
+        raise InputError(f"{place}: not a URL") from None
     except NotHttp:
-        raise Fault(f"{place}: not http or https") from None
+        raise InputError(f"{place}: not http or https") from None
 
 
 def read_seeds(data: bytes) -> list[Url]:
@@ -350,7 +350,7 @@ def read_script(data: bytes) -> Script:
     header = HEADER.fullmatch(next(lines, ("", ""))[1])
     numbers = (int(header[1]), int(header[2])) if header else (0, 0)
     if not (1 <= numbers[0] <= 512 and 1 <= numbers[1] <= 2**40):
-        raise Fault("script: bad header")
+        raise InputError("script: bad header")
     events: list[tuple[str, int, Optional[Url]]] = []
     for place, line in lines:
         event, admission = EVENT.fullmatch(line), ADMISSION.fullmatch(line)
@@ -359,10 +359,10 @@ def read_script(data: bytes) -> Script:
         elif admission and int(admission[1]) < 2**64:
             url = url_or_none(admission[2])
             if url is None:
-                raise Fault(f"{place}: bad URL")
+                raise InputError(f"{place}: bad URL")
             events.append(("admit", int(admission[1]), url))
         elif line:
-            raise Fault(f"{place}: bad line")
+            raise InputError(f"{place}: bad line")
     return Script(*numbers, events)
 
 
@@ -395,12 +395,12 @@ class Crawl(NamedTuple):
 def crawl_of(crawl: Crawl, workers: int) -> list[str]:
     """Return the report of a crawl; raise if an input is invalid, the first one that is."""
     if crawl.suffix is not None and not re.fullmatch("[a-z0-9.-]+", crawl.suffix):
-        raise Fault("bad suffix")
+        raise InputError("bad suffix")
     web = read_web(crawl.web)
     seeds = read_seeds(crawl.listed or b"")
     seeds += [seed_of(text, f"seed {number}") for number, text in enumerate(crawl.seeds, 1)]
     if not seeds:
-        raise Fault("seeds: no seed in the list or on the command line")
+        raise InputError("seeds: no seed in the list or on the command line")
     found = search(web, crawl, seeds)
     links = [link for url in found if url in web for link in web[url].leads_to()]
     for urls, what in ((seeds, "seed"), (links, "link")):
@@ -549,9 +549,9 @@ def key_of(text: str, workers: int) -> list[str]:
     try:
         url = url_of(text)
     except NotUrl:
-        raise Fault("URL: not a URL") from None
+        raise InputError("URL: not a URL") from None
     except NotHttp:
-        raise Fault("URL: not http or https") from None
+        raise InputError("URL: not http or https") from None
     return [f"{url} {url.host} {queue_of(url, workers)}"]
 
 
@@ -577,8 +577,8 @@ def case(
 ) -> Case:
     try:
         return Case(words, data, listed, answer(), 0, ["sound"])
-    except Fault as fault:
-        return Case(words, data, listed, [f"mercator: {fault}"], fault.status, [])
+    except InputError as error:
+        return Case(words, data, listed, [f"mercator: {error}"], error.status, [])
 
 
 def crawl_case(crawl: Crawl, workers: int) -> Case:
@@ -634,7 +634,7 @@ class Target(NamedTuple):
     path: str
 
 
-def drawn_targets(draw: Random, most: int) -> list[Target]:
+def random_targets(draw: Random, most: int) -> list[Target]:
     hosts = draw.sample(HOSTS, draw.randrange(1, 4))
     return [
         Target(
@@ -656,7 +656,7 @@ def spelled(draw: Random, target: Target) -> str:
     return f"{scheme}://{target.user}{host}{port}/{dots}{target.path}{end}"
 
 
-def drawn_link(draw: Random, targets: list[Target]) -> str:
+def random_link(draw: Random, targets: list[Target]) -> str:
     target = draw.choice(targets)
     return draw.choice((
         spelled(draw, target), spelled(draw, target), spelled(draw, target), f"//{target.host}",
@@ -671,17 +671,17 @@ def odd_text(draw: Random) -> str:
     return front + "".join(draw.choices(ODD, k=draw.randrange(1, 6)))
 
 
-def drawn_web(draw: Random) -> tuple[bytes, list[str]]:
+def random_web(draw: Random) -> tuple[bytes, list[str]]:
     """Return a valid saved web, and seeds."""
     version = draw.choice((1, 2))
     lines = [f"savedweb {version}"]
-    targets = drawn_targets(draw, 20)
+    targets = random_targets(draw, 20)
     for target in dict.fromkeys(targets[draw.randrange(1 + len(targets) // 2):]):
         lines.append(f"page {spelled(draw, target)}")
         if version == 2 and draw.randrange(4) == 0:
-            lines.append(f"moved {drawn_link(draw, targets)}")
+            lines.append(f"moved {random_link(draw, targets)}")
         else:
-            lines += [f"link {drawn_link(draw, targets)}" for _ in range(draw.randrange(7))]
+            lines += [f"link {random_link(draw, targets)}" for _ in range(draw.randrange(7))]
     if draw.randrange(20) == 0:
         lines += ["page http://long.test/", "link " + "a" * draw.randrange(4089, 4092)]
     seeds = [spelled(draw, target) for target in draw.sample(targets, min(len(targets), 2))]
@@ -732,7 +732,7 @@ def of_all_pages(draw: Random, data: bytes) -> Case:
     """Return a crawl that begins at all pages, so that each of them is in the report."""
     try:
         seeds = list(map(str, read_web(data)))
-    except Fault:
+    except InputError:
         seeds = []
     draw.shuffle(seeds)
     crawl = Crawl(data, seeds[:100] or ["http://a.test/"], sources=True)
@@ -740,8 +740,8 @@ def of_all_pages(draw: Random, data: bytes) -> Case:
 
 
 def webs(draw: Random) -> list[Case]:
-    data, seeds = drawn_web(draw)
-    listed = "\n".join(drawn_good_seeds(draw)).encode() if draw.randrange(4) == 0 else None
+    data, seeds = random_web(draw)
+    listed = "\n".join(random_good_seeds(draw)).encode() if draw.randrange(4) == 0 else None
     suffix = draw.choice(SUFFIXES) if draw.randrange(4) == 0 else None
     room = draw.choice((None, 4096, 2**40))
     crawl = Crawl(data, seeds, listed, suffix, draw.random() < 0.5, draw.random() < 0.5, room)
@@ -751,7 +751,7 @@ def webs(draw: Random) -> list[Case]:
 
 
 def changed_webs(draw: Random) -> list[Case]:
-    return [of_all_pages(draw, changed(draw, drawn_web(draw)[0]))]
+    return [of_all_pages(draw, changed(draw, random_web(draw)[0]))]
 
 
 WEB_PIECES = (
@@ -843,14 +843,14 @@ def large_webs(draw: Random) -> list[Case]:
 
 
 def narrow_crawls(draw: Random) -> list[Case]:
-    data, seeds = drawn_web(draw)
+    data, seeds = random_web(draw)
     suffix = draw.choice(SUFFIXES) if draw.randrange(8) == 0 else None
     crawl = Crawl(data, seeds, suffix=suffix, most=draw.choice((1, 2, 2, 3, 3, 4, 5, 7)))
     return [crawl_case(crawl, 1)]
 
 
-def drawn_good_seeds(draw: Random) -> list[str]:
-    return [spelled(draw, target) for target in drawn_targets(draw, 6)]
+def random_good_seeds(draw: Random) -> list[str]:
+    return [spelled(draw, target) for target in random_targets(draw, 6)]
 
 
 SEED_PIECES = tuple(f"{text}{end}".encode() for text in GOOD for end in ("\n", "\r\n")) + (
@@ -860,7 +860,7 @@ SEED_PIECES = tuple(f"{text}{end}".encode() for text in GOOD for end in ("\n", "
 
 
 def seeds_files(draw: Random) -> list[Case]:
-    good = joined(draw, drawn_good_seeds(draw))
+    good = joined(draw, random_good_seeds(draw))
     listed = changed(draw, good) if draw.random() < 0.5 else pieces(draw, b"", SEED_PIECES)
     web = b"savedweb 1\npage http://a.test/\nlink x\n"
     seeds: tuple[list[str], ...] = ([], [], ["http://z.test/"])
@@ -868,11 +868,11 @@ def seeds_files(draw: Random) -> list[Case]:
     return [crawl_case(crawl, draw.choice((1, 2, 4)))]
 
 
-def crawls_at_fault(draw: Random) -> list[Case]:
+def crawls_with_errors(draw: Random) -> list[Case]:
     """Return a crawl whose inputs are each valid or not; the first invalid one decides."""
-    data, seeds = drawn_web(draw)
+    data, seeds = random_web(draw)
     web = changed(draw, data) if draw.randrange(4) == 0 else data
-    listed = joined(draw, drawn_good_seeds(draw)) if draw.random() < 0.5 else None
+    listed = joined(draw, random_good_seeds(draw)) if draw.random() < 0.5 else None
     if listed and draw.random() < 0.5:
         listed += draw.choice((b"\nx\n", b"\nmailto:x\n", b"\n\xff\n", b"\n" + b"a" * 4097))
     for _ in range(draw.choice((0, 0, 1, 2))):
@@ -883,7 +883,7 @@ def crawls_at_fault(draw: Random) -> list[Case]:
 
 
 def keys(draw: Random) -> list[Case]:
-    good = draw.choice((*GOOD, *drawn_good_seeds(draw)))
+    good = draw.choice((*GOOD, *random_good_seeds(draw)))
     text = draw.choice((good, odd_text(draw), odd_text(draw), draw.choice(NO_SEEDS)))
     workers = draw.choice((1, 2, 3, 4, 64, 511, 512))
     words = ["key", "--workers", str(workers), "--", text]
@@ -897,34 +897,34 @@ EVENTS = (
 )
 
 
-def drawn_script(draw: Random, longest: int) -> bytes:
+def random_script(draw: Random, longest: int) -> bytes:
     """Return a valid script."""
     workers = draw.choice((1, 1, 2, 2, 3, 7, 512))
     most = draw.choice((1, 2, 3, 4, 9, 2**40))
     senders = draw.choice(((0, 1, 2), (0, 1, 2), (0, 7, 2**64 - 1)))
     queues = (0, 0, 0, 1, workers - 1, workers, 2**32 - 1)
-    urls = [*GOOD, *drawn_good_seeds(draw)] if draw.random() < 0.5 else drawn_good_seeds(draw)
-    lines = [f"workers {drawn_number(draw, workers)} max {drawn_number(draw, most)}"]
+    urls = [*GOOD, *random_good_seeds(draw)] if draw.random() < 0.5 else random_good_seeds(draw)
+    lines = [f"workers {random_number(draw, workers)} max {random_number(draw, most)}"]
     events = EVENTS if draw.random() < 0.5 else EVENTS[:-1]
     for _ in range(draw.randrange(longest)):
-        sender = drawn_number(draw, draw.choice(senders))
-        queue = drawn_number(draw, draw.choice(queues))
+        sender = random_number(draw, draw.choice(senders))
+        queue = random_number(draw, draw.choice(queues))
         text = draw.choice(events).format(s=sender, q=queue, url=draw.choice(urls))
         lines += text.split("\n")
     return joined(draw, lines)
 
 
-def drawn_number(draw: Random, value: int) -> str:
+def random_number(draw: Random, value: int) -> str:
     """Return a number, sometimes with leading zeros, of up to twenty digits."""
     return f"{value:0{draw.randrange(1, 21) if draw.randrange(10) == 0 else 1}}"
 
 
 def scripts(draw: Random) -> list[Case]:
-    return [script_case(drawn_script(draw, draw.choice((60, 60, 60, 600))))]
+    return [script_case(random_script(draw, draw.choice((60, 60, 60, 600))))]
 
 
 def changed_scripts(draw: Random) -> list[Case]:
-    return [script_case(changed(draw, drawn_script(draw, 8)))]
+    return [script_case(changed(draw, random_script(draw, 8)))]
 
 
 BAD_URLS = (
@@ -1017,7 +1017,7 @@ def command_lines(draw: Random) -> list[Case]:
     if draw.randrange(3) == 0:
         place = draw.randrange(len(words) + 1)
         words[place:place + draw.randrange(2)] = draw.choices(ARGUMENTS, k=draw.randrange(3))
-    data = drawn_script(draw, 8) if command == "replay" else drawn_web(draw)[0]
+    data = random_script(draw, 8) if command == "replay" else random_web(draw)[0]
     return [Case(words, data, draw.choice((b"http://a.test/\n", data)), [], ANY, [])]
 
 
@@ -1045,22 +1045,22 @@ class Kind(NamedTuple):
     ought: list[str]  # what must occur: output lines without numbers and URLs, features of inputs
 
 
-def faults(what: str, *texts: str) -> list[str]:
+def error_lines(what: str, *texts: str) -> list[str]:
     return [f"mercator: {what}{text}" for text in texts]
 
 
-WEB_FAULTS = faults(
+WEB_ERRORS = error_lines(
     "saved web: ", "bad header", "line: bad line", "line: link before page", "line: mixed page",
     "line: bad page URL", "line: page twice", "line: line too long", "line: not UTF-8",
 )
-SCRIPT_FAULTS = faults(
+SCRIPT_ERRORS = error_lines(
     "script: ", "bad header", "line: bad line", "line: bad URL", "line: line too long",
     "line: not UTF-8",
 )
-SEEDS_FAULTS = faults(
+SEEDS_ERRORS = error_lines(
     "seeds: line: ", "line too long", "not UTF-8", "not a URL", "not http or https"
 )
-SEED_FAULTS = faults("seed: ", "not a URL", "not http or https")
+SEED_ERRORS = error_lines("seed: ", "not a URL", "not http or https")
 LINES = ["ok", "missing", "total ok missing", "from", "from -"]
 MOVED = ["moved", "total ok missing moved"]
 REPLIES = [
@@ -1072,22 +1072,22 @@ ALL_EVENTS = [f"event {word}" for word in (
     "look", "enter", "admit", "back", "endseeds", "take", "done", "close"
 )]
 KINDS = {
-    "large web": Kind(large_webs, 1, [*LINES[:4], "queue", WEB_FAULTS[5]]),
+    "large web": Kind(large_webs, 1, [*LINES[:4], "queue", WEB_ERRORS[5]]),
     "folder": Kind(folders, 20, LINES[:4]),
     "web": Kind(webs, 80, [*LINES, *MOVED, "queue"]),
-    "web pieces": Kind(web_pieces, 170, [*LINES[:4], *MOVED, *WEB_FAULTS]),
-    "changed web": Kind(changed_webs, 150, [*LINES[:4], *MOVED, *WEB_FAULTS]),
+    "web pieces": Kind(web_pieces, 170, [*LINES[:4], *MOVED, *WEB_ERRORS]),
+    "changed web": Kind(changed_webs, 150, [*LINES[:4], *MOVED, *WEB_ERRORS]),
     "narrow crawl": Kind(
-        narrow_crawls, 60, ["ok", *faults("incomplete: ", "seed missing", "link missing")]
+        narrow_crawls, 60, ["ok", *error_lines("incomplete: ", "seed missing", "link missing")]
     ),
-    "seeds": Kind(seeds_files, 100, [*LINES, *SEEDS_FAULTS]),
-    "crawl at fault": Kind(
-        crawls_at_fault, 60, ["ok", "mercator: bad suffix", *SEEDS_FAULTS, *SEED_FAULTS]
+    "seeds": Kind(seeds_files, 100, [*LINES, *SEEDS_ERRORS]),
+    "crawl with errors": Kind(
+        crawls_with_errors, 60, ["ok", "mercator: bad suffix", *SEEDS_ERRORS, *SEED_ERRORS]
     ),
-    "key": Kind(keys, 79, ["sound", *faults("URL: ", "not a URL", "not http or https")]),
+    "key": Kind(keys, 79, ["sound", *error_lines("URL: ", "not a URL", "not http or https")]),
     "script": Kind(scripts, 50, REPLIES + ALL_EVENTS),
-    "script pieces": Kind(script_pieces, 120, ["sound", *ALL_EVENTS, *SCRIPT_FAULTS]),
-    "changed script": Kind(changed_scripts, 110, ["sound", *ALL_EVENTS, *SCRIPT_FAULTS]),
+    "script pieces": Kind(script_pieces, 120, ["sound", *ALL_EVENTS, *SCRIPT_ERRORS]),
+    "changed script": Kind(changed_scripts, 110, ["sound", *ALL_EVENTS, *SCRIPT_ERRORS]),
     "command line": Kind(command_lines, 40, []),
 }
 

@@ -98,12 +98,12 @@ ROWS = (
 )
 
 
-def drawn_urls(count: int) -> list[str]:
+def random_urls(count: int) -> list[str]:
     """Return pages of 30 hosts, a third of them each below `test`, `example` and `invalid`."""
     return [f"http://h{n % 30}.{('test', 'example', 'invalid')[n % 30 % 3]}/{n}" for n in range(count)]
 
 
-def drawn_calls(row: Row, draw: Random, urls: list[str]) -> Iterator[str]:
+def random_calls(row: Row, draw: Random, urls: list[str]) -> Iterator[str]:
     """Yield random calls, the end of the seeds, turns until all are closed, and a last offer of the sender."""
     seeder, sender = row.workers, row.workers + 1
     yield f"another {seeder} {row.sender}"
@@ -207,8 +207,8 @@ class Model:
 
 
 def check_row(row: Row, draw: Random) -> None:
-    urls = drawn_urls(300)
-    calls = list(drawn_calls(row, draw, urls))
+    urls = random_urls(300)
+    calls = list(random_calls(row, draw, urls))
     results = answers([[" ".join(["frontier", str(row.workers), str(row.room), *row.suffixes]), *calls]])[0]
     model = Model(row)
     expect(results[0] == "made", f"another sender: {results[0]}")

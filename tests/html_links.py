@@ -41,7 +41,7 @@ from checking.tags import Attribute, Context, Tag
 
 TOP = pathlib.Path(__file__).resolve().parents[1]
 BETWEEN = "\x1d"  # ends a document, and the links of a document
-BEHIND = "\x1e"  # ends a link
+AFTER = "\x1e"  # ends a link
 IN_XML = "\x1c"  # begins a document that is read as XML, without styles
 
 TAGS = """a area audio body embed frame image img input link object source table td th track use video base meta p div
@@ -376,7 +376,7 @@ def set_state(tag: str, tokens: Any) -> bool:
     return True
 
 
-def drawn_tag(draw: random.Random) -> str:
+def random_tag(draw: random.Random) -> str:
     """Return a random start tag, sometimes broken."""
     is_text = draw.random() < 0.08
     name = draw.choice(TEXT_TAGS if is_text else TAGS)
@@ -395,7 +395,7 @@ def drawn_tag(draw: random.Random) -> str:
     return text
 
 
-def drawn_element(draw: random.Random, name: str, depth: int) -> str:
+def random_element(draw: random.Random, name: str, depth: int) -> str:
     """Return a random element with its content and its end tag."""
     text = f"<{name}"
     if name not in ("svg", "math", "script", "style"):
@@ -406,14 +406,14 @@ def drawn_element(draw: random.Random, name: str, depth: int) -> str:
         return text + " />"
     inner = CHILDREN[name].split() if depth else []
     names = [draw.choice(inner) for _ in range(draw.choice([0, 1, 1, 2, 3]))] if inner else []
-    return text + ">" + draw.choice(["", "t", "<!-- c -->"]) + "".join(drawn_element(draw, one, depth - 1) for one in names) + f"</{name}>"
+    return text + ">" + draw.choice(["", "t", "<!-- c -->"]) + "".join(random_element(draw, one, depth - 1) for one in names) + f"</{name}>"
 
 
-def drawn_foreign(draw: random.Random) -> str:
+def random_foreign(draw: random.Random) -> str:
     """Return a random document with balanced SVG and MathML, between elements whose content is text."""
     parts = []
     for _ in range(draw.randint(1, 4)):
-        parts.append(drawn_element(draw, draw.choice(["svg", "math", "svg", "p", "div"]), draw.randint(1, 6)))
+        parts.append(random_element(draw, draw.choice(["svg", "math", "svg", "p", "div"]), draw.randint(1, 6)))
         parts.append(draw.choice(["", "<textarea><a href=no></textarea>", "<svg><p><title><a href=no></title></svg>", "<svg><style><a href=s></style></svg>"]))
         parts.append(draw.choice(["", "<svg><![CDATA[<a href=no>]]></svg>", "<p><![CDATA[<a href=bogus>]]>", "<svg><font color=x><title><a href=no></title></svg>"]))
     return "<!DOCTYPE html><body>" + "".join(parts)
@@ -432,19 +432,19 @@ def tree_links(text: str) -> list[str]:
     return links
 
 
-def drawn_style(draw: random.Random) -> str:
+def random_style(draw: random.Random) -> str:
     """Return a random style sheet in an element or an attribute."""
     words = ["@import", "@IMPORT ", "@imports ", "url(", "URL( ", "'", '"', "a", "b.css", ")", "/*", "*/", "/", "*", " ", "\n", "\v", ";", "\\", "\\", "\\31", "\r\n", "-"]
     text = "".join(draw.choice(words) for _ in range(draw.randint(1, 20)))
     return f"<style>{text}</style>" if draw.random() < 0.5 else "<p style=\"{}\">".format(text.replace('"', "&quot;"))
 
 
-def drawn_document(draw: random.Random, wild: bool) -> str:
+def random_document(draw: random.Random, wild: bool) -> str:
     """Return a random document; a wild one has broken markup everywhere."""
     parts = []
     for _ in range(draw.randint(1, 40 if wild else 12)):
-        parts.append(draw.choice(PIECES) if draw.random() < (0.8 if wild else 0.2) else drawn_tag(draw))
-        parts.append(drawn_style(draw) if draw.random() < 0.1 else draw.choice(["", "", " ", "text"]))
+        parts.append(draw.choice(PIECES) if draw.random() < (0.8 if wild else 0.2) else random_tag(draw))
+        parts.append(random_style(draw) if draw.random() < 0.1 else draw.choice(["", "", " ", "text"]))
     return "".join(parts).replace("\r", "")
 
 
@@ -478,13 +478,13 @@ def crate_links(documents: list[str]) -> list[str]:
     with tempfile.TemporaryDirectory() as folder:
         top = pathlib.Path(folder)
         shutil.copytree(TOP / "crates/html_links", top / "crates/html_links", ignore=shutil.ignore_patterns("out"))
-        (top / "crates/drawn_links/src").mkdir(parents=True)
-        (top / "crates/drawn_links/src/main.rt").write_text(PROGRAM)
+        (top / "crates/random_links/src").mkdir(parents=True)
+        (top / "crates/random_links/src/main.rt").write_text(PROGRAM)
         (top / "documents").write_text(BETWEEN.join(documents))
         (top / "crates.txt").write_text("html_links: memchr\ndrawn_links: html_links\n")
         subprocess.run(["git", "init", "-q", folder], check=True)
         command = ["rt", "try", "--steps", "2000000000", "--seconds", "600", "--data", f"documents={top / 'documents'}"]
-        run = subprocess.run(command, cwd=top / "crates/drawn_links", capture_output=True, check=False)
+        run = subprocess.run(command, cwd=top / "crates/random_links", capture_output=True, check=False)
         if not run.stdout:
             sys.exit(run.stderr.decode(errors="replace"))
         return run.stdout.decode(errors="replace").split(BETWEEN)
@@ -495,18 +495,18 @@ def main() -> int:
     arguments = sys.argv[1:]
     count, seed = int(arguments[0]) if arguments else 2000, int(arguments[1]) if len(arguments) > 1 else 1
     draw = random.Random(seed)
-    documents = [drawn_document(draw, number % 2 == 1) for number in range(count)]
-    foreign = [drawn_foreign(draw) for _ in range(count)]
+    documents = [random_document(draw, number % 2 == 1) for number in range(count)]
+    foreign = [random_foreign(draw) for _ in range(count)]
     rows = named_values()
-    wants = ["".join(link + BEHIND for link in Reader(True).read(document)) for document in documents]
-    wants += ["".join(link + BEHIND for link in tree_links(document)) for document in foreign]
-    wants += ["".join(link + BEHIND for link in xml_links(document)) for document in documents + foreign]
-    wants += [text + BEHIND for _, text in rows]
+    expected = ["".join(link + AFTER for link in Reader(True).read(document)) for document in documents]
+    expected += ["".join(link + AFTER for link in tree_links(document)) for document in foreign]
+    expected += ["".join(link + AFTER for link in xml_links(document)) for document in documents + foreign]
+    expected += [text + AFTER for _, text in rows]
     documents += foreign + [IN_XML + document for document in documents + foreign] + [f'<a href="{value}">' for value, _ in rows]
     given = crate_links(documents)
     count = len(documents)
     passed, failed = 0, []
-    for document, wanted, links in zip(documents, wants, given):
+    for document, wanted, links in zip(documents, expected, given):
         if links == wanted:
             passed += 1
         else:

@@ -134,8 +134,8 @@ def main() -> int:
     unknown = set(arguments.names) - {bug.name for bug in listed}
     if unknown:
         parser.error(f"not in planted.txt: {', '.join(sorted(unknown))}")
-    wanted = [bug for bug in listed if bug.name in (arguments.names or [bug.name])]
-    bugs = [bug for bug in wanted if not bug.command] if arguments.mutants else [bug for bug in wanted if bug.command]
+    chosen = [bug for bug in listed if bug.name in (arguments.names or [bug.name])]
+    bugs = [bug for bug in chosen if not bug.command] if arguments.mutants else [bug for bug in chosen if bug.command]
     if arguments.mutants and bugs:
         return subprocess.run([TESTS / "mutants.sh", *(bug.name for bug in bugs)]).returncode
     seen = try_bugs(bugs) if bugs else 0

@@ -68,9 +68,9 @@ def packages(cache: Path, names: List[str]) -> Iterator[Site]:
         if package == "#" or (names and package not in names):
             continue
         folder, *starts = places
-        fault = fetch(cache, package)
-        if fault:
-            print(f"{package}: skipped, {fault}", flush=True)
+        error = fetch(cache, package)
+        if error:
+            print(f"{package}: skipped, {error}", flush=True)
             continue
         yield Site(package, str(cache / package / folder), NOWHERE, () if starts == ["./"] else tuple(starts))
 
@@ -172,7 +172,7 @@ def finding_of(row: Row, base: str) -> Finding:
     return Finding(row["file"], row["line"], row["column"], target, row.get("missing", ""), row.get("reason", ""))
 
 
-def planted_fault(site: Site, findings: List[Finding]) -> List[str]:
+def planted_error(site: Site, findings: List[Finding]) -> List[str]:
     """How the findings of a generated site differ from the links of its sources that are broken or leave the site."""
     if site.broken is None:
         return []
@@ -205,13 +205,13 @@ def option_differences(program: str, site: Site) -> List[str]:
     rows = rows_of(program, plain)
     found = differences(rows, Model(site.folder, settings_of(plain)).rows())
     if not option:
-        found += planted_fault(plain, findings_of(rows, NOWHERE))
+        found += planted_error(plain, findings_of(rows, NOWHERE))
     elif not is_named(option, site, rows):
         found.append(f"{option} is not named")
     found = [f"without options: {one}" for one in found]
     if site.fallback:
         only = plain._replace(fallback=True)
-        found += [f"with {option} only: {one}" for one in planted_fault(only, findings_of(rows_of(program, only), NOWHERE))]
+        found += [f"with {option} only: {one}" for one in planted_error(only, findings_of(rows_of(program, only), NOWHERE))]
     return found
 
 
@@ -232,13 +232,13 @@ def compare(options: Options, site: Site) -> Outcome:
     """Compares a site."""
     rows, expected = rows_of(options.program, site), Model(site.folder, settings_of(site)).rows()
     findings = findings_of(rows, site.base)
-    faults = differences(rows, expected) + planted_fault(site, findings) + option_differences(options.program, site)
-    faults += crawl_differences(options.program, site)
+    errors = differences(rows, expected) + planted_error(site, findings) + option_differences(options.program, site)
+    errors += crawl_differences(options.program, site)
     total: Dict[str, int] = rows[0]
     counts = ", ".join(f"{total.get(name)} {name}" for name in ("pages", "links", "missing_pages", "missing_anchors", "invalid", "leaving"))
-    text = [f"{site.name}: {counts}, {len(findings)} findings, {len(faults)} differences"]
-    text += faults[:SHOWN] + (sampled(site, findings, options) if options.sample else [])
-    return Outcome(site.name, "\n".join(text), bool(faults))
+    text = [f"{site.name}: {counts}, {len(findings)} findings, {len(errors)} differences"]
+    text += errors[:SHOWN] + (sampled(site, findings, options) if options.sample else [])
+    return Outcome(site.name, "\n".join(text), bool(errors))
 
 
 def sites(cache: Path, names: List[str], scratch: str) -> Iterator[Site]:

@@ -23,7 +23,7 @@ AT_ONCE = len(os.sched_getaffinity(0))
 RING = f"{DATA}/ring.web"
 SITE = f"{DATA}/site.web"
 
-FAULT = re.compile(
+ERROR = re.compile(
     rb"mercator: (out of memory|cannot read [^\n]*|cannot write|bad suffix|(seed \d+|URL): [a-z A-Z]+"
     rb"|(saved web|script|seeds|index): (line \d+: )?[a-zA-Z -]+8?|incomplete(: [a-z0-9 ]+)?|BASE: [a-zA-Z ]+)\n"
 )
@@ -230,7 +230,7 @@ class Growths:
 
 def is_message(status: int, errors: bytes) -> bool:
     """Return whether standard error is an error message, a text of `clap` or its beginning, or empty."""
-    if not errors or (status in (1, 2) and FAULT.fullmatch(errors)):
+    if not errors or (status in (1, 2) and ERROR.fullmatch(errors)):
         return True
     return status == 3 and errors.startswith((b"error: ", b"A link checker for folders of HTML pages"))
 

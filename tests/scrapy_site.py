@@ -125,7 +125,7 @@ def page_of(links: Iterable[str]) -> str:
     return "".join(f'<p><a href="{html.escape(link)}">x</a>' for link in links)
 
 
-def drawn_site(rand: Random, port: int, pages: int) -> Site:
+def random_site(rand: Random, port: int, pages: int) -> Site:
     """Return a random site on all hosts."""
     kinds = ["200"] * 14 + ["302", "301", "flaky", "500", "404", "dropped", "made", "raises"]
     paths = []
@@ -615,10 +615,10 @@ class Tests:
         self.check("shipped site: no such host", "http://cogs.test/wheels" in failed, failed)
         self.check("shipped site: seen URLs", seen > 5, seen)
 
-    def drawn_sites(self) -> None:
+    def random_sites(self) -> None:
         for number, (pages, workers) in enumerate(((40, 1), (150, 4), (250, 64))):
             rand = Random(number)
-            site = drawn_site(rand, self.servers.port, pages)
+            site = random_site(rand, self.servers.port, pages)
             plan = {"settings": {"MERCATOR_WORKERS": workers}, **self.answers(site)}
             what = f"random site {number}"
             own, _ = self.crawl(site, OWN, plan)
@@ -683,7 +683,7 @@ class Tests:
     def small_frontier(self) -> None:
         """More URLs than the frontier has room for: the others wait in the scheduler."""
         rand = Random(99)
-        site = drawn_site(rand, self.servers.port, 120)
+        site = random_site(rand, self.servers.port, 120)
         expected = {one: times for one, times in site.expected().items() if times}
         for most in (2, 8):
             settings = {"MERCATOR_WORKERS": 4, "MERCATOR_MAX_PENDING": most}
@@ -720,7 +720,7 @@ class Tests:
 
     def idle_spider(self) -> None:
         """A spider that adds requests when it is idle, two of them for URLs that were seen."""
-        site = drawn_site(Random(5), self.servers.port, 30)
+        site = random_site(Random(5), self.servers.port, 30)
         more = [(address_of(number), f"/more/{number}") for number in range(3)]
         urls = [self.url(target) for target in [*more, more[0], site.seed]]
         count, outcome = self.crawl(site, MERCATOR, {"when_idle": urls, **self.answers(site)})
@@ -729,7 +729,7 @@ class Tests:
 
     def closed_spider(self) -> None:
         """A spider that is closed before the crawl is complete."""
-        site = drawn_site(Random(1), self.servers.port, 150)
+        site = random_site(Random(1), self.servers.port, 150)
         settings = {"CLOSESPIDER_PAGECOUNT": 10}
         count, outcome = self.crawl(site, MERCATOR, {"settings": settings, **self.answers(site)})
         stats = outcome["stats"]
@@ -741,7 +741,7 @@ class Tests:
 
     def lost_frontier(self) -> None:
         """The program is killed: the spider is closed with a reason of its own."""
-        site = drawn_site(Random(1), self.servers.port, 150)
+        site = random_site(Random(1), self.servers.port, 150)
         count, outcome = self.crawl(site, MERCATOR, {"kill_after": 10, **self.answers(site)})
         stats = outcome["stats"]
         reason = stats.get("finish_reason")
@@ -927,7 +927,7 @@ def main() -> int:
         parser.error("no program: build it, or give --program or MERCATOR")
     kept = Path(tempfile.mkdtemp(prefix="scrapy_site."))
     tests = Tests(str(Path(program).resolve()), kept)
-    for test in (tests.shipped_site, tests.drawn_sites, tests.odd_requests, tests.small_frontier,
+    for test in (tests.shipped_site, tests.random_sites, tests.odd_requests, tests.small_frontier,
                  tests.within, tests.priorities, tests.idle_spider, tests.closed_spider,
                  tests.lost_frontier, tests.missing_program, tests.refused_settings,
                  tests.stopped_crawl, tests.killed_crawl, tests.small_resumed_crawl,

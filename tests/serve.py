@@ -31,7 +31,7 @@ from serving import changed_settings, clients, compactions, crawlers, crawls, li
 from serving.trial import Trial, command_of, run_all
 
 PARTS: Tuple[Callable[[Trial], None], ...] = (
-    sessions.transcript, sessions.drawn_sessions, sessions.drawn_parts, sessions.all_at_once, sessions.byte_by_byte,
+    sessions.transcript, sessions.random_sessions, sessions.random_parts, sessions.all_at_once, sessions.byte_by_byte,
     sessions.stopped_between, sessions.dying_client, sessions.closed_output, sessions.memory,
     sessions.long_line,
     logs.killed_sessions, logs.refused_logs, logs.changed_logs, logs.damaged_logs, logs.full_disk, logs.compacted_logs, compactions.stopped_compactions,

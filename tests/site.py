@@ -110,7 +110,7 @@ def html5lib_converter(links: Any) -> Converter:
 def compare_random(program: str, count: int, seed: int) -> int:
     """Compares random folders and returns the number of differences."""
     links = loading.script("html_links", "tests/html_links.py")
-    links.drawn_style = lambda _: ""  # html_links.py compares broken style sheets
+    links.random_style = lambda _: ""  # html_links.py compares broken style sheets
     converter = html5lib_converter(links)
     draw = random.Random(seed)
     failed = 0

@@ -43,7 +43,7 @@ HEADER = b"savedweb 2\n"
 LINE_LIMIT = 4096  # most bytes of a line, without its line break
 INPUT_LIMIT = 1 << 30  # most bytes that a crawl reads
 FILE_LIMIT = 1 << 30  # most bytes of a file whose links are read
-FAULT, BAD_WORDS = 1, 3  # exit statuses, the same as those of mercator: an error, and a bad command line
+ERROR, BAD_WORDS = 1, 3  # exit statuses, the same as those of mercator: an error, and a bad command line
 
 INDEX_FILES = ("index.html", "index.htm", "index.xhtml")
 HTML_KINDS = ("text/html", "application/xhtml+xml")
@@ -113,7 +113,7 @@ URL_NAMES = {
 DATA_NAMES = {"data", "movie", "src", "url"}  # the names with which the value of a param is a URL
 
 
-class Fault(Exception):
+class ConverterError(Exception):
     """An error that ends the script with status 1. Its text is printed."""
 
 
@@ -814,7 +814,7 @@ class Web:
         self.pages[url] = (begin, begin + len(head), self.size)
         self.links += sum(line.startswith(b"link ") for line in below)
         if len(HEADER) + self.size > INPUT_LIMIT:
-            raise Fault(f"the saved web has more than {INPUT_LIMIT} bytes, the most that a crawl reads")
+            raise ConverterError(f"the saved web has more than {INPUT_LIMIT} bytes, the most that a crawl reads")
         return True
 
     def link(self, text: str, url: str) -> Optional[bytes]:
@@ -995,7 +995,7 @@ class Folder:
             if index and path == folder + index:
                 self.keep(self.url(folder + mark + query, self.queries), name)
         if not self.files:
-            raise Fault(f"no files in {folder}")
+            raise ConverterError(f"no files in {folder}")
 
     def index_file(self, folder: bytes, query: bytes) -> bytes:
         """Return the first name of an index file that a folder has with this query, or an empty name."""
@@ -1179,29 +1179,29 @@ def run(words: argparse.ArgumentParser) -> None:
     web = Web(options)
     base = base_of(options.base, words)
     if not os.path.isdir(options.folder):
-        raise Fault(f"{options.folder}: not a folder")
+        raise ConverterError(f"{options.folder}: not a folder")
     Folder(options.folder, base, options, web).write()
     web.write(sys.stdout.buffer)
     web.summary()
 
 
-def text_of_fault(fault: Exception) -> str:
+def text_of_error(error: Exception) -> str:
     """Return the text of an error: for one of the system, the file, if there is one, and the reason."""
-    if not isinstance(fault, OSError) or fault.strerror is None:
-        return str(fault)
-    return fault.strerror if fault.filename is None else f"{os.fsdecode(fault.filename)}: {fault.strerror}"
+    if not isinstance(error, OSError) or error.strerror is None:
+        return str(error)
+    return error.strerror if error.filename is None else f"{os.fsdecode(error.filename)}: {error.strerror}"
 
 
 def main() -> None:
     """Run the command. An error is printed and ends it with status 1."""
     try:
         run(command_line())
-    except (Fault, OSError) as fault:
-        print(f"converter: {text_of_fault(fault)}", file=sys.stderr)
-        if isinstance(fault, BrokenPipeError):
+    except (ConverterError, OSError) as error:
+        print(f"converter: {text_of_error(error)}", file=sys.stderr)
+        if isinstance(error, BrokenPipeError):
             # Otherwise the interpreter would try to write again at its end
             os.dup2(os.open(os.devnull, os.O_WRONLY), sys.stdout.fileno())
-        sys.exit(FAULT)
+        sys.exit(ERROR)
 
 
 if __name__ == "__main__":

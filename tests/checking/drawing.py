@@ -137,7 +137,7 @@ class Documents:
     def __init__(self, wild: float) -> None:
         self.wild = wild
 
-    def drawn_document(self, draw: Random, _: bool) -> str:
+    def random_document(self, draw: Random, _: bool) -> str:
         """A random document with ids, fragments and links to files that may exist."""
         return "".join(self.piece(draw) for _ in range(draw.randint(1, 20)))
 
@@ -174,7 +174,7 @@ def random_file(draw: Random, documents: Any, names: List[str], name: str) -> by
     for sheet in (one for one in names if one.endswith(".css") and draw.random() < 0.4):
         text += f'<link rel=stylesheet href="{path_to(draw, spelled(draw, sheet), place)}">'
     if draw.random() < 0.5:
-        text += documents.drawn_document(draw, draw.random() < 0.5)
+        text += documents.random_document(draw, draw.random() < 0.5)
     if draw.random() < 0.15:
         text += random_frame(draw, documents, names, place)
     encoding = draw.choice(["utf-8"] * 6 + ["cp1252", "latin-1", "utf-16-le", "utf-16-be", "utf-8-sig"])
@@ -185,7 +185,7 @@ def random_file(draw: Random, documents: Any, names: List[str], name: str) -> by
 def random_frame(draw: Random, documents: Any, names: List[str], place: str) -> str:
     """A frame with a random document in it."""
     links = "".join(f'<a href="{random_link(draw, names, place)}">' for _ in range(draw.randint(0, 4)))
-    inner = draw.choice(["", "", "<base href=sub/>", "<base>", "<template>", "<svg>"]) + links + documents.drawn_document(draw, False)
+    inner = draw.choice(["", "", "<base href=sub/>", "<base>", "<template>", "<svg>"]) + links + documents.random_document(draw, False)
     inner = html.escape(inner) if draw.random() < 0.7 else inner.replace('"', "&quot;")
     return f'<iframe {draw.choice(["", "src=a.html ", "SRCDOC=x "])}srcdoc="{inner}">' + draw.choice(["</iframe>", "</iframe>", "</iframe>", ""])
 

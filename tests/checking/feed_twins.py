@@ -1,6 +1,6 @@
 """The definitions of sitemaps, feeds and lists of URLs in crates/document_links/specs (Markup.antt, Feeds.antt, Unescaped.antt, UrlLists.antt).
 
-These are the same functions over the bytes of a text in UTF-8. `feed_fault` compares their links with the model's, which are read in another way.
+These are the same functions over the bytes of a text in UTF-8. `feed_error` compares their links with the model's, which are read in another way.
 """
 
 from __future__ import annotations
@@ -147,7 +147,7 @@ def links_of_list(text: bytes) -> List[bytes]:
     return [line.strip(EDGE) for line in text.split(b"\n")]
 
 
-def feed_fault(site: Site) -> Optional[str]:
+def feed_error(site: Site) -> Optional[str]:
     """A feed or a list of URLs whose links are others by the definitions than in the model."""
     for name, document in site.documents.items():
         form = site.form(name)

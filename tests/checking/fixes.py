@@ -236,7 +236,7 @@ def relative(own: str, target: str) -> str:
 
 def fixes_of(model: Model) -> Fixes:
     """What --fix does with the folder of a model."""
-    return Fixes([], [], []) if model.fault is not None else Fixer(model).fixes()
+    return Fixes([], [], []) if model.error is not None else Fixer(model).fixes()
 
 
 def diff_of(changes: List[Change]) -> bytes:

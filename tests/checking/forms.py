@@ -41,7 +41,7 @@ def on_terminal(words: List[str], **named: str) -> bytes:
     return written.replace(b"\r\n", b"\n")
 
 
-def colour_fault(call: str, folder: str) -> Optional[str]:
+def colour_error(call: str, folder: str) -> Optional[str]:
     """An error in the use of colour. Only a terminal gets it, not with NO_COLOR, and it changes nothing else."""
     words = [call, "check", folder]
     plain = subprocess.run(words, capture_output=True, check=False).stdout
@@ -81,7 +81,7 @@ class Lines(HTMLParser):
             self.texts[self.part] = self.texts.get(self.part, "") + data
 
 
-def control_fault(text: bytes, allowed: str = "\n") -> Optional[str]:
+def control_error(text: bytes, allowed: str = "\n") -> Optional[str]:
     """The first line with a control character that is not allowed."""
     for line in text.decode("utf-8").split("\n"):
         if any(one not in allowed for one in re.findall(CONTROL, line)):
@@ -137,7 +137,7 @@ def source_links(rows: List[Row], sources: str) -> List[str]:
     return [f"{sources}{quote(place['file'])}#L{place['line']}" for place in places] if sources else []
 
 
-def page_fault(text: str, rows: List[Row], _: str, sources: str = "") -> Optional[str]:
+def page_error(text: str, rows: List[Row], _: str, sources: str = "") -> Optional[str]:
     """An error in the page of these rows, in which the locations are links if `sources` is the URL of the site's sources."""
     policy, script = POLICY.search(text), SCRIPT.search(text)
     if policy is None or script is None or base64.b64encode(hashlib.sha256(script[1].encode()).digest()).decode() != policy[1]:

@@ -230,5 +230,5 @@ def sites(scratch: Path, names: List[str]) -> Iterator[Site]:
             top.mkdir(parents=True)
             try:
                 yield site_of(f"{name} {kind.name}", make(top, kind), kind)
-            except NotMade as fault:
-                print(f"{name} {kind.name}: skipped, {fault}", flush=True)
+            except NotMade as error:
+                print(f"{name} {kind.name}: skipped, {error}", flush=True)

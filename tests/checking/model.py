@@ -617,7 +617,7 @@ class Model:
         self.invalid: Dict[Tuple[str, str], Tuple[Set[str], Located]] = {}  # by text and reason: the pages with the link, and the locations
         starts = [self.site.start_of(seed) for seed in settings.seeds or [""]]
         documents = [] if settings.reachable else self.site.own_starts()
-        self.fault = self.start_fault(starts, documents)
+        self.error = self.start_error(starts, documents)
         if settings.seeds or settings.reachable or self.site.response(starts[0]):
             self.search(starts)
         self.reached = self.files_found()
@@ -628,7 +628,7 @@ class Model:
         front, _, last = self.settings.base.rpartition("/")
         return "#" not in front and not front.endswith(":/") and last in self.settings.indices
 
-    def start_fault(self, starts: List[str], documents: List[str]) -> Optional[str]:
+    def start_error(self, starts: List[str], documents: List[str]) -> Optional[str]:
         """Why the program does not check the folder, if it does not."""
         if self.is_index_url():
             return "BASE: must be the http or https URL of a folder, without a query, such as https://example.org/docs/"
@@ -715,8 +715,8 @@ class Model:
 
     def rows(self) -> List[Row]:
         """The rows that the program prints as JSON, or its error."""
-        if self.fault is not None:
-            return [{"kind": "error", "message": f"mercator: {self.fault}"}]
+        if self.error is not None:
+            return [{"kind": "error", "message": f"mercator: {self.error}"}]
         linking = self.linking()
         broken = [*self.missing_pages(linking), *(self.missing_anchors() if self.settings.anchors else ())]
         invalid = list(self.invalid_links()) if self.settings.invalid else []

@@ -54,7 +54,7 @@ def count(node: ElementTree.Element, name: str) -> int:
     return sum(1 for _ in node.iter(name))
 
 
-def junit_faults(node: ElementTree.Element) -> Iterator[str]:
+def junit_errors(node: ElementTree.Element) -> Iterator[str]:
     """What is wrong with an element and those in it."""
     kind = ELEMENTS.get(node.tag)
     if kind is None:
@@ -70,7 +70,7 @@ def junit_faults(node: ElementTree.Element) -> Iterator[str]:
     for child in node:
         if child.tag not in kind.children:
             yield f"{child.tag} in {node.tag}"
-        yield from junit_faults(child)
+        yield from junit_errors(child)
 
 
 class Link(NamedTuple):
@@ -144,12 +144,12 @@ def actual_case(case: ElementTree.Element) -> Case:
     return dict(case.attrib), [(child.tag, dict(child.attrib), child.text or "") for child in case]
 
 
-def junit_fault(actual: str, rows: List[Row], folder: str) -> Optional[str]:
+def junit_error(actual: str, rows: List[Row], folder: str) -> Optional[str]:
     """What is wrong with a report in JUnit's XML. GitLab keeps only the first of several test cases with one name."""
     root = ElementTree.fromstring(actual.encode())
-    faults = list(junit_faults(root)) + [f"the root is {root.tag}"] * (root.tag != "testsuites")
-    if faults:
-        return faults[0]
+    errors = list(junit_errors(root)) + [f"the root is {root.tag}"] * (root.tag != "testsuites")
+    if errors:
+        return errors[0]
     suites = [(suite.attrib["name"], [actual_case(case) for case in suite.iter("testcase")]) for suite in root]
     for one, other in zip(suites, expected_suites(rows, folder)):
         if one != other:
@@ -162,52 +162,52 @@ class Sarif:
     """Collects what is wrong with a report in SARIF."""
 
     def __init__(self, log: Dict[str, Any]) -> None:
-        self.faults: List[str] = []
-        self.want(log.get("version") == "2.1.0", "version")
-        self.want(str(log.get("$schema", "https://")).startswith("https://"), "$schema")
+        self.errors: List[str] = []
+        self.expect(log.get("version") == "2.1.0", "version")
+        self.expect(str(log.get("$schema", "https://")).startswith("https://"), "$schema")
         runs = log.get("runs")
-        self.want(isinstance(runs, list) and len(runs) > 0, "runs")
+        self.expect(isinstance(runs, list) and len(runs) > 0, "runs")
         for run in runs if isinstance(runs, list) else []:
             self.read_run(run)
 
-    def want(self, is_right: object, what: str) -> None:
-        """Keeps a fault if something is not right."""
+    def expect(self, is_right: object, what: str) -> None:
+        """Keeps an error if something is not right."""
         if not is_right:
-            self.faults.append(what)
+            self.errors.append(what)
 
     def read_run(self, run: Dict[str, Any]) -> None:
         """Reads a run."""
         driver = run.get("tool", {}).get("driver", {})
-        self.want(isinstance(driver.get("name"), str) and driver["name"], "tool.driver.name")
-        self.want(run.get("columnKind") == "unicodeCodePoints", "columnKind")
+        self.expect(isinstance(driver.get("name"), str) and driver["name"], "tool.driver.name")
+        self.expect(run.get("columnKind") == "unicodeCodePoints", "columnKind")
         rules = [rule.get("id") for rule in driver.get("rules", [])]
-        self.want(all(isinstance(rule, str) for rule in rules) and len(set(rules)) == len(rules), "rules")
+        self.expect(all(isinstance(rule, str) for rule in rules) and len(set(rules)) == len(rules), "rules")
         bases = run.get("originalUriBaseIds", {})
         for base in bases.values():
             uri = base.get("uri", "")
-            self.want(ABSOLUTE.fullmatch(uri) and uri.endswith("/"), f"originalUriBaseIds: {uri}")
+            self.expect(ABSOLUTE.fullmatch(uri) and uri.endswith("/"), f"originalUriBaseIds: {uri}")
         for invocation in run.get("invocations", []):
-            self.want(isinstance(invocation.get("executionSuccessful"), bool), "executionSuccessful")
+            self.expect(isinstance(invocation.get("executionSuccessful"), bool), "executionSuccessful")
             for notification in invocation.get("toolConfigurationNotifications", []):
-                self.want(isinstance(notification.get("message", {}).get("text"), str), "message.text of a notification")
-                self.want(notification.get("level", "warning") in LEVELS, "level of a notification")
-        self.want(isinstance(run.get("results"), list), "results")
+                self.expect(isinstance(notification.get("message", {}).get("text"), str), "message.text of a notification")
+                self.expect(notification.get("level", "warning") in LEVELS, "level of a notification")
+        self.expect(isinstance(run.get("results"), list), "results")
         for result in run.get("results") or []:
             self.read_result(result, rules, bases)
 
     def read_result(self, result: Dict[str, Any], rules: List[str], bases: Dict[str, Any]) -> None:
         """Reads a result."""
-        self.want(isinstance(result.get("message", {}).get("text"), str), "message.text")
-        self.want(result.get("level") in LEVELS, "level")
-        self.want(result.get("ruleId") in rules if rules else result.get("ruleId"), "ruleId")
-        self.want("ruleIndex" not in result or rules[result["ruleIndex"]] == result.get("ruleId"), "ruleIndex")
+        self.expect(isinstance(result.get("message", {}).get("text"), str), "message.text")
+        self.expect(result.get("level") in LEVELS, "level")
+        self.expect(result.get("ruleId") in rules if rules else result.get("ruleId"), "ruleId")
+        self.expect("ruleIndex" not in result or rules[result["ruleIndex"]] == result.get("ruleId"), "ruleIndex")
         for location in result.get("locations", []):
             place = location.get("physicalLocation", {})
             artifact, region = place.get("artifactLocation", {}), place.get("region", {})
             uri = artifact.get("uri", "")
-            self.want(uri and (RELATIVE.fullmatch(uri) or ABSOLUTE.fullmatch(uri)), f"artifactLocation.uri: {uri}")
-            self.want("uriBaseId" not in artifact or artifact["uriBaseId"] in bases, "uriBaseId")
-            self.want(all(isinstance(region.get(name), int) and region[name] > 0 for name in ("startLine", "startColumn")), "region")
+            self.expect(uri and (RELATIVE.fullmatch(uri) or ABSOLUTE.fullmatch(uri)), f"artifactLocation.uri: {uri}")
+            self.expect("uriBaseId" not in artifact or artifact["uriBaseId"] in bases, "uriBaseId")
+            self.expect(all(isinstance(region.get(name), int) and region[name] > 0 for name in ("startLine", "startColumn")), "region")
 
 
 def expected_result(link: Link, folder: str, sources: str) -> Row:
@@ -220,12 +220,12 @@ def expected_result(link: Link, folder: str, sources: str) -> Row:
     return result
 
 
-def sarif_fault(actual: str, rows: List[Row], folder: str, sources: str = "") -> Optional[str]:
+def sarif_error(actual: str, rows: List[Row], folder: str, sources: str = "") -> Optional[str]:
     """What is wrong with a report in SARIF."""
     log = json.loads(actual)
-    faults = Sarif(log).faults
-    if faults:
-        return faults[0]
+    errors = Sarif(log).errors
+    if errors:
+        return errors[0]
     run = log["runs"][0]
     bases = {"SOURCES": {"uri": sources.rstrip("/") + "/"}} if sources else None
     if run.get("originalUriBaseIds") != bases:

@@ -1,6 +1,6 @@
 """The definitions of a server in crates/site_files/specs (Server.antt, Pages.antt, Hints.antt, Skipped.antt): the same functions, with the same cases in their order.
 
-`server_fault` compares them with the model, which is written from other rules.
+`server_error` compares them with the model, which is written from other rules.
 """
 
 from __future__ import annotations
@@ -462,7 +462,7 @@ def server_of(site: model.Site) -> Server:
     return Server(host, top[:top.index("/", top.index("//") + 2)].encode(), top.encode())
 
 
-def server_fault(found: model.Model) -> Optional[str]:
+def server_error(found: model.Model) -> Optional[str]:
     """A URL for which the definitions say something else than the model, or a file whose own URL they do."""
     site = found.site
     skipped = tuple(SkippedLink(name, hint == model.LEADS_OUT) for name, hint in sorted(site.skipped.items()))
@@ -477,10 +477,10 @@ def server_fault(found: model.Model) -> Optional[str]:
     for url in found.responses:
         if model.is_short("page", url) and not is_response(site, folder, response_at(server, table, folder, url.encode()), url):
             return f"{url}: {response_at(server, table, folder, url.encode())}, the model has {found.responses[url]}"
-    return hint_fault(found, folder, table)
+    return hint_error(found, folder, table)
 
 
-def hint_fault(found: model.Model, folder: Folder, table: Table) -> Optional[str]:
+def hint_error(found: model.Model, folder: Folder, table: Table) -> Optional[str]:
     """A URL without a page for which the definitions have another hint than the model."""
     site = found.site
     server = server_of(site)

@@ -117,7 +117,7 @@ def pages_of(web: bytes) -> Dict[str, List[Tuple[str, str]]]:
     return pages
 
 
-def model_fault(model: Model, web: bytes) -> Optional[str]:
+def model_error(model: Model, web: bytes) -> Optional[str]:
     """A page of the model that this saved web does not have, or a missing page that it has."""
     pages = pages_of(web)
     for url, response in model.responses.items():

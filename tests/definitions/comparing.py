@@ -24,7 +24,7 @@ Result = TypeVar("Result")
 class Outcome(NamedTuple):
     """What was found in a folder, and how much was compared."""
 
-    faults: Tuple[str, ...]
+    errors: Tuple[str, ...]
     counts: Dict[str, int]
 
 
@@ -40,24 +40,24 @@ class Comparison:
 
     def outcome(self, forms: Sequence[str]) -> Outcome:
         """All differences."""
-        return Outcome(tuple(self.faults(forms)), self.counts)
+        return Outcome(tuple(self.errors(forms)), self.counts)
 
-    def faults(self, forms: Sequence[str]) -> Iterator[str]:
+    def errors(self, forms: Sequence[str]) -> Iterator[str]:
         """The differences, one after another."""
-        yield from named("server", served.faults(self.library, self.model, self.files))
-        yield from named("documents", texts.faults(self.library, self.model, self.files, self.read))
+        yield from named("server", served.errors(self.library, self.model, self.files))
+        yield from named("documents", texts.errors(self.library, self.model, self.files, self.read))
         known = pages.Pages(self.library, self.model, self.files, self.read)
-        yield from named("saved web", self.web_faults(known))
+        yield from named("saved web", self.web_errors(known))
         self.counts = {"URLs": len(self.model.responses) + len(self.model.others), "files": len(self.read)}
-        if self.model.fault is None:
-            yield from named("crawl", pages.model_faults(self.model, known.crawl(known.starts(True))))
+        if self.model.error is None:
+            yield from named("crawl", pages.model_errors(self.model, known.crawl(known.starts(True))))
             rows, base = self.rows()
             if not rows:
                 yield "report: the program printed none"
                 return
             check = findings.Check(self.library, self.model, self.files, known, rows)
-            yield from named("report", findings.faults(check))
-            yield from named("form", self.form_faults(base, rows, forms))
+            yield from named("report", findings.errors(check))
+            yield from named("form", self.form_errors(base, rows, forms))
             self.counts.update({"statements about reports": sum(1 for _ in check.statements()), "forms of reports": len(forms)})
         self.counts.update({"pages": len(known.pages), "pages that the definitions leave open": known.open})
 
@@ -80,7 +80,7 @@ class Comparison:
         assert self.program is not None
         return subprocess.run([self.program, *words], capture_output=True, check=False, stdin=subprocess.DEVNULL, timeout=SECONDS)
 
-    def web_faults(self, known: pages.Pages) -> Iterator[str]:
+    def web_errors(self, known: pages.Pages) -> Iterator[str]:
         """The differences in the saved web of the folder that the program prints."""
         if self.program is None or self.settings.is_rooted():
             return
@@ -88,19 +88,19 @@ class Comparison:
         if done.returncode:
             yield f"exit status {done.returncode}: {done.stderr.decode(errors='replace')}"
         else:
-            yield from pages.web_faults(known, done.stdout)
+            yield from pages.web_errors(known, done.stdout)
 
-    def form_faults(self, base: str, rows: Sequence[Row], forms: Sequence[str]) -> Iterator[str]:
+    def form_errors(self, base: str, rows: Sequence[Row], forms: Sequence[str]) -> Iterator[str]:
         """The differences in the forms of the report."""
         if self.program is None:
-            yield from printed.model_faults(self.library, self.settings, self.folder, rows)
+            yield from printed.model_errors(self.library, self.settings, self.folder, rows)
         else:
-            yield from printed.faults(self.library, self.settings, self.folder, base, rows, self.run, forms)
+            yield from printed.errors(self.library, self.settings, self.folder, base, rows, self.run, forms)
 
 
-def named(part: str, faults: Iterator[str]) -> Iterator[str]:
+def named(part: str, errors: Iterator[str]) -> Iterator[str]:
     """Differences with the name of what is compared."""
-    return (f"{part}: {fault}" for fault in faults)
+    return (f"{part}: {error}" for error in errors)
 
 
 def limit_memory() -> None:
@@ -115,8 +115,8 @@ def in_deep_thread(work: Callable[[], Result]) -> Result:
     def called() -> None:
         try:
             results.append((work(), None))
-        except BaseException as fault:  # pylint: disable=broad-except
-            results.append((None, fault))
+        except BaseException as error:  # pylint: disable=broad-except
+            results.append((None, error))
 
     limit = sys.getrecursionlimit()
     sys.setrecursionlimit(DEPTH)
@@ -126,7 +126,7 @@ def in_deep_thread(work: Callable[[], Result]) -> Result:
     thread.join()
     threading.stack_size(0)
     sys.setrecursionlimit(limit)
-    result, fault = results[0]
-    if fault is not None:
-        raise fault
+    result, error = results[0]
+    if error is not None:
+        raise error
     return result  # type: ignore[no-any-return]

@@ -141,7 +141,7 @@ class Statement(NamedTuple):
     """A statement about a report, and what finds an error in it."""
 
     name: str
-    fault: Callable[[], Optional[str]]
+    error: Callable[[], Optional[str]]
 
 
 def equal(actual: Value, expected: Value) -> Optional[str]:
@@ -191,12 +191,12 @@ class Check:
             yield Statement("unlisted_of", lambda: equal(report.unlisted, self.call(
                 "site_check.Unlisted.unlisted_of", self.front, crawled.aliases, crawled.documents, crawled.listed)))
         if self.settings.external:
-            yield Statement("AreExternal", self.external_fault)
-        yield Statement("AreReported", self.reported_fault)
+            yield Statement("AreExternal", self.external_error)
+        yield Statement("AreReported", self.reported_error)
         if self.library.has("site_check.*.in_row"):
-            yield Statement("IsLocated", self.located_fault)
+            yield Statement("IsLocated", self.located_error)
         if self.library.has("mercator_site.*.is_long_file"):
-            yield Statement("IsRightlyMissed", self.false_miss_fault)
+            yield Statement("IsRightlyMissed", self.false_miss_error)
         if self.library.has("mercator_site.*.documents_in"):
             yield Statement("documents_in", lambda: equal(
                 listed(map(text, sorted(map(str.encode, [] if self.settings.reachable else self.model.site.own_starts())))),
@@ -208,13 +208,13 @@ class Check:
         lines = "".join(f" \t{entry}\u00a0\r\n" for entry in self.settings.ignores)
         return f"\ufeff# known\n\n{lines}#".encode()
 
-    def external_fault(self) -> Optional[str]:
+    def external_error(self) -> Optional[str]:
         """An error in the external links."""
         root = self.call("mercator_site.External.host_root", self.files.value)
         urls = sorted(map(unlisted, items(self.call("mercator_site.External.outside_links", root, self.crawled.own))))
         return equal(self.report.external, self.call("mercator_site.External.runs", listed(map(text, urls))))
 
-    def reported_fault(self) -> Optional[str]:
+    def reported_error(self) -> Optional[str]:
         """A part of the statement about all rows that does not hold."""
         crawled = self.crawled
         links = self.call("site_check.Invalid.texts_if", self.settings.invalid, crawled.places, crawled.own)
@@ -233,7 +233,7 @@ class Check:
         })
         return f"does not hold: {', '.join(failures)}" if failures else None
 
-    def located_fault(self) -> Optional[str]:
+    def located_error(self) -> Optional[str]:
         """A location in a row that is not that of a link of its file, or of one that leads elsewhere. Lines and columns are the model's."""
         in_row = self.library.function("site_check.*.in_row")
         for row in items(self.report.broken):
@@ -249,7 +249,7 @@ class Check:
                     return f"{name}:{place.line}:{place.column}: no link to {shown(row.target)}"
         return None
 
-    def false_miss_fault(self) -> Optional[str]:
+    def false_miss_error(self) -> Optional[str]:
         """A missing page for whose URL a server returns a page, if neither that URL nor the file's own one is too long."""
         is_missing, fits = self.library.function("crawl_pages.Pages.is_missing"), self.library.function("document_links.Texts.fits")
         found = [shown(one.url) for one in items(self.crawled.own) if is_missing(one.page) and fits(5, one.url) and self.is_returned(one.url)]
@@ -305,9 +305,9 @@ class Check:
         return [shown_text(f"{self.model.shown(url)}#{fragment}") for url, fragment in found]
 
 
-def faults(check: Check) -> Iterator[str]:
+def errors(check: Check) -> Iterator[str]:
     """The statements that do not hold."""
     for statement in check.statements():
-        fault = statement.fault()
-        if fault:
-            yield f"{statement.name}: {fault}"
+        error = statement.error()
+        if error:
+            yield f"{statement.name}: {error}"

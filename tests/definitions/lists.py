@@ -16,14 +16,14 @@ ERRORS = {
 }
 
 
-def faults(library: Library, folder: str, given: archives.Listed) -> Iterator[str]:
+def errors(library: Library, folder: str, given: archives.Listed) -> Iterator[str]:
     """The differences in what a list means."""
     result = library.function("site_files.SiteList.list_in")(lines(text(given.text)))
     try:
         expected = archives.read_list(given.text)
-    except archives.BadList as fault:
-        if result[0] != "Err" or str(fault) != f"index: line {result[1][1]}: {ERRORS[result[1][0]]}":
-            yield f"list_in: {shown(result)[:300]}, the model has {fault}"
+    except archives.BadList as error:
+        if result[0] != "Err" or str(error) != f"index: line {result[1][1]}: {ERRORS[result[1][0]]}":
+            yield f"list_in: {shown(result)[:300]}, the model has {error}"
         return
     if result[0] != "Ok":
         yield f"list_in: {shown(result)}, the model has no error"
@@ -34,7 +34,7 @@ def faults(library: Library, folder: str, given: archives.Listed) -> Iterator[st
             yield f"list_in: {shown(one)} {shown(name)}, the model has {line}"
     if len(list(items(columns.urls))) != len(expected):
         yield f"list_in: {len(list(items(columns.urls)))} lines, the model has {len(expected)}"
-    yield from page_faults(library, columns, archives.ListedSite(folder, given.settings, expected))
+    yield from page_errors(library, columns, archives.ListedSite(folder, given.settings, expected))
 
 
 def is_line(one: Record, name: Value, line: archives.Line) -> bool:
@@ -44,7 +44,7 @@ def is_line(one: Record, name: Value, line: archives.Line) -> bool:
     return is_same and (one.content[0] == "Redirect") == (line.kind == "redirect") and (line.kind == "redirect" or form == line.form())
 
 
-def page_faults(library: Library, columns: Record, site: archives.ListedSite) -> Iterator[str]:
+def page_errors(library: Library, columns: Record, site: archives.ListedSite) -> Iterator[str]:
     """The URLs for which a list has something else than in the model."""
     listed_at = library.function("site_files.Listed.listed_at")
     top = text(str(site.base).encode())

@@ -163,7 +163,7 @@ def results_of(found: List[Tuple[bytes, Page]]) -> Value:
     return listed(Record(url=text(url), page=page.value) for url, page in found)
 
 
-def model_faults(model: Model, found: List[Tuple[bytes, Page]]) -> Iterator[str]:
+def model_errors(model: Model, found: List[Tuple[bytes, Page]]) -> Iterator[str]:
     """The pages of a crawl below the top that the model does not have, or has with other links."""
     pages = {url.decode(): page for url, page in found if url.decode().startswith(str(model.site.base))}
     for url in sorted({*pages, *model.responses}):
@@ -177,7 +177,7 @@ def model_faults(model: Model, found: List[Tuple[bytes, Page]]) -> Iterator[str]
                 yield f"{url}: other links than in the model"
 
 
-def web_faults(pages: Pages, web: bytes) -> Iterator[str]:
+def web_errors(pages: Pages, web: bytes) -> Iterator[str]:
     """The pages of a saved web that are not those of the server, and pages of the folder that it does not have."""
     fits = pages.library.function("document_links.Texts.fits")
     found = under_in(web)

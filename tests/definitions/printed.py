@@ -69,7 +69,7 @@ def printed(library: Library, settings: Settings, folder: str, base: str, rows: 
     return unlisted(function(*form.arguments, contents_of(settings, folder, form, report), findings_of(base, report)))
 
 
-def faults(
+def errors(
     library: Library, settings: Settings, folder: str, base: str, rows: Sequence[Row], run: Callable[[Tuple[str, ...]], bytes], forms: Sequence[str],
 ) -> Iterator[str]:
     """The forms in which the definitions give other bytes than the program. `run` is what it prints with these options."""
@@ -79,7 +79,7 @@ def faults(
             yield f"{name}: {first_difference(actual, expected)}"
 
 
-def model_faults(library: Library, settings: Settings, folder: str, rows: Sequence[Row]) -> Iterator[str]:
+def model_errors(library: Library, settings: Settings, folder: str, rows: Sequence[Row]) -> Iterator[str]:
     """The forms in which the definitions give other bytes, or other rows, than the model."""
     given = [{**rows[0], "base": ""}, *rows[1:]]
     for name in ("text", "text of all", "text by target"):

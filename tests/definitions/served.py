@@ -13,16 +13,16 @@ from definitions.values import Value, items, shown, text, unlisted
 SMALL = 60  # names of a folder for which each response is also searched in the whole list of pages
 
 
-def faults(library: Library, model: Model, files: Files) -> Iterator[str]:
+def errors(library: Library, model: Model, files: Files) -> Iterator[str]:
     """The differences between the definitions and the model."""
     site = model.site
-    yield from own_faults(library, site, files)
-    yield from start_faults(library, site, files)
+    yield from own_errors(library, site, files)
+    yield from start_errors(library, site, files)
     for url in [*model.responses, *model.others]:
-        yield from url_faults(library, site, files, url)
+        yield from url_errors(library, site, files, url)
 
 
-def url_faults(library: Library, site: Site, files: Files, url: str) -> Iterator[str]:
+def url_errors(library: Library, site: Site, files: Files, url: str) -> Iterator[str]:
     """The differences at a URL."""
     expected = site.served(url)
     response = library.function("site_files.Serving.found_for")(files.server, files.value.pages, files.value.linked, text(url.encode()))
@@ -48,7 +48,7 @@ def is_response(site: Site, files: Files, response: Value, expected: Response) -
     return expected is None
 
 
-def own_faults(library: Library, site: Site, files: Files) -> Iterator[str]:
+def own_errors(library: Library, site: Site, files: Files) -> Iterator[str]:
     """The files whose own URL or kind is another one than in the model."""
     own_url_at = library.function("site_files.Own.own_url_at")
     named_kind, if_read = library.function("site_files.Files.named_kind"), library.function("site_files.Kinds.if_read")
@@ -78,7 +78,7 @@ def form_of(kind: Value) -> Optional[str]:
     return None if kind[0] == "None" else KINDS[kind[1][0]]
 
 
-def start_faults(library: Library, site: Site, files: Files) -> Iterator[str]:
+def start_errors(library: Library, site: Site, files: Files) -> Iterator[str]:
     """Other URLs at which a check starts, and other sitemaps, than in the model."""
     for name, expected in (("start_at", site.own_starts()), ("sitemap_at", site.sitemaps())):
         function = library.function(f"site_files.Own.{name}")

@@ -71,7 +71,7 @@ def link_texts(library: Library, read_links: Value) -> List[str]:
     return [unlisted(clean(link)).decode() for link in items(read_links)]
 
 
-def faults(library: Library, model: Model, files: Files, found: Dict[bytes, Read]) -> Iterator[str]:
+def errors(library: Library, model: Model, files: Files, found: Dict[bytes, Read]) -> Iterator[str]:
     """The differences between the definitions and the model in all files that are read. `found` gets what the definitions find."""
     for name in files.names:
         document = None if name.endswith(b"/") else model.site.document(name)
@@ -88,13 +88,13 @@ def faults(library: Library, model: Model, files: Files, found: Dict[bytes, Read
             if unlisted(utf8_lossy(without_mark(text(body)))) != utf8(given):
                 yield f"{name!r}: IsTextIn Utf8: another text than in the model"
         found[name] = read(library, files, form, value)
-        yield from document_faults(library, name, document, found[name])
+        yield from document_errors(library, name, document, found[name])
         if len(given) < SHORT:
-            yield from point_faults(library, name, document, given)
-    yield from anchor_faults(library, model, found)
+            yield from point_errors(library, name, document, given)
+    yield from anchor_errors(library, model, found)
 
 
-def document_faults(library: Library, name: bytes, document: Document, one: Read) -> Iterator[str]:
+def document_errors(library: Library, name: bytes, document: Document, one: Read) -> Iterator[str]:
     """The differences in a file."""
     links = link_texts(library, one.links)
     expected = [TOOL.cleaned(link.text) for link in document.links]
@@ -108,7 +108,7 @@ def document_faults(library: Library, name: bytes, document: Document, one: Read
         yield f"{name!r}: ids_of: {sorted(ids ^ set(document.ids))[:3]} in only one of both"
 
 
-def point_faults(library: Library, name: bytes, document: Document, given: str) -> Iterator[str]:
+def point_errors(library: Library, name: bytes, document: Document, given: str) -> Iterator[str]:
     """The positions of links in a text whose line and column are others than in the model."""
     point_at = library.function("document_links.Places.point_at")
     for link in document.links[:FEW]:
@@ -117,7 +117,7 @@ def point_faults(library: Library, name: bytes, document: Document, given: str) 
             yield f"{name!r}: point_at {link.at}: {point.line}:{point.column}, the model has {document.lines.place(link.at)}"
 
 
-def anchor_faults(library: Library, model: Model, found: Dict[bytes, Read]) -> Iterator[str]:
+def anchor_errors(library: Library, model: Model, found: Dict[bytes, Read]) -> Iterator[str]:
     """The fragments of links that are judged in another way than in the model."""
     is_indicated = library.function("page_anchors.Indicated.is_indicated")
     seen: Set[Tuple[bytes, str]] = set()

@@ -9,7 +9,7 @@ from random import Random
 from typing import List, Tuple
 
 from serving.lists import compare_lists, expected
-from serving.model import drawn_requests, read
+from serving.model import random_requests, read
 from serving.rebuilds import Known, Refused, Words, lines_of, lists_of, rebuilds, session_with
 from serving.sessions import compare
 from serving.sums import requests_of, whole_lines
@@ -66,7 +66,7 @@ def changed(trial: Trial, draw: Random, old: Words, given: Words, name: str) -> 
     """Compact the log of a random session with these options. Return how that ends."""
     log, new = trial.folder / f"old-{name}.log", trial.folder / f"new-{name}.log"
     count = draw.randrange(1, max(2, trial.lines // draw.choice((1, 4, 40))))
-    data, answers = drawn_requests(draw, count, session_with(old), trial.has_link)
+    data, answers = random_requests(draw, count, session_with(old), trial.has_link)
     if draw.randrange(3) == 0:
         data, answers = ended(data, answers, session_with(old))
     session = Serve(trial.program, (*old, "--log", str(log)))
@@ -88,7 +88,7 @@ def changed(trial: Trial, draw: Random, old: Words, given: Words, name: str) -> 
     expect(written == lines, f"other lines: {written[:9]!r}, expected {lines[:9]!r}")
     rebuilds(before, model.suffix, lists_of(session_with(words), lines))
     compare_lists(trial, new, expected(model))
-    more, answers = drawn_requests(draw, 50, model, trial.has_link)
+    more, answers = random_requests(draw, 50, model, trial.has_link)
     session = Serve(trial.program, (*words, "--log", str(new)))
     compare(more, answers, session.exchange(iter([more])))
     expect(session.end()[0] == 0, "its end")

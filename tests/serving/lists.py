@@ -9,7 +9,7 @@ from pathlib import Path
 from typing import Dict, List, Sequence, Tuple, Union
 
 from serving.logs import SETTINGS
-from serving.model import Session, drawn_requests, session_of
+from serving.model import Session, random_requests, session_of
 from serving.sessions import PARTS, compare
 from serving.trial import SECONDS, Serve, Skipped, Trial, expect
 
@@ -27,7 +27,7 @@ def lists(trial: Trial) -> None:
         model = session_of(words)
         log = trial.folder / f"listed-{number}.log"
         for quarter in range(4):
-            data, answers = drawn_requests(draw, trial.lines // 4, model, trial.has_link)
+            data, answers = random_requests(draw, trial.lines // 4, model, trial.has_link)
             session = Serve(trial.program, (*words, "--log", str(log)))
             sender = threading.Thread(target=session.send, args=(data,), daemon=True)
             sender.start()

@@ -14,7 +14,7 @@ from typing import Iterable, Iterator, List, Optional, Sequence, Tuple
 
 import drawn
 from mercator_frontier import Frontier, FrontierEnded, Refusal
-from serving.model import drawn_requests, drawn_session, read, session_of
+from serving.model import random_requests, random_session, read, session_of
 from serving.sessions import PARTS, compare, random_pieces
 from serving.sums import FLAG, damage, in_pieces, requests_of, whole_lines
 from serving.trial import SECONDS, Differs, Serve, Skipped, Trial, expect
@@ -48,7 +48,7 @@ def killed_sessions(trial: Trial) -> None:
     kills = torn = 0
     for number, words in enumerate((*SETTINGS, *PARTS[:2 * trial.has_part])):
         draw = trial.draw(f"killed session {number}")
-        data, expected = drawn_session(draw, trial.lines, words, trial.has_link)
+        data, expected = random_session(draw, trial.lines, words, trial.has_link)
         lines = whole_lines(data)
         log = trial.folder / f"session-{number}.log"
         words = (*words, "--log", str(log))
@@ -150,7 +150,7 @@ def changed_logs(trial: Trial) -> None:
 
 def logged(trial: Trial, words: Sequence[str], log: Path, draw: Random) -> bytes:
     """Return a log that the program wrote, of a few appends, and check its checksums."""
-    data, _ = drawn_session(draw, CHANGED_LINES, words, trial.has_link)
+    data, _ = random_session(draw, CHANGED_LINES, words, trial.has_link)
     session = Serve(trial.program, (*words, "--log", str(log)))
     for line in whole_lines(data):
         session.ask(line[:-1])
@@ -212,7 +212,7 @@ def resumes(trial: Trial, words: Sequence[str], lines: Sequence[bytes], draw: Ra
             model.answer(read(line))
     except drawn.NotPlain:
         return False
-    data, expected = drawn_requests(draw, CHANGED_LINES, model, trial.has_link)
+    data, expected = random_requests(draw, CHANGED_LINES, model, trial.has_link)
     session = Serve(trial.program, words)
     compare(data, expected, session.exchange(iter([data])))
     status, errors = session.end()
@@ -288,7 +288,7 @@ def compacted_logs(trial: Trial) -> None:
         raise Skipped("the program has no --compact")
     for number, words in enumerate((*SETTINGS, *PARTS[:3 * trial.has_part])):
         draw = trial.draw(f"compacted {number}")
-        data, expected = drawn_session(draw, trial.lines, words, trial.has_link)
+        data, expected = random_session(draw, trial.lines, words, trial.has_link)
         lines = whole_lines(data)
         log = trial.folder / f"whole-{number}.log"
         before = log

@@ -164,7 +164,7 @@ ODD_LINES = (
 )
 
 
-def drawn_line(draw: Random, first: int, workers: int, has_link: bool, hosts: Sequence[drawn.Target]) -> bytes:
+def random_line(draw: Random, first: int, workers: int, has_link: bool, hosts: Sequence[drawn.Target]) -> bytes:
     kind = draw.randrange(100)
     queue = first + draw.choice((*range(min(workers, 4)), *range(min(workers, 4)), workers - 1, workers, -min(first, 1)))
     if kind < 40:
@@ -173,7 +173,7 @@ def drawn_line(draw: Random, first: int, workers: int, has_link: bool, hosts: Se
         return f"offer {draw.choice(drawn.NO_SEEDS)}".encode()
     if kind < 58 and has_link:
         base = draw.choice(("http://a.test/", "x", "", "ftp://a.test/", *[drawn.spelled(draw, draw.choice(hosts))] * 30))
-        return f"link {base} {drawn.drawn_link(draw, list(hosts))}".encode()
+        return f"link {base} {drawn.random_link(draw, list(hosts))}".encode()
     if kind < 75:
         return b"next %d" % queue
     if kind < 87 or kind < 92 and not has_link:
@@ -212,19 +212,19 @@ def session_of(words: Sequence[str]) -> Session:
     return Session(workers, int(settings.get("--max-pending", "1048576")), settings.get("--within"), part)
 
 
-def drawn_session(draw: Random, count: int, words: Sequence[str], has_link: bool) -> Tuple[bytes, List[str]]:
+def random_session(draw: Random, count: int, words: Sequence[str], has_link: bool) -> Tuple[bytes, List[str]]:
     """Return random request lines with their line ends, and the expected answers."""
-    return drawn_requests(draw, count, session_of(words), has_link)
+    return random_requests(draw, count, session_of(words), has_link)
 
 
-def drawn_requests(draw: Random, count: int, session: Session, has_link: bool) -> Tuple[bytes, List[str]]:
+def random_requests(draw: Random, count: int, session: Session, has_link: bool) -> Tuple[bytes, List[str]]:
     """Return random request lines with their line ends, and the answers of a session."""
     workers, first = session.workers, session.part * session.workers
-    hosts = [target for _ in range(12) for target in drawn.drawn_targets(draw, 20)]
+    hosts = [target for _ in range(12) for target in drawn.random_targets(draw, 20)]
     data: List[bytes] = []
     answers: List[str] = []
     while len(answers) < count:
-        line = drawn_line(draw, first, workers, has_link, hosts) if len(answers) != count // 2 else b"endseeds"
+        line = random_line(draw, first, workers, has_link, hosts) if len(answers) != count // 2 else b"endseeds"
         end = draw.choice((b"\n", b"\n", b"\n", b"\r\n"))
         try:
             answers.append(session.answer(read(line + end)))

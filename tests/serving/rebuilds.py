@@ -7,7 +7,7 @@ from random import Random
 from typing import Dict, Iterator, List, NamedTuple, Optional, Sequence, Tuple
 
 import drawn
-from serving.model import Session, drawn_requests, read, session_of
+from serving.model import Session, random_requests, read, session_of
 from serving.sums import whole_lines
 from serving.trial import expect
 
@@ -150,9 +150,9 @@ def rebuilds(old: Lists, suffix: Optional[str], new: Lists) -> None:
         expect([url for url in waits if host_of(url) == host] == own, f"the order of {host}")
 
 
-def drawn_rebuild(draw: Random, count: int, old: Words, words: Words) -> str:
+def random_rebuild(draw: Random, count: int, old: Words, words: Words) -> str:
     """Compact a random session to other options, and check the result. Return how that ends."""
-    data, _ = drawn_requests(draw, count, session_with(old), True)
+    data, _ = random_requests(draw, count, session_with(old), True)
     copy, new = session_with(old), session_with(words)
     before = lists_of(copy, [read(line) for line in whole_lines(data)])
     try:

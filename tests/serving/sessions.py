@@ -13,7 +13,7 @@ from pathlib import Path
 from random import Random
 from typing import Iterator, List, Tuple
 
-from serving.model import drawn_session
+from serving.model import random_session
 from serving import ROOT
 from serving.trial import SECONDS, Serve, Trial, expect
 
@@ -54,12 +54,12 @@ def random_pieces(draw: Random, data: bytes) -> Iterator[bytes]:
         begin += size
 
 
-def drawn_parts(trial: Trial) -> None:
+def random_parts(trial: Trial) -> None:
     """Random sessions of parts; each URL has one part; and bad values of --part."""
     trial.require_part()
     for number, words in enumerate(PARTS):
         draw = trial.draw(f"part {number}")
-        data, expected = drawn_session(draw, trial.lines // 4, words, trial.has_link)
+        data, expected = random_session(draw, trial.lines // 4, words, trial.has_link)
         session = Serve(trial.program, words)
         compare(data, expected, session.exchange(random_pieces(draw, data)))
         expect(session.end() == (0, ""), "it did not end like at the end of its input")
@@ -88,12 +88,12 @@ def one_owner(trial: Trial, parts: int) -> None:
         expect(session.end() == (0, ""), "its end")
 
 
-def drawn_sessions(trial: Trial) -> None:
+def random_sessions(trial: Trial) -> None:
     """Random sessions, which have every kind of answer."""
     came: Counter[str] = Counter()
     for number, words in enumerate(SETTINGS):
         draw = trial.draw(f"session {number}")
-        data, expected = drawn_session(draw, trial.lines, words, trial.has_link)
+        data, expected = random_session(draw, trial.lines, words, trial.has_link)
         came.update(re.sub(r"^(accepted|taken|pending|count|stats) .*", r"\1", line) for line in expected)
         session = Serve(trial.program, words)
         compare(data, expected, session.exchange(random_pieces(draw, data)))
@@ -116,7 +116,7 @@ def transcript(trial: Trial) -> None:
 
 def all_at_once(trial: Trial) -> None:
     """A session whose input is a file, and whose last line has no line end."""
-    data, expected = drawn_session(trial.draw("at once"), trial.lines, SETTINGS[0], trial.has_link)
+    data, expected = random_session(trial.draw("at once"), trial.lines, SETTINGS[0], trial.has_link)
     file = trial.folder / "requests"
     file.write_bytes(data.rstrip(b"\r\n"))
     with open(file, "rb") as requests:
@@ -128,7 +128,7 @@ def all_at_once(trial: Trial) -> None:
 
 def byte_by_byte(trial: Trial) -> None:
     """Requests byte by byte; each answer comes before the next line begins."""
-    data, expected = drawn_session(trial.draw("bytes"), trial.lines // 20, SETTINGS[3], trial.has_link)
+    data, expected = random_session(trial.draw("bytes"), trial.lines // 20, SETTINGS[3], trial.has_link)
     session = Serve(trial.program, SETTINGS[3])
     for request, expected_line in zip(data.split(b"\n"), expected):
         if len(request) < 500:
@@ -144,7 +144,7 @@ def byte_by_byte(trial: Trial) -> None:
 def stopped_between(trial: Trial) -> None:
     """SIGSTOP and SIGCONT while requests and answers are being sent."""
     draw = trial.draw("stop")
-    data, expected = drawn_session(draw, trial.lines, SETTINGS[5], trial.has_link)
+    data, expected = random_session(draw, trial.lines, SETTINGS[5], trial.has_link)
     session = Serve(trial.program, SETTINGS[5])
     ended = threading.Event()
 
