@@ -3,13 +3,13 @@
 # colours and in the fonts of this machine. It fails if the picture is larger than 150 KB. Needs Debian's chromium.
 #
 # Usage: tools/report_picture.sh [FILE]     FILE is docs/report.png by default
-# Environment: PROGRAM, mercator's path (default: the program that this repository builds); HEIGHT, the picture's in pixels (default: 1110).
+# Environment: PROGRAM, mercator's path (default: the program that this repository builds); HEIGHT, the picture's in pixels (default: 1160).
 set -euo pipefail
 cd "$(dirname "$0")/.."
 program=${PROGRAM:-crates/mercator_cli/out/mercator_cli}
 picture=${1:-docs/report.png}
 width=1200
-height=${HEIGHT:-1110}
+height=${HEIGHT:-1160}
 scale=1.5 # pixels for each CSS pixel, so that the text stays legible when a page shows the picture smaller
 most=150000
 scratch=$(mktemp -d)
