@@ -35,12 +35,12 @@ led_shorter test bytes = grind (arith, shorter)
 
 -- if the machine stays in a state over a run, the run is one jump
 
-jump : (at : Context) (here : State) (test : ℕ → Bool) → ((c : ℕ) → test c ≡ true → step at here c ≡ Go here) → (bytes : List ℕ) → read at here bytes ≡ read at here (following test bytes)
+jump : (at : Context) (here : State) (test : ℕ → Bool) → ((c n : ℕ) → test c ≡ true → step at here c n ≡ Go here) → (bytes : List ℕ) → read at here bytes ≡ read at here (following test bytes)
 jump at here test stays [] = refl
 jump at here test stays (c ∷ rest) = grind (arith, jump at here test stays rest)
 
 to_less : (at : Context) (bytes : List ℕ) → read at Data bytes ≡ read at Data (following (λ c. not (c == 60)) bytes)
-to_less at = jump at Data (λ c. not (c == 60)) (λ c e. cond-false (c == 60) (Go TagOpen) (Go Data) (not-true (c == 60) e))
+to_less at = jump at Data (λ c. not (c == 60)) (λ c n e. cond-false (c == 60) (Go TagOpen) (Go Data) (not-true (c == 60) e))
 
 pub read_less : (at : Context) (bytes opened : List ℕ) → 60 ∷ opened ≡ following (λ c. not (c == 60)) bytes → read at Data bytes ≡ read at TagOpen opened
 read_less at bytes opened cut = to_less at bytes ∙ ap (read at Data) (sym cut)
@@ -49,7 +49,7 @@ pub read_text : (at : Context) (bytes : List ℕ) → following (λ c. not (c ==
 read_text at bytes none = to_less at bytes ∙ ap (read at Data) none
 
 pub to_greater : (at : Context) (bytes : List ℕ) → read at Bogus bytes ≡ read at Bogus (following (λ c. not (c == 62)) bytes)
-to_greater at = jump at Bogus (λ c. not (c == 62)) (λ c e. cond-false (c == 62) (Go Data) (Go Bogus) (not-true (c == 62) e))
+to_greater at = jump at Bogus (λ c. not (c == 62)) (λ c n e. cond-false (c == 62) (Go Data) (Go Bogus) (not-true (c == 62) e))
 
 pub cut_shorter : (test : ℕ → Bool) (bytes rest : List ℕ) (c : ℕ) → c ∷ rest ≡ following test bytes → length rest < length bytes
 cut_shorter test bytes rest c cut =
@@ -65,10 +65,10 @@ names k = elim k [ Space ↦ false | Slash ↦ false | Greater ↦ false | _ ↦
 name_stays : (at : Context) (k : Class) (ends : Bool) (name : List ℕ) (c : ℕ) → names k ≡ true → name_step at k ends name c ≡ Go (TagName ends (name ++ lower c ∷ []))
 name_stays at k ends name c e = grind arith
 
-name_ends : (at : Context) (k : Class) (ends : Bool) (name : List ℕ) (c : ℕ) → names k ≡ false → name_step at k ends name c ≡ tag_step at ends name (tags.step BeforeName k c [])
-name_ends at k ends name c e = grind arith
+name_ends : (at : Context) (k : Class) (ends : Bool) (name : List ℕ) (c n : ℕ) → names k ≡ false → name_step at k ends name c ≡ tag_step at ends name (tags.step BeforeName k c n [])
+name_ends at k ends name c n e = grind arith
 
-name_jump_at : (at : Context) (ends b : Bool) (name : List ℕ) (c : ℕ) (rest some more : List ℕ) → (b ≡ true → step at (TagName ends name) c ≡ Go (TagName ends (name ++ lower c ∷ []))) →
+name_jump_at : (at : Context) (ends b : Bool) (name : List ℕ) (c : ℕ) (rest some more : List ℕ) → (b ≡ true → step at (TagName ends name) c (length rest) ≡ Go (TagName ends (name ++ lower c ∷ []))) →
     read at (TagName ends (name ++ lower c ∷ [])) rest ≡ read at (TagName ends ((name ++ lower c ∷ []) ++ map lower some)) more →
     read at (TagName ends name) (c ∷ rest) ≡ read at (TagName ends (name ++ map lower (cond b (c ∷ some) []))) (cond b more (c ∷ rest))
 name_jump_at at ends true name c rest some more stays later =
@@ -81,15 +81,15 @@ name_jump at ends name (c ∷ rest) =
     name_jump_at at ends (in_tag_name c) name c rest (front in_tag_name rest) (following in_tag_name rest) (λ e. name_stays at (class_of c) ends name c e) (name_jump at ends (name ++ lower c ∷ []) rest)
 
 -- from a state in which a letter begins a name
-pub read_tag_name : (at : Context) (here : State) (ends : Bool) (bytes : List ℕ) (first : ℕ) (more name rest : List ℕ) → bytes ≡ first ∷ more → step at here first ≡ Go (TagName ends (lower first ∷ [])) →
+pub read_tag_name : (at : Context) (here : State) (ends : Bool) (bytes : List ℕ) (first : ℕ) (more name rest : List ℕ) → bytes ≡ first ∷ more → step at here first (length more) ≡ Go (TagName ends (lower first ∷ [])) →
     name ≡ led_front in_tag_name bytes → rest ≡ led_after in_tag_name bytes → read at here bytes ≡ read at (InTag ends (map lower name) BeforeName []) rest
 read_tag_name at here ends bytes first more name rest is begins front_is after_is = grind (arith, name_jump, stopped, name_ends)
 
-pub letter_opens : (at : Context) (first : ℕ) → opening.Letter ≡ opening_of first → step at TagOpen first ≡ Go (TagName false (lower first ∷ []))
-letter_opens at first letter = ap (λ k. open_step k first) (sym letter)
+pub letter_opens : (at : Context) (first n : ℕ) → opening.Letter ≡ opening_of first → step at TagOpen first n ≡ Go (TagName false (lower first ∷ []))
+letter_opens at first n letter = ap (λ k. open_step k first) (sym letter)
 
-pub letter_opens_end : (at : Context) (first : ℕ) → opening.Letter ≡ opening_of first → step at EndTagOpen first ≡ Go (TagName true (lower first ∷ []))
-letter_opens_end at first letter = ap (λ k. end_open_step k first) (sym letter)
+pub letter_opens_end : (at : Context) (first n : ℕ) → opening.Letter ≡ opening_of first → step at EndTagOpen first n ≡ Go (TagName true (lower first ∷ []))
+letter_opens_end at first n letter = ap (λ k. end_open_step k first) (sym letter)
 
 -- a `</` before a byte other than a letter
 
@@ -129,7 +129,7 @@ in_tag_at at ends name next rest later = grind arith
 
 pub in_tag : (at : Context) (ends : Bool) (name : List ℕ) (s : tags.State) (all : List Attribute) (bytes : List ℕ) → read at (InTag ends name s all) bytes ≡ tag_then at ends name (tags.run s all bytes)
 in_tag at ends name s all [] = refl
-in_tag at ends name s all (c ∷ rest) = in_tag_at at ends name (tags.step s (class_of c) c all) rest (λ s all. in_tag at ends name s all rest)
+in_tag at ends name s all (c ∷ rest) = in_tag_at at ends name (tags.step s (class_of c) c (length rest) all) rest (λ s all. in_tag at ends name s all rest)
 
 -- a whole comment, and a whole CDATA section
 
@@ -181,7 +181,7 @@ tag_less_at next rest t later e = grind arith
 pub tag_less : (s : tags.State) (all : List Attribute) (bytes : List ℕ) (t : Tag) → tags.run s all bytes ≡ Some t → length t.rest < length bytes
 tag_less s all [] t e = absurd (cc)
 tag_less s all (c ∷ rest) t e =
-    let less : length t.rest < length rest + 1 = tag_less_at (tags.step s (class_of c) c all) rest t (λ s all e. tag_less s all rest t e) e in omega arith
+    let less : length t.rest < length rest + 1 = tag_less_at (tags.step s (class_of c) c (length rest) all) rest t (λ s all e. tag_less s all rest t e) e in omega arith
 
 -- the loop over a document
 
@@ -286,7 +286,7 @@ raw_then at None = []
 raw_then at (Some here) = read at (InTag true [] BeforeName []) here
 
 in_raw_at : (at : Context) (name : List ℕ) (c : ℕ) (next : raw.Next) (rest : List ℕ) → ((s : raw.State) → read at (InRaw name s) rest ≡ raw_then at (raw.run name s rest)) →
-    follow at (raw_step at name c next) rest (λ at here. read at here rest) ≡ raw_then at (raw.follow next (λ s. raw.run name s rest) (c ∷ rest))
+    follow at (raw_step at name c (length rest) next) rest (λ at here. read at here rest) ≡ raw_then at (raw.follow next (λ s. raw.run name s rest) (c ∷ rest))
 in_raw_at at name c next rest later = grind arith
 
 pub in_raw : (at : Context) (name : List ℕ) (s : raw.State) (bytes : List ℕ) → read at (InRaw name s) bytes ≡ raw_then at (raw.run name s bytes)
@@ -339,7 +339,7 @@ pub to_script : (k : Content) (name bytes : List ℕ) → content.Script ≡ k �
 to_script k name bytes e at = ap (λ k. read at (after_start k name) bytes) (sym e)
 
 in_script_at : (at : Context) (c : ℕ) (n : nexts.Next) (rest : List ℕ) → ((s : code.State) → read at (InScript s) rest ≡ raw_then at (scripts.run s rest)) →
-    follow at (script_step at c n) rest (λ at here. read at here rest) ≡ raw_then at (scripts.follow n (λ s. scripts.run s rest) (c ∷ rest))
+    follow at (script_step at c (length rest) n) rest (λ at here. read at here rest) ≡ raw_then at (scripts.follow n (λ s. scripts.run s rest) (c ∷ rest))
 in_script_at at c n rest later = grind arith
 
 pub in_script : (at : Context) (s : code.State) (bytes : List ℕ) → read at (InScript s) bytes ≡ raw_then at (scripts.run s bytes)

@@ -9,6 +9,8 @@ pub mod Reading
 pub mod Naming
 pub mod Passing
 pub mod Templates
+pub mod Placing
+pub mod Counting
 pub mod Scripts
 pub mod Decoding
 pub mod Sources

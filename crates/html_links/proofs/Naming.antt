@@ -19,5 +19,5 @@ otherwise b x y z isnt later = grind arith
 pub or_none : (value : Option (List ℕ)) → option_or value None ≡ value
 or_none value = grind arith
 
-pub not_read : (v : Values) (e : Element) (name found : List ℕ) → has_rare_names e ≡ false → may_be LENGTHS name ≡ false → with_attribute v (names_of_attributes e) (record { name = map lower name; value = found }) ≡ v
-not_read v e name found common other = grind (arith, other_name, lower_may, or_none)
+pub not_read : (v : Values) (e : Element) (name found : List ℕ) (left : ℕ) → has_rare_names e ≡ false → may_be LENGTHS name ≡ false → with_attribute v (names_of_attributes e) (record { name = map lower name; value = found; left = left }) ≡ v
+not_read v e name found left common other = grind (arith, other_name, lower_may, or_none)

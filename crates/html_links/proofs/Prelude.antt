@@ -5,12 +5,12 @@ pub use Rattle.html_links.specs.Contexts.{element_at, ends_template, inner_conte
 pub use Rattle.html_links.specs.Document.{Data, EndTagOpen, InTag, Start, TagOpen, TemplateEnd, Token, after_start, past_tag, content_at, content_of, end_tag, entered, passed, read, start_tags, tags_of}
 pub use Rattle.html_links.specs.Elements.{AttributeNames, element_of, has_rare_names, is_template, is_usual, names_of_attributes}
 pub use Rattle.html_links.specs.Lengths.{may_be}
-pub use Rattle.html_links.specs.Links.{are_enough, base_in, base_of, needed_texts, ids_in, ids_of, is_link_type, links_in, links_of, or_later, types_after}
+pub use Rattle.html_links.specs.Links.{base_in, base_of, needed_texts, ids_in, ids_of, is_link_type, links_in, links_of, or_later, types_after}
 pub use Rattle.html_links.specs.Markup.{in_tag_name, led_after, led_front, read_rest, rest_of, start_tag_at}
 pub use Rattle.html_links.specs.Reads.{base_at}
 pub use Rattle.html_links.specs.Seen.{Seen, opened, seen_from, seen_rest, seen_with, seen_within}
 pub use Rattle.html_links.specs.Shown.{BeginsName, Leaves, Stopped, attribute_at, begins, following, front, in_name, in_unquoted, is_space, following_name, name_front, tag_at}
-pub use Rattle.html_links.specs.Styles.{past_comment, found_with, style_links_of, urls_of}
+pub use Rattle.html_links.specs.Styles.{past_comment, style_links_of}
 pub use Rattle.html_links.specs.Tags.{Attribute, BeforeName, Tag, class_of, is_letter, lower, run, tag_of}
 pub use Rattle.html_links.specs.Values.{Values, first_named, no_values, or_named, tag_with, values_at, values_in, values_of, with_attribute}
 pub use Rattle.html_links.specs.declared.context.Context.{Context}

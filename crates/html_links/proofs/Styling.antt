@@ -4,9 +4,9 @@ use Rattle.html_links.specs.declared.style.Run.{Run}
 use Rattle.html_links.specs.declared.style.Run.TheVariants as run
 use Rattle.html_links.specs.declared.escapes.State.{State}
 use Rattle.html_links.specs.declared.escapes.State.TheVariants as state
-use Rattle.html_links.specs.Escapes.{state_after, unescaped}
+use Rattle.html_links.specs.Escapes.{state_after}
 use Rattle.html_links.specs.Refresh.{after_letter, and_then, is_quote}
-use Rattle.html_links.specs.Styles.{is_wide_space, Found, or_found, continues, after_run, before, run_in, closed, quoted, after_closed, after_quoted, some_url, plain, in_brackets, after_url, after_import, opened, past_comment, found_after, found_at, after_name, passed, pass, urls_after, urls_within, urls_of}
+use Rattle.html_links.specs.Styles.{is_wide_space, Found, or_found, continues, after_run, before, run_in, closed, quoted, after_closed, after_quoted, some_url, plain, in_brackets, after_url, after_import, opened, past_comment, found_after, found_at, after_name, passed, pass, founds_after, founds_within, founds_of}
 use Rattle.html_links.proofs.Jumps.{shorter}
 use Rattle.html_links.proofs.Sources.{front_all}
 
@@ -79,8 +79,8 @@ text_less (c ∷ rest) n e =
 name_less : (c : ℕ) (rest : List ℕ) → length (after_name c rest) ≤ length rest
 name_less c rest = grind (arith, run_less run.Word (state_after state.Plain c) rest)
 
-some_less : (url bytes : List ℕ) (f : Found) → some_url url bytes ≡ Some f → length f.rest ≤ length bytes
-some_less url bytes f e = grind arith
+some_less : (url : List ℕ) (left : ℕ) (bytes : List ℕ) (f : Found) → some_url url left bytes ≡ Some f → length f.rest ≤ length bytes
+some_less url left bytes f e = grind arith
 
 or_less : (a b : Option Found) (n : ℕ) → ((f : Found) → a ≡ Some f → length f.rest ≤ n) → ((f : Found) → b ≡ Some f → length f.rest ≤ n) → (f : Found) → or_found a b ≡ Some f → length f.rest ≤ n
 or_less a b n less other f e = grind arith
@@ -89,7 +89,7 @@ brackets_less : (bytes : List ℕ) (f : Found) → in_brackets bytes ≡ Some f 
 brackets_less bytes f e =
     let inner = following is_wide_space bytes in
     let le : length f.rest ≤ length inner = or_less (quoted inner) (plain inner) (length inner) (λ f e. omega (arith, quoted_less inner f e))
-    (λ f e. omega (arith, some_less (before inner (after_run run.Plain state.Plain inner)) (after_run run.Plain state.Plain inner) f e, run_less run.Plain state.Plain inner)) f e in
+    (λ f e. omega (arith, some_less (before inner (after_run run.Plain state.Plain inner)) (length inner) (after_run run.Plain state.Plain inner) f e, run_less run.Plain state.Plain inner)) f e in
     omega (arith, le, shorter is_wide_space bytes)
 
 after_less : (url : Option (List ℕ)) (imports : Bool) (bytes : List ℕ) → ((n : List ℕ) → url ≡ Some n → length n < length bytes) → (f : Found) → found_after url imports bytes ≡ Some f → length f.rest < length bytes
@@ -126,11 +126,11 @@ pass_less imports more bytes rest left c is passes =
 
 -- allowing more bytes gives the same URLs
 
-after_same : (o : Option Found) (left : List ℕ × Bool) (n : ℕ) (on other : Bool → List ℕ → List (List ℕ)) → ((f : Found) → o ≡ Some f → length f.rest < n) → length left.0 < n →
-    ((imports : Bool) (bytes : List ℕ) → length bytes < n → on imports bytes ≡ other imports bytes) → urls_after o left on ≡ urls_after o left other
+after_same : (o : Option Found) (left : List ℕ × Bool) (n : ℕ) (on other : Bool → List ℕ → List Found) → ((f : Found) → o ≡ Some f → length f.rest < n) → length left.0 < n →
+    ((imports : Bool) (bytes : List ℕ) → length bytes < n → on imports bytes ≡ other imports bytes) → founds_after o left on ≡ founds_after o left other
 after_same o left n on other less passes same = grind arith
 
-within : (n m : ℕ) (imports : Bool) (bytes : List ℕ) → length bytes ≤ n → length bytes ≤ m → urls_within n imports bytes ≡ urls_within m imports bytes
+within : (n m : ℕ) (imports : Bool) (bytes : List ℕ) → length bytes ≤ n → length bytes ≤ m → founds_within n imports bytes ≡ founds_within m imports bytes
 within zero zero imports bytes a b = refl
 within zero (suc m) imports [] a b = refl
 within zero (suc m) imports (c ∷ rest) a b = absurd (omega (arith, a))
@@ -138,11 +138,11 @@ within (suc n) zero imports [] a b = refl
 within (suc n) zero imports (c ∷ rest) a b = absurd (omega (arith, b))
 within (suc n) (suc m) imports [] a b = refl
 within (suc n) (suc m) imports (c ∷ rest) a b =
-    after_same (found_at imports (c ∷ rest)) (pass imports (c ∷ rest)) (length (c ∷ rest)) (urls_within n) (urls_within m) (found_less imports (c ∷ rest)) (byte_less imports c rest)
+    after_same (found_at imports (c ∷ rest)) (pass imports (c ∷ rest)) (length (c ∷ rest)) (founds_within n) (founds_within m) (found_less imports (c ∷ rest)) (byte_less imports c rest)
     (λ imports bytes less. within n m imports bytes (omega (arith, less, a)) (omega (arith, less, b)))
 
-pub next_found : (imports : Bool) (bytes rest : List ℕ) (c : ℕ) (f : Found) → bytes ≡ c ∷ rest → Some f ≡ found_at imports bytes → urls_of imports bytes ≡ unescaped f.url ∷ urls_of false f.rest
+pub next_found : (imports : Bool) (bytes rest : List ℕ) (c : ℕ) (f : Found) → bytes ≡ c ∷ rest → Some f ≡ found_at imports bytes → founds_of imports bytes ≡ f ∷ founds_of false f.rest
 next_found imports bytes rest c f is found = grind (arith, after_same, found_less, byte_less, within)
 
-pub none_found : (imports more : Bool) (bytes rest left : List ℕ) (c : ℕ) → bytes ≡ c ∷ rest → None ≡ found_at imports bytes → (left, more) ≡ pass imports bytes → urls_of imports bytes ≡ urls_of more left
+pub none_found : (imports more : Bool) (bytes rest left : List ℕ) (c : ℕ) → bytes ≡ c ∷ rest → None ≡ found_at imports bytes → (left, more) ≡ pass imports bytes → founds_of imports bytes ≡ founds_of more left
 none_found imports more bytes rest left c is found passes = grind (arith, after_same, found_less, byte_less, within)

@@ -1,7 +1,7 @@
 -- The tags of a document, as the HTML Standard's tokenizer reads them in its states from the data state to the DOCTYPE state. The
 -- name of an element and its context determine how its content is read. A doctype ends at the first `>` in each of its states, as a
 -- bogus comment does.
-use Rattle.std.specs.Prelude.{ℕ, ◌==◌, ◌||◌, ◌&&◌, Bool, true, false, if◌then◌else◌, List, [], ◌∷◌, ◌++◌, reverse, codes, bytes_eq}
+use Rattle.std.specs.Prelude.{ℕ, ◌==◌, ◌||◌, ◌&&◌, Bool, true, false, if◌then◌else◌, List, [], ◌∷◌, ◌++◌, length, reverse, codes, bytes_eq}
 use Rattle.html_links.specs.declared.bytes.Class.{Class}
 use Rattle.html_links.specs.declared.bytes.Class.TheVariants.{Space, Slash, Greater}
 use Rattle.html_links.specs.declared.document.Opening.{Opening}
@@ -167,28 +167,29 @@ declaration_step at c =
 
 -- a step in raw text; after the name of its end tag comes the state before an attribute's name. The name is left out, since the end
 -- tag ends no other element
-abbrev pub raw_step : Context → List ℕ → ℕ → raw.Next → Next
-raw_step at name c (raw.Go state) = Go (InRaw name state)
-raw_step at name c raw.Ends = tag_step at true [] (tags.step BeforeName (class_of c) c [])
+abbrev pub raw_step : Context → List ℕ → ℕ → ℕ → raw.Next → Next
+raw_step at name c left (raw.Go state) = Go (InRaw name state)
+raw_step at name c left raw.Ends = tag_step at true [] (tags.step BeforeName (class_of c) c left [])
 
-abbrev pub script_step : Context → ℕ → nexts.Next → Next
-script_step at c (next.Go state) = Go (InScript state)
-script_step at c next.Ends = tag_step at true [] (tags.step BeforeName (class_of c) c [])
+abbrev pub script_step : Context → ℕ → ℕ → nexts.Next → Next
+script_step at c left (next.Go state) = Go (InScript state)
+script_step at c left next.Ends = tag_step at true [] (tags.step BeforeName (class_of c) c left [])
 
-abbrev pub step : Context → State → ℕ → Next
-step at Data c = data_step c
-step at TagOpen c = open_step (opening_of c) c
-step at EndTagOpen c = end_open_step (opening_of c) c
-step at (TagName ends name) c = name_step at (class_of c) ends name c
-step at (InTag ends name state all) c = tag_step at ends name (tags.step state (class_of c) c all)
-step at MarkupDeclaration c = declaration_step at c
-step at MarkupDash c = if c == 45 then Go (InComment comments.Start) else bogus_step c
-step at Bogus c = bogus_step c
-step at (InComment state) c = comment_step (comments.step state (mark_of c))
-step at (InCdata state) c = cdata_step (cdata.step state c)
-step at (InRaw name state) c = raw_step at name c (raw.step name state c)
-step at (InScript state) c = script_step at c (scripts.step state c)
-step at InPlain c = Go InPlain
+-- the step at a byte, with this number of bytes after it
+abbrev pub step : Context → State → ℕ → ℕ → Next
+step at Data c left = data_step c
+step at TagOpen c left = open_step (opening_of c) c
+step at EndTagOpen c left = end_open_step (opening_of c) c
+step at (TagName ends name) c left = name_step at (class_of c) ends name c
+step at (InTag ends name state all) c left = tag_step at ends name (tags.step state (class_of c) c left all)
+step at MarkupDeclaration c left = declaration_step at c
+step at MarkupDash c left = if c == 45 then Go (InComment comments.Start) else bogus_step c
+step at Bogus c left = bogus_step c
+step at (InComment state) c left = comment_step (comments.step state (mark_of c))
+step at (InCdata state) c left = cdata_step (cdata.step state c)
+step at (InRaw name state) c left = raw_step at name c left (raw.step name state c)
+step at (InScript state) c left = script_step at c left (scripts.step state c)
+step at InPlain c left = Go InPlain
 
 abbrev pub follow : Context → Next → List ℕ → (Context → State → List Token) → List Token
 follow at (Go here) rest on = on at here
@@ -197,7 +198,7 @@ follow at (Emit found after here) rest on = found rest ++ on after here
 -- the tags that end in these bytes, which begin in this context and state
 abbrev pub read : Context → State → List ℕ → List Token
 read at here [] = []
-read at here (c ∷ rest) = follow at (step at here c) rest (λ at here. read at here rest)
+read at here (c ∷ rest) = follow at (step at here c (length rest)) rest (λ at here. read at here rest)
 
 abbrev pub start_tags : List Token → List StartTag
 start_tags [] = []

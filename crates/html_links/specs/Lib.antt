@@ -21,6 +21,7 @@ pub mod Decoding
 pub mod Candidates
 pub mod Refresh
 pub mod Links
+pub mod Positions
 pub mod Passed
 pub mod Reads
 pub mod Escapes

@@ -1,5 +1,5 @@
 -- The links of a document, with or without those of its styles, its base, and its ids.
-use Rattle.std.specs.Prelude.{ℕ, ◌==◌, ◌||◌, nat_le, not, Bool, true, false, if◌then◌else◌, List, [], ◌∷◌, ◌++◌, codes, take, Option, None, Some, bytes_eq}
+use Rattle.std.specs.Prelude.{◌≤◌, ℕ, ◌==◌, ◌||◌, not, Bool, true, false, if◌then◌else◌, List, [], ◌∷◌, ◌++◌, codes, take, Option, None, Some, bytes_eq}
 use Rattle.html_links.specs.declared.context.Syntax.{Syntax}
 use Rattle.html_links.specs.declared.context.Syntax.TheVariants as syntax
 use Rattle.html_links.specs.declared.element.Element.{Element}
@@ -188,10 +188,10 @@ abbrev pub needed_texts : Option ℕ → List (List ℕ) → List (List ℕ)
 needed_texts None texts = texts
 needed_texts (Some needed) texts = take needed texts
 
--- this number of texts is enough
-abbrev pub are_enough : Option ℕ → ℕ → Bool
-are_enough None count = false
-are_enough (Some needed) count = nat_le needed count
+-- this number of links is enough
+abbrev pub AreEnough : Option ℕ → ℕ → Type 0
+AreEnough None count = ⊥
+AreEnough (Some needed) count = needed ≤ count
 
 abbrev pub base_text : Option (List ℕ) → Option (List ℕ)
 base_text None = None

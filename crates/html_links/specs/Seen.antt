@@ -1,5 +1,5 @@
 -- What a reader of links sees of a page: for each start tag its name and element, the values of its attributes that are read, and
--- the style sheet in the element. The contents of a `template` element are in a document fragment that is not part of the page,
+-- the style sheet in the element, and the number of bytes after the tag. The contents of a `template` element are in a document fragment that is not part of the page,
 -- unless it becomes a shadow root.
 use Rattle.std.specs.Prelude.{◌<◌, ◌≤◌, ℕ, zero, suc, ◌-◌, ◌==◌, ◌&&◌, not, Bool, if◌then◌else◌, List, [], ◌∷◌, length, map, take, codes, Option, None, Some, bytes_eq}
 use Rattle.std.specs.Borrow.{Bor}
@@ -20,6 +20,7 @@ pub record Seen : Type 0 where
   pub element : Element
   pub values : Values
   pub sheet : List ℕ
+  pub left : ℕ
 
 abbrev pub sheet_before : Option (List ℕ) → List ℕ → List ℕ
 sheet_before None bytes = bytes
@@ -37,13 +38,13 @@ abbrev pub sheet_of : Context → List ℕ → Bool → List ℕ → List ℕ
 sheet_of at name self_closing bytes =
     if bytes_eq name (codes "style") then (if is_foreign at then foreign_sheet self_closing bytes else raw_sheet bytes) else []
 
-abbrev pub seen_with : List ℕ → Element → Values → List ℕ → Seen
-seen_with name element values sheet = record { name = name; element = element; values = values; sheet = sheet }
+abbrev pub seen_with : List ℕ → Element → Values → List ℕ → ℕ → Seen
+seen_with name element values sheet left = record { name = name; element = element; values = values; sheet = sheet; left = left }
 
 -- what is seen of a start tag with these bytes after it
 abbrev pub seen_of : Context → StartTag → List ℕ → Seen
 seen_of at t bytes =
-    seen_with t.name (element_at at t.name) (values_of (names_of_attributes (element_at at t.name)) t.attributes t.self_closing) (sheet_of at t.name t.self_closing bytes)
+    seen_with t.name (element_at at t.name) (values_of (names_of_attributes (element_at at t.name)) t.attributes t.self_closing) (sheet_of at t.name t.self_closing bytes) (length bytes)
 
 -- the number of templates that are open after the tag, if none was open before it
 abbrev pub opened : Context → Seen → ℕ
@@ -76,7 +77,7 @@ ContentLeaves None bytes = Unit {0}
 ContentLeaves (Some x) bytes = length x.1.now ≤ length bytes
 
 abbrev pub seen_at : NextTag → Values → Seen
-seen_at t values = seen_with (map lower t.name.now) t.element values (sheet_of t.own (map lower t.name.now) values.self_closing t.text.now)
+seen_at t values = seen_with (map lower t.name.now) t.element values (sheet_of t.own (map lower t.name.now) values.self_closing t.text.now) (length t.text.now)
 
 abbrev pub LeavesTag : Option NextTag → List ℕ → Type 0
 LeavesTag None bytes = Unit {0}

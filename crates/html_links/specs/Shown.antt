@@ -48,7 +48,7 @@ following_name [] = []
 following_name (c ∷ rest) = following in_name rest
 
 abbrev pub attribute_at : AttributeAt → Attribute
-attribute_at a = record { name = map lower a.name.now; value = a.value.now }
+attribute_at a = record { name = map lower a.name.now; value = a.value.now; left = a.left }
 
 abbrev pub tag_at : Option TagAt → Option Tag
 tag_at None = None
@@ -64,9 +64,9 @@ outcome piece.Unfinished all = None
 abbrev pub Reads : Piece → List ℕ → Type 0
 Reads piece bytes = (all : List Attribute) → run BeforeName all bytes ≡ outcome piece all
 
--- likewise from before the value of an attribute with this name
+-- likewise from before the value of an attribute with this name, whatever number of bytes comes after the name
 abbrev pub ReadsValue : Piece → List ℕ → List ℕ → Type 0
-ReadsValue piece name bytes = (all : List Attribute) → run BeforeValue (record { name = map lower name; value = [] } ∷ all) bytes ≡ outcome piece all
+ReadsValue piece name bytes = (left : ℕ) (all : List Attribute) → run BeforeValue (record { name = map lower name; value = []; left = left } ∷ all) bytes ≡ outcome piece all
 
 -- fewer than n bytes come after the piece
 abbrev pub Leaves : Piece → ℕ → Type 0

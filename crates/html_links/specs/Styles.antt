@@ -1,7 +1,7 @@
 -- The texts of `url()` and `@import` in a style sheet, found by patterns: `url(` or `@import`, in any case and not within a longer
 -- name, and then a text in quotes; or `url(` and a text without quotes, parentheses and white space. Comments and other texts in
 -- quotes name nothing. An escape ends neither a text nor a name.
-use Rattle.std.specs.Prelude.{ℕ, zero, suc, ◌-◌, ◌==◌, ◌||◌, ◌&&◌, nat_le, not, Bool, true, false, if◌then◌else◌, List, [], ◌∷◌, length, take, Option, None, Some}
+use Rattle.std.specs.Prelude.{ℕ, zero, suc, ◌-◌, ◌==◌, ◌||◌, ◌&&◌, nat_le, not, Bool, true, false, if◌then◌else◌, List, [], ◌∷◌, length, map, take, Option, None, Some}
 use Rattle.std.specs.Char.{is_ascii_alphanumeric}
 use Rattle.html_links.specs.declared.style.Run.{Run}
 use Rattle.html_links.specs.declared.style.Run.TheVariants as run
@@ -18,13 +18,14 @@ is_wide_space c = (nat_le 9 c && nat_le c 13) || c == 32
 abbrev pub in_plain : ℕ → Bool
 in_plain c = not (is_wide_space c || is_quote c || c == 40 || c == 41)
 
--- a URL, and the bytes after it
+-- a URL, the number of bytes from its first byte to the end of the sheet, and the bytes after it
 pub record Found : Type 0 where
   pub url : List ℕ
+  pub left : ℕ
   pub rest : List ℕ
 
-abbrev pub found_with : List ℕ → List ℕ → Found
-found_with url rest = record { url = url; rest = rest }
+abbrev pub found_with : List ℕ → ℕ → List ℕ → Found
+found_with url left rest = record { url = url; left = left; rest = rest }
 
 abbrev pub or_found : Option Found → Option Found → Option Found
 or_found None other = other
@@ -56,8 +57,8 @@ before bytes left = take (length bytes - length left) bytes
 
 -- The text up to its second quote, or to the end of the sheet. At a line break it is broken off, and no text.
 abbrev pub closed : ℕ → List ℕ → List ℕ → Option Found
-closed quote bytes [] = Some (found_with (before bytes []) [])
-closed quote bytes (c ∷ left) = if c == quote then Some (found_with (before bytes (c ∷ left)) left) else None
+closed quote bytes [] = Some (found_with (before bytes []) (length bytes) [])
+closed quote bytes (c ∷ left) = if c == quote then Some (found_with (before bytes (c ∷ left)) (length bytes) left) else None
 
 abbrev pub run_in : ℕ → Run
 run_in quote = if quote == 34 then run.Double else run.Single
@@ -76,12 +77,12 @@ abbrev pub after_quoted : List ℕ → Option (List ℕ)
 after_quoted [] = None
 after_quoted (c ∷ rest) = if is_quote c then Some (after_closed c (after_run (run_in c) state.Plain rest)) else None
 
-abbrev pub some_url : List ℕ → List ℕ → Option Found
-some_url [] rest = None
-some_url (c ∷ url) rest = Some (found_with (c ∷ url) rest)
+abbrev pub some_url : List ℕ → ℕ → List ℕ → Option Found
+some_url [] left rest = None
+some_url (c ∷ url) left rest = Some (found_with (c ∷ url) left rest)
 
 abbrev pub plain : List ℕ → Option Found
-plain bytes = some_url (before bytes (after_run run.Plain state.Plain bytes)) (after_run run.Plain state.Plain bytes)
+plain bytes = some_url (before bytes (after_run run.Plain state.Plain bytes)) (length bytes) (after_run run.Plain state.Plain bytes)
 
 abbrev pub in_brackets : List ℕ → Option Found
 in_brackets bytes = or_found (quoted (following is_wide_space bytes)) (plain (following is_wide_space bytes))
@@ -133,18 +134,29 @@ passed imports bytes None None None = pass_byte imports bytes
 abbrev pub pass : Bool → List ℕ → List ℕ × Bool
 pass imports bytes = passed imports bytes (opened bytes) (after_quoted bytes) (after_import bytes)
 
-abbrev pub urls_after : Option Found → List ℕ × Bool → (Bool → List ℕ → List (List ℕ)) → List (List ℕ)
-urls_after None left on = on left.1 left.0
-urls_after (Some f) left on = unescaped f.url ∷ on false f.rest
+abbrev pub founds_after : Option Found → List ℕ × Bool → (Bool → List ℕ → List Found) → List Found
+founds_after None left on = on left.1 left.0
+founds_after (Some f) left on = f ∷ on false f.rest
 
--- the URLs in at most this number of bytes, one after another, with their escapes decoded
-abbrev pub urls_within : ℕ → Bool → List ℕ → List (List ℕ)
-urls_within zero imports bytes = []
-urls_within (suc n) imports [] = []
-urls_within (suc n) imports (c ∷ rest) = urls_after (found_at imports (c ∷ rest)) (pass imports (c ∷ rest)) (λ imports bytes. urls_within n imports bytes)
+-- the URLs in at most this number of bytes, one after another
+abbrev pub founds_within : ℕ → Bool → List ℕ → List Found
+founds_within zero imports bytes = []
+founds_within (suc n) imports [] = []
+founds_within (suc n) imports (c ∷ rest) = founds_after (found_at imports (c ∷ rest)) (pass imports (c ∷ rest)) (λ imports bytes. founds_within n imports bytes)
 
-abbrev pub urls_of : Bool → List ℕ → List (List ℕ)
-urls_of imports bytes = urls_within (length bytes) imports bytes
+abbrev pub founds_of : Bool → List ℕ → List Found
+founds_of imports bytes = founds_within (length bytes) imports bytes
 
+abbrev pub url_of : Found → List ℕ
+url_of f = unescaped f.url
+
+abbrev pub left_of : Found → ℕ
+left_of f = f.left
+
+-- the texts of the URLs of a sheet, with their escapes decoded
 abbrev pub style_links_of : List ℕ → List (List ℕ)
-style_links_of text = urls_of false text
+style_links_of text = map url_of (founds_of false text)
+
+-- for each of them the number of bytes from it to the end of the sheet
+abbrev pub style_lefts_of : List ℕ → List ℕ
+style_lefts_of text = map left_of (founds_of false text)

@@ -13,6 +13,11 @@ abbrev pub first_named : List ℕ → List Attribute → Option (List ℕ)
 first_named name [] = None
 first_named name (a ∷ rest) = if bytes_eq a.name (map lower name) then Some a.value else first_named name rest
 
+-- the number of bytes from that value on; 0 if there is none
+abbrev pub left_named : List ℕ → List Attribute → ℕ
+left_named name [] = 0
+left_named name (a ∷ rest) = if bytes_eq a.name (map lower name) then a.left else left_named name rest
+
 pub record Values : Type 0 where
   pub first : Option (List ℕ)
   pub second : Option (List ℕ)
@@ -21,6 +26,10 @@ pub record Values : Type 0 where
   pub id : Option (List ℕ)
   pub name : Option (List ℕ)
   pub self_closing : Bool
+  pub first_left : ℕ
+  pub second_left : ℕ
+  pub third_left : ℕ
+  pub style_left : ℕ
 
 abbrev pub is_absent : Option (List ℕ) → Bool
 is_absent None = true
@@ -36,6 +45,10 @@ values_of w all self_closing = record {
   id = first_named (codes "id") all;
   name = first_named w.name all;
   self_closing = self_closing;
+  first_left = left_named w.first all;
+  second_left = left_named w.second all;
+  third_left = left_named w.third all;
+  style_left = left_named (codes "style") all;
 }
 
 -- what contracts state of the code: values with the number of bytes after them, and one more attribute
@@ -59,6 +72,10 @@ values_at v = record {
   id = bytes_at v.id;
   name = bytes_at v.name;
   self_closing = v.self_closing;
+  first_left = v.first_left;
+  second_left = v.second_left;
+  third_left = v.third_left;
+  style_left = v.style_left;
 }
 
 abbrev pub tag_values : Values → Option (Bor (List ℕ)) → Option TagValues
@@ -66,10 +83,26 @@ tag_values values None = None
 tag_values values (Some rest) = Some (tag_with values rest.now)
 
 abbrev pub no_values : Values
-no_values = record { first = None; second = None; third = None; style = None; id = None; name = None; self_closing = false }
+no_values = record {
+  first = None;
+  second = None;
+  third = None;
+  style = None;
+  id = None;
+  name = None;
+  self_closing = false;
+  first_left = 0;
+  second_left = 0;
+  third_left = 0;
+  style_left = 0;
+}
 
 abbrev pub or_named : Option (List ℕ) → List ℕ → Attribute → Option (List ℕ)
 or_named value name a = option_or value (if bytes_eq a.name (map lower name) then Some a.value else None)
+
+-- the number of bytes from the value on that this attribute adds, if there was no value
+abbrev pub or_left : Option (List ℕ) → ℕ → List ℕ → Attribute → ℕ
+or_left value left name a = if bytes_eq a.name (map lower name) then (if is_absent value then a.left else left) else left
 
 abbrev pub with_attribute : Values → AttributeNames → Attribute → Values
 with_attribute v w a = record {
@@ -80,4 +113,8 @@ with_attribute v w a = record {
   id = or_named v.id (codes "id") a;
   name = or_named v.name w.name a;
   self_closing = v.self_closing;
+  first_left = or_left v.first v.first_left w.first a;
+  second_left = or_left v.second v.second_left w.second a;
+  third_left = or_left v.third v.third_left w.third a;
+  style_left = or_left v.style v.style_left (codes "style") a;
 }

@@ -1,12 +1,11 @@
 //! The attributes of a tag that are read.
-ghost use Rattle.std.specs.Prelude.{◌≡◌, true, codes, Some};
-ghost use Rattle.std.specs.Option.{option_or};
+ghost use Rattle.std.specs.Prelude.{◌≡◌, true, codes};
 ghost use Rattle.html_links.specs.Tags.{tag_of};
 ghost use Rattle.html_links.specs.Comments.{bytes_at};
 ghost use Rattle.html_links.specs.Shown.{attribute_at};
 ghost use Rattle.html_links.specs.Elements.{attribute_names_at, names_of_attributes};
 ghost use Rattle.html_links.specs.Passed.{name_nothing};
-ghost use Rattle.html_links.specs.Values.{is_absent, or_named, values_at, no_values, with_attribute, values_in, tag_values};
+ghost use Rattle.html_links.specs.Values.{is_absent, or_left, or_named, values_at, no_values, with_attribute, values_in, tag_values};
 
 use crate::element::{AttributeNames, Element, has_rare_names, names_of_attributes};
 use crate::lengths::may_be;
@@ -24,7 +23,7 @@ pub(crate) struct Values<'a> {
     pub(crate) name: Option<&'a [u8]>,
     /// Whether the tag has a slash before its `>`.
     pub(crate) self_closing: bool,
-    /// The number of bytes after the first value and its quote.
+    /// The number of bytes from the first value on, or 0 if it is absent.
     pub(crate) first_left: usize,
     /// That number for the second value.
     pub(crate) second_left: usize,
@@ -65,7 +64,7 @@ impl<'a> Values<'a> {
             && is_absent(self.id)
     }
 
-    /// Makes all values absent, and the tag one that does not close itself, before a tag is read. The numbers of bytes after them stay, since they count only with a value.
+    /// Makes all values absent, and the tag one that does not close itself, before a tag is read.
     #[inline(always)]
     pub(crate) fn clear(&mut self)
         ensures { values_at self.new ≡ no_values }
@@ -77,6 +76,10 @@ impl<'a> Values<'a> {
         self.id = None;
         self.name = None;
         self.self_closing = false;
+        self.first_left = 0;
+        self.second_left = 0;
+        self.third_left = 0;
+        self.style_left = 0;
     }
 }
 
@@ -97,28 +100,31 @@ pub(crate) fn is_absent(value: Option<&[u8]>) -> bool
     }
 }
 
-/// Takes the value of an attribute if it has this name and no value was taken before, and returns whether it did.
+/// Takes the value of an attribute if it has this name and no value was taken before.
 #[inline(always)]
-fn take_named<'a>(value: &mut Option<&'a [u8]>, name: &[u8], attribute: AttributeAt<'a>) -> bool
+fn take_named<'a>(value: &mut Option<&'a [u8]>, name: &[u8], attribute: AttributeAt<'a>)
     ensures { bytes_at value.new ≡ or_named (bytes_at value.old) name.now (attribute_at attribute.entry) }
 {
-    let takes = value.is_none() && same_name(attribute.name, name);
-    if takes {
+    if value.is_none() && same_name(attribute.name, name) {
         *value = Some(attribute.value);
     }
-    takes
 }
 
-/// Takes a value if none was taken before, and returns whether it did.
+/// Takes the value of an attribute and the number of bytes from it on, if it has this name and no value was taken before.
 #[inline(always)]
-fn take_value<'a>(value: &mut Option<&'a [u8]>, found: &'a [u8]) -> bool
-    ensures { bytes_at value.new ≡ option_or (bytes_at value.old) (Some found.now) }
+fn take_placed<'a>(
+    value: &mut Option<&'a [u8]>,
+    left: &mut usize,
+    name: &[u8],
+    attribute: AttributeAt<'a>,
+)
+    ensures value { bytes_at value.new ≡ or_named (bytes_at value.old) name.now (attribute_at attribute.entry) }
+    ensures left { left.new ≡ or_left (bytes_at value.old) left.old name.now (attribute_at attribute.entry) }
 {
-    let takes = value.is_none();
-    if takes {
-        *value = Some(found);
+    if same_name(attribute.name, name) && value.is_none() {
+        *value = Some(attribute.value);
+        *left = attribute.left;
     }
-    takes
 }
 
 /// Whether the name is `href` in lower case. A name in another case is compared later, with all names that are read.
@@ -140,36 +146,32 @@ fn is_link(element: Element, name: &[u8]) -> bool
     }
 }
 
-/// Takes the `href` of an `a`, which has `left` bytes after it.
+/// Takes the `href` of an `a`.
 #[inline(always)]
 #[tactic(auto, using(crate::proofs::Naming::or_none))]
-fn take_link<'a>(values: &mut Values<'a>, attribute: AttributeAt<'a>, left: usize)
+fn take_link<'a>(values: &mut Values<'a>, attribute: AttributeAt<'a>)
     requires { attribute.name.now ≡ codes "href" }
     ensures { values_at values.new ≡ with_attribute (values_at values.old) (names_of_attributes Element.Anchor) (attribute_at attribute.entry) }
 {
-    if take_value(&mut values.first, attribute.value) {
-        values.first_left = left;
+    if values.first.is_none() {
+        values.first = Some(attribute.value);
+        values.first_left = attribute.left;
     }
 }
 
-/// Takes the values of another attribute, which has `left` bytes after it.
+/// Takes the values of another attribute.
 #[inline(always)]
-fn take_attribute<'a>(
-    values: &mut Values<'a>,
-    element: Element,
-    attribute: AttributeAt<'a>,
-    left: usize,
-)
+fn take_attribute<'a>(values: &mut Values<'a>, element: Element, attribute: AttributeAt<'a>)
     ensures { values_at values.new ≡ with_attribute (values_at values.old) (names_of_attributes element) (attribute_at attribute.entry) }
 {
     if is_link(element, attribute.name) {
-        take_link(values, attribute, left);
+        take_link(values, attribute);
         return;
     }
     if !has_rare_names(element) && !may_be(&LENGTHS, attribute.name) {
         return;
     }
-    take_other(values, &names_of_attributes(element), attribute, left);
+    take_other(values, &names_of_attributes(element), attribute);
 }
 
 /// Takes the values of another attribute, by the names that are read.
@@ -178,22 +180,33 @@ fn take_other<'a>(
     values: &mut Values<'a>,
     names_to_read: &AttributeNames,
     attribute: AttributeAt<'a>,
-    left: usize,
 )
     ensures { values_at values.new ≡ with_attribute (values_at values.old) (attribute_names_at names_to_read.now) (attribute_at attribute.entry) }
 {
-    if take_named(&mut values.first, names_to_read.first, attribute) {
-        values.first_left = left;
-    }
-    if take_named(&mut values.second, names_to_read.second, attribute) {
-        values.second_left = left;
-    }
-    if take_named(&mut values.third, names_to_read.third, attribute) {
-        values.third_left = left;
-    }
-    if take_named(&mut values.style, b"style", attribute) {
-        values.style_left = left;
-    }
+    take_placed(
+        &mut values.first,
+        &mut values.first_left,
+        names_to_read.first,
+        attribute,
+    );
+    take_placed(
+        &mut values.second,
+        &mut values.second_left,
+        names_to_read.second,
+        attribute,
+    );
+    take_placed(
+        &mut values.third,
+        &mut values.third_left,
+        names_to_read.third,
+        attribute,
+    );
+    take_placed(
+        &mut values.style,
+        &mut values.style_left,
+        b"style",
+        attribute,
+    );
     take_named(&mut values.id, b"id", attribute);
     take_named(&mut values.name, names_to_read.name, attribute);
 }
@@ -213,7 +226,7 @@ pub(crate) fn values_in<'a>(
     'pieces: loop {
         match next_piece(rest) {
             Piece::Attribute(attribute, more) => {
-                take_attribute(values, element, attribute, more.len());
+                take_attribute(values, element, attribute);
                 rest = more;
             }
             Piece::Slash(more) => rest = more,

@@ -9,6 +9,7 @@ mod document;
 mod element;
 mod escapes;
 mod found;
+pub mod laws;
 mod lengths;
 mod links;
 mod names;
@@ -27,8 +28,8 @@ mod template;
 
 pub use context::Syntax;
 pub use document::{StartTagAt, tags};
-pub use links::{CountedLinks, Links, PlacedLinks};
+pub use links::{CountedLinks, DocumentIds, Links};
 pub use placed::read_places;
-pub use reader::{Base, read_links, read_page};
+pub use reader::{Base, read_page};
 pub use style::read_style;
 pub use tag::AttributeAt;

@@ -21,12 +21,11 @@ use crate::raw_text::same_name;
 use crate::tag::after_class;
 use crate::template::after_template;
 
-/// A start tag: its name, the bytes after the name, its element and context, and the bytes after the tag. If its contents have no
+/// A start tag: its name, its element and context, and the bytes after the tag. If its contents have no
 /// tags of the page, also the context and the bytes after these contents.
 #[derive(Clone, Copy)]
 pub(crate) struct NextTag<'a> {
     pub(crate) name: &'a [u8],
-    pub(crate) inside: &'a [u8],
     pub(crate) element: Element,
     pub(crate) own: Context,
     pub(crate) text: &'a [u8],
@@ -184,7 +183,6 @@ fn usual_tag<'a>(name: &'a [u8], bytes: &'a [u8], values: &mut Values<'a>) -> St
     }
     Step::Take(NextTag {
         name,
-        inside: bytes,
         element: Element::Other,
         own: Context::Html(0),
         text: last,
@@ -229,7 +227,6 @@ fn anchor_tag<'a>(name: &'a [u8], bytes: &'a [u8], values: &mut Values<'a>) -> S
     match values_in(Element::Anchor, bytes, values) {
         Some(last) => Step::Take(NextTag {
             name,
-            inside: bytes,
             element: Element::Anchor,
             own: Context::Html(0),
             text: last,
@@ -259,7 +256,6 @@ fn relevant_tag<'a>(
     match after_contents(own, name, element, values, text) {
         Some((after, rest)) => Step::Take(NextTag {
             name,
-            inside: bytes,
             element,
             own,
             text,
@@ -268,7 +264,6 @@ fn relevant_tag<'a>(
         }),
         None => Step::Take(NextTag {
             name,
-            inside: bytes,
             element,
             own,
             text,
@@ -288,7 +283,7 @@ fn after_contents<'a>(
     values: &Values<'a>,
     text: &'a [u8],
 ) -> Option<(Context, &'a [u8])>
-    ensures reads { seen_within (opened context (seen_with (map lower name.now) element (values_at values.now) []))
+    ensures reads { seen_within (opened context (seen_with (map lower name.now) element (values_at values.now) [] 0))
         (read (inner_context context (map lower name.now) element (values_at values.now)) (after_start (content_at context (map lower name.now)) (map lower name.now)) text.now) ≡ seen_rest result }
     ensures leaves { ContentLeaves result text.now }
 {

@@ -1,17 +1,18 @@
 //! The reader of a document.
-ghost use Rattle.std.specs.Prelude.{◌≡◌, ◌++◌, [], map, false, IfOk, OnOk, bytes_eq};
+ghost use Rattle.std.specs.Prelude.{◌≡◌, ◌++◌, [], map, IfOk, OnOk, bytes_eq};
 ghost use Rattle.html_links.specs.Comments.{bytes_at};
 ghost use Rattle.html_links.specs.Tags.{lower};
 ghost use Rattle.html_links.specs.References.{text_of};
 ghost use Rattle.html_links.specs.Values.{values_at};
-ghost use Rattle.html_links.specs.Links.{value_links, text_links, begins_fragment, is_link_type, types_after, is_related, is_keyword, submits, submits_nothing, is_open_graph, is_card, names_url, is_data, names_data, form_if, meta_form, first_form, second_form, first_links, second_links, third_links, links_with, links_of, ids_with, anchors_with, ids_of, base_of, base_with, or_later, inner_form, inner_third, inner_links_with, inner_links_of, is_base, srcdoc_links};
+ghost use Rattle.html_links.specs.Links.{value_links, text_links, begins_fragment, is_link_type, types_after, is_related, is_keyword, submits, submits_nothing, is_open_graph, is_card, names_url, is_data, names_data, form_if, meta_form, first_form, second_form, first_links, second_links, third_links, links_of, ids_with, anchors_with, ids_of, base_of, base_with, or_later, inner_form, inner_third, inner_links_with, inner_links_of, is_base, srcdoc_links};
+ghost use Rattle.html_links.specs.Positions.{all_at, positions_of};
 ghost use Rattle.html_links.specs.Reads.{base_at};
 
 use crate::bytes::parts;
-use crate::context::context_of;
+use crate::context::{Syntax, context_of};
 use crate::element::Element;
 use crate::found::{Values, is_absent};
-use crate::links::PlacedLinks;
+use crate::links::{DocumentIds, Links};
 use crate::next_tag::next_tag;
 use crate::placed::push_tag;
 use crate::raw_text::same_name;
@@ -19,7 +20,6 @@ use crate::references::{decode, is_coded};
 use crate::refresh::target_of;
 use crate::srcset::{push_candidates, split_unspaced};
 use crate::style::push_urls;
-use crate::{Links, Syntax};
 use std::alloc::{AllocError, Global};
 
 /// The `href` of a document's first `base` that has one, with its character references decoded.
@@ -37,38 +37,11 @@ pub(crate) enum Form {
     Nothing,
 }
 
-/// Passes on the links of a document in order, without those of its styles, and returns its base.
-///
-/// # Errors
-/// If an allocation fails.
-pub fn read_links<L: Links>(
-    alloc: Global,
-    syntax: Syntax,
-    document: &[u8],
-    links: &mut L,
-) -> Result<Base, AllocError>
-    ensures links { OnOk result (L.texts links.new ≡ L.texts links.old ++ links_of false syntax document.now) }
-    ensures base { IfOk result (λ base. base_at base ≡ base_of syntax document.now) }
-{
-    let mut decoded = Vec::new(alloc);
-    let mut base = None;
-    let mut values = Values::none();
-    let mut context = context_of(syntax);
-    let mut rest = document;
-    'tags: while let Some(tag) = next_tag(context, rest, &mut values) {
-        push_values(tag.element, &values, &mut decoded, links)?;
-        take_base(alloc, &mut base, tag.element, &values)?;
-        context = tag.context;
-        rest = tag.rest;
-    }
-    Ok(base)
-}
-
 /// Passes on the links of a document as `read_places` does, and its ids: each `id` of a tag, and each `name` of an `a`.
 ///
 /// # Errors
 /// If an allocation fails.
-pub fn read_page<L: PlacedLinks, I: Links>(
+pub fn read_page<L: Links, I: DocumentIds>(
     alloc: Global,
     syntax: Syntax,
     document: &[u8],
@@ -77,6 +50,7 @@ pub fn read_page<L: PlacedLinks, I: Links>(
     ids: &mut I,
 ) -> Result<Base, AllocError>
     ensures links { OnOk result (L.texts links.new ≡ L.texts links.old ++ links_of styles syntax document.now) }
+    ensures positions { OnOk result (L.positions links.new ≡ L.positions links.old ++ positions_of styles syntax document.now) }
     ensures ids { OnOk result (I.texts ids.new ≡ I.texts ids.old ++ ids_of syntax document.now) }
     ensures base { IfOk result (λ base. base_at base ≡ base_of syntax document.now) }
 {
@@ -97,7 +71,7 @@ pub fn read_page<L: PlacedLinks, I: Links>(
 
 /// Passes on the ids of a tag with this name: its `id`, and then its `name` if the tag is an `a`.
 #[inline(always)]
-fn push_ids<I: Links>(
+fn push_ids<I: DocumentIds>(
     name: &[u8],
     values: &Values<'_>,
     decoded: &mut Vec<u8>,
@@ -105,13 +79,13 @@ fn push_ids<I: Links>(
 ) -> Result<(), AllocError>
     ensures { OnOk result (I.texts ids.new ≡ I.texts ids.old ++ ids_with (map lower name.now) (values_at values.now)) }
 {
-    push_value(Form::Link, values.id, decoded, ids)?;
+    push_id(values.id, decoded, ids)?;
     push_anchor(name, values, decoded, ids)
 }
 
 /// Passes on the value of the `name` attribute if the tag is an `a`, in any case.
 #[inline(always)]
-fn push_anchor<I: Links>(
+fn push_anchor<I: DocumentIds>(
     name: &[u8],
     values: &Values<'_>,
     decoded: &mut Vec<u8>,
@@ -120,10 +94,29 @@ fn push_anchor<I: Links>(
     ensures { OnOk result (I.texts ids.new ≡ I.texts ids.old ++ anchors_with (map lower name.now) (values_at values.now)) }
 {
     if same_name(name, b"a") {
-        push_value(Form::Link, values.name, decoded, ids)
+        push_id(values.name, decoded, ids)
     } else {
         Ok(())
     }
+}
+
+/// Passes on an id with its character references decoded. It may overwrite `decoded`.
+fn push_id<I: DocumentIds>(
+    value: Option<&[u8]>,
+    decoded: &mut Vec<u8>,
+    ids: &mut I,
+) -> Result<(), AllocError>
+    ensures { OnOk result (I.texts ids.new ≡ I.texts ids.old ++ value_links Form.Link (bytes_at value.entry)) }
+{
+    let Some(value) = value else {
+        return Ok(());
+    };
+    if !is_coded(value) {
+        return ids.push(value);
+    }
+    decoded.clear();
+    decode(value, decoded)?;
+    ids.push(decoded.as_slice())
 }
 
 /// Stores the base of a tag, if there is no base yet.
@@ -153,96 +146,93 @@ pub(crate) fn take_base(
     }
 }
 
-/// Passes on the links of a tag's values.
-fn push_values<L: Links>(
-    element: Element,
-    values: &Values<'_>,
-    decoded: &mut Vec<u8>,
-    links: &mut L,
-) -> Result<(), AllocError>
-    ensures { OnOk result (L.texts links.new ≡ L.texts links.old ++ links_with element (values_at values.now)) }
-{
-    push_first(element, values, decoded, links)?;
-    push_second(element, values, decoded, links)?;
-    push_third(element, values, decoded, links)
-}
-
-/// Passes on the links of the first value.
+/// Passes on the links of the first value, all at this position.
 #[inline(always)]
 pub(crate) fn push_first<L: Links>(
     element: Element,
     values: &Values<'_>,
+    position: usize,
     decoded: &mut Vec<u8>,
     links: &mut L,
 ) -> Result<(), AllocError>
-    ensures { OnOk result (L.texts links.new ≡ L.texts links.old ++ first_links element (values_at values.now)) }
+    ensures texts { OnOk result (L.texts links.new ≡ L.texts links.old ++ first_links element (values_at values.now)) }
+    ensures positions { OnOk result (L.positions links.new ≡ L.positions links.old ++ all_at position (first_links element (values_at values.now))) }
 {
     let Some(value) = values.first else {
         return Ok(());
     };
     let form = first_form(element, values, decoded)?;
-    push_some(form, value, decoded, links)
+    push_some(form, value, position, decoded, links)
 }
 
-/// Passes on the links of the second value.
+/// Passes on the links of the second value, all at this position.
 #[inline(always)]
 pub(crate) fn push_second<L: Links>(
     element: Element,
     values: &Values<'_>,
+    position: usize,
     decoded: &mut Vec<u8>,
     links: &mut L,
 ) -> Result<(), AllocError>
-    ensures { OnOk result (L.texts links.new ≡ L.texts links.old ++ second_links element (values_at values.now)) }
+    ensures texts { OnOk result (L.texts links.new ≡ L.texts links.old ++ second_links element (values_at values.now)) }
+    ensures positions { OnOk result (L.positions links.new ≡ L.positions links.old ++ all_at position (second_links element (values_at values.now))) }
 {
     let Some(value) = values.second else {
         return Ok(());
     };
     let form = second_form(element, values, decoded)?;
-    push_some(form, value, decoded, links)
+    push_some(form, value, position, decoded, links)
 }
 
-/// Passes on the links of the third value.
+/// Passes on the links of the third value, all at this position.
 #[inline(always)]
 pub(crate) fn push_third<L: Links>(
     element: Element,
     values: &Values<'_>,
+    position: usize,
     decoded: &mut Vec<u8>,
     links: &mut L,
 ) -> Result<(), AllocError>
-    ensures { OnOk result (L.texts links.new ≡ L.texts links.old ++ third_links element (values_at values.now)) }
+    ensures texts { OnOk result (L.texts links.new ≡ L.texts links.old ++ third_links element (values_at values.now)) }
+    ensures positions { OnOk result (L.positions links.new ≡ L.positions links.old ++ all_at position (third_links element (values_at values.now))) }
 {
     match element {
-        Element::Image => push_value(Form::Link, values.third, decoded, links),
-        Element::InlineFrame => push_srcdoc(values.third, decoded, links),
+        Element::Image => push_value(Form::Link, values.third, position, decoded, links),
+        Element::InlineFrame => push_srcdoc(values.third, position, decoded, links),
         _ => Ok(()),
     }
 }
 
-/// Passes on the links of the document in a `srcdoc`.
+/// Passes on the links of the document in a `srcdoc`, all at this position.
 #[inline(never)]
 fn push_srcdoc<L: Links>(
     value: Option<&[u8]>,
+    position: usize,
     decoded: &mut Vec<u8>,
     links: &mut L,
 ) -> Result<(), AllocError>
-    ensures { OnOk result (L.texts links.new ≡ L.texts links.old ++ srcdoc_links (bytes_at value.entry)) }
+    ensures texts { OnOk result (L.texts links.new ≡ L.texts links.old ++ srcdoc_links (bytes_at value.entry)) }
+    ensures positions { OnOk result (L.positions links.new ≡ L.positions links.old ++ all_at position (srcdoc_links (bytes_at value.entry))) }
 {
     let Some(value) = value else {
         return Ok(());
     };
     let mut document = Vec::new(*decoded.allocator());
     decode(value, &mut document)?;
-    push_document(document.as_slice(), decoded, links)
+    push_document(document.as_slice(), position, decoded, links)
 }
 
-/// Passes on the links of a document in a `srcdoc` up to its `base`, without those of its styles and of a `srcdoc` in it.
-#[tactic(auto, using(crate::proofs::Passing::more_inner, crate::proofs::Passing::last_inner))]
+/// Passes on the links of a document in a `srcdoc` up to its `base`, without those of its styles and of a `srcdoc` in it. All are at
+/// this position.
+#[tactic(auto, using(crate::proofs::Passing::more_inner, crate::proofs::Passing::last_inner, crate::proofs::Placing::more_inner_at, crate::proofs::Placing::last_inner_at, crate::proofs::Placing::no_inner_at))]
 fn push_document<L: Links>(
     document: &[u8],
+    position: usize,
     decoded: &mut Vec<u8>,
     links: &mut L,
 ) -> Result<(), AllocError>
-    ensures { OnOk result (L.texts links.new ≡ L.texts links.old ++ inner_links_of document.now) }
+    ensures texts { OnOk result (L.texts links.new ≡ L.texts links.old ++ inner_links_of document.now) }
+    ensures positions { OnOk result (L.positions links.new ≡ L.positions links.old ++ all_at position (inner_links_of document.now)) }
 {
     let mut values = Values::none();
     let mut context = context_of(Syntax::Html);
@@ -251,7 +241,7 @@ fn push_document<L: Links>(
         if is_base(tag.element, &values) {
             return Ok(());
         }
-        push_inner(tag.element, &values, decoded, links)?;
+        push_inner(tag.element, &values, position, decoded, links)?;
         context = tag.context;
         rest = tag.rest;
     }
@@ -268,33 +258,38 @@ fn is_base(element: Element, values: &Values<'_>) -> bool
     }
 }
 
-/// Passes on the links of a tag's values in a document in a `srcdoc`.
+/// Passes on the links of a tag's values in a document in a `srcdoc`, all at this position.
+#[tactic(auto, using(crate::proofs::Placing::three_at))]
 fn push_inner<L: Links>(
     element: Element,
     values: &Values<'_>,
+    position: usize,
     decoded: &mut Vec<u8>,
     links: &mut L,
 ) -> Result<(), AllocError>
-    ensures { OnOk result (L.texts links.new ≡ L.texts links.old ++ inner_links_with element (values_at values.now)) }
+    ensures texts { OnOk result (L.texts links.new ≡ L.texts links.old ++ inner_links_with element (values_at values.now)) }
+    ensures positions { OnOk result (L.positions links.new ≡ L.positions links.old ++ all_at position (inner_links_with element (values_at values.now))) }
 {
     let first = inner_form(first_form(element, values, decoded)?);
-    push_value(first, values.first, decoded, links)?;
+    push_value(first, values.first, position, decoded, links)?;
     let second = inner_form(second_form(element, values, decoded)?);
-    push_value(second, values.second, decoded, links)?;
-    push_inner_third(element, values, decoded, links)
+    push_value(second, values.second, position, decoded, links)?;
+    push_inner_third(element, values, position, decoded, links)
 }
 
-/// Passes on the link of the third value in a document in a `srcdoc`.
+/// Passes on the link of the third value in a document in a `srcdoc`, at this position.
 fn push_inner_third<L: Links>(
     element: Element,
     values: &Values<'_>,
+    position: usize,
     decoded: &mut Vec<u8>,
     links: &mut L,
 ) -> Result<(), AllocError>
-    ensures { OnOk result (L.texts links.new ≡ L.texts links.old ++ inner_third element (values_at values.now)) }
+    ensures texts { OnOk result (L.texts links.new ≡ L.texts links.old ++ inner_third element (values_at values.now)) }
+    ensures positions { OnOk result (L.positions links.new ≡ L.positions links.old ++ all_at position (inner_third element (values_at values.now))) }
 {
     match element {
-        Element::Image => push_value(Form::Outward, values.third, decoded, links),
+        Element::Image => push_value(Form::Outward, values.third, position, decoded, links),
         _ => Ok(()),
     }
 }
@@ -483,63 +478,69 @@ fn is_related(
     Ok(has_link_type(decoded.as_slice()))
 }
 
-/// Passes on the links of a value. Most values are absent, which is tested inline.
+/// Passes on the links of a value, all at this position. Most values are absent, which is tested inline.
 #[inline(always)]
 pub(crate) fn push_value<L: Links>(
     form: Form,
     value: Option<&[u8]>,
+    position: usize,
     decoded: &mut Vec<u8>,
     links: &mut L,
 ) -> Result<(), AllocError>
-    ensures { OnOk result (L.texts links.new ≡ L.texts links.old ++ value_links form (bytes_at value.entry)) }
+    ensures texts { OnOk result (L.texts links.new ≡ L.texts links.old ++ value_links form (bytes_at value.entry)) }
+    ensures positions { OnOk result (L.positions links.new ≡ L.positions links.old ++ all_at position (value_links form (bytes_at value.entry))) }
 {
     let Some(value) = value else {
         return Ok(());
     };
-    push_some(form, value, decoded, links)
+    push_some(form, value, position, decoded, links)
 }
 
-/// Passes on the links of a value as written, with its character references decoded. It may overwrite `decoded`.
+/// Passes on the links of a value as written, with its character references decoded, all at this position. It may overwrite `decoded`.
 #[inline(never)]
 fn push_some<L: Links>(
     form: Form,
     value: &[u8],
+    position: usize,
     decoded: &mut Vec<u8>,
     links: &mut L,
 ) -> Result<(), AllocError>
-    ensures { OnOk result (L.texts links.new ≡ L.texts links.old ++ text_links form (text_of value.now)) }
+    ensures texts { OnOk result (L.texts links.new ≡ L.texts links.old ++ text_links form (text_of value.now)) }
+    ensures positions { OnOk result (L.positions links.new ≡ L.positions links.old ++ all_at position (text_links form (text_of value.now))) }
 {
     let alloc = *decoded.allocator();
     if !is_coded(value) {
-        return push_text(alloc, form, value, links);
+        return push_text(alloc, form, value, position, links);
     }
     decoded.clear();
     decode(value, decoded)?;
-    push_text(alloc, form, decoded.as_slice(), links)
+    push_text(alloc, form, decoded.as_slice(), position, links)
 }
 
-/// Passes on the links of a text in which character references are already decoded.
+/// Passes on the links of a text in which character references are already decoded, all at this position.
 fn push_text<L: Links>(
     alloc: Global,
     form: Form,
     text: &[u8],
+    position: usize,
     links: &mut L,
 ) -> Result<(), AllocError>
-    ensures { OnOk result (L.texts links.new ≡ L.texts links.old ++ text_links form text.now) }
+    ensures texts { OnOk result (L.texts links.new ≡ L.texts links.old ++ text_links form text.now) }
+    ensures positions { OnOk result (L.positions links.new ≡ L.positions links.old ++ all_at position (text_links form text.now)) }
 {
     match form {
-        Form::Link => links.push(text),
+        Form::Link => links.push(position, text),
         Form::Outward => if begins_fragment(text) {
             Ok(())
         } else {
-            links.push(text)
+            links.push(position, text)
         },
-        Form::List => push_candidates(text, links),
+        Form::List => push_candidates(text, position, links),
         Form::Refresh => match target_of(text) {
-            Some(target) => links.push(target),
+            Some(target) => links.push(position, target),
             None => Ok(()),
         },
-        Form::Style => push_urls(alloc, text, links),
+        Form::Style => push_urls(alloc, text, position, links),
         Form::Nothing => Ok(()),
     }
 }

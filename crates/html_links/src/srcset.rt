@@ -1,6 +1,7 @@
 //! The candidates of a `srcset`.
 ghost use Rattle.std.specs.Prelude.{◌≡◌, ◌≤◌, ◌<◌, ◌∷◌, ◌++◌, [], length, OnOk, MatchOption, false, take_while};
 ghost use Rattle.html_links.specs.Shown.{front, following, is_space, Stopped};
+ghost use Rattle.html_links.specs.Positions.{all_at};
 ghost use Rattle.html_links.specs.Candidates.{Between, Descriptors, read, candidates_of, are_commas, without_commas, after_shorter, is_between, is_unspaced};
 
 use crate::Links;
@@ -125,13 +126,19 @@ fn next_candidate(bytes: &[u8]) -> Option<(&[u8], &[u8])>
     Some((url, after_descriptors(url, candidate, more)))
 }
 
-/// Passes on the URLs of a `srcset`.
-pub(crate) fn push_candidates<L: Links>(text: &[u8], links: &mut L) -> Result<(), AllocError>
-    ensures { OnOk result (L.texts links.new ≡ L.texts links.old ++ candidates_of text.now) }
+/// Passes on the URLs of a `srcset`, all at this position.
+#[tactic(auto, using(crate::proofs::Placing::more_mapped, crate::proofs::Placing::last_mapped))]
+pub(crate) fn push_candidates<L: Links>(
+    text: &[u8],
+    position: usize,
+    links: &mut L,
+) -> Result<(), AllocError>
+    ensures texts { OnOk result (L.texts links.new ≡ L.texts links.old ++ candidates_of text.now) }
+    ensures positions { OnOk result (L.positions links.new ≡ L.positions links.old ++ all_at position (candidates_of text.now)) }
 {
     let mut rest = text;
     'candidates: while let Some((url, more)) = next_candidate(rest) {
-        links.push(url)?;
+        links.push(position, url)?;
         rest = more;
     }
     Ok(())

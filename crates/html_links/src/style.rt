@@ -2,7 +2,8 @@
 ghost use Rattle.std.specs.Prelude.{◌≡◌, ◌≤◌, ◌<◌, ◌∷◌, ◌++◌, [], length, map, false, OnOk, MatchOption, take_while};
 ghost use Rattle.html_links.specs.Comments.{bytes_at};
 ghost use Rattle.html_links.specs.Shown.{following};
-ghost use Rattle.html_links.specs.Styles.{is_wide_space, in_plain, in_word, in_run, continues, after_run, before, run_in, closed, quoted, after_closed, after_quoted, plain, in_brackets, after_url, after_import, opened, past_comment, found_at, after_name, pass_byte, pass, urls_of, style_links_of};
+ghost use Rattle.html_links.specs.Styles.{is_wide_space, in_plain, in_word, in_run, continues, after_run, before, run_in, closed, quoted, after_closed, after_quoted, plain, in_brackets, after_url, after_import, opened, past_comment, found_at, after_name, pass_byte, pass, style_lefts_of, style_links_of};
+ghost use Rattle.html_links.specs.Positions.{all_at, url_positions};
 ghost use Rattle.html_links.specs.Escapes.{unescaped};
 ghost use Rattle.html_links.specs.Tags.{lower};
 ghost use Rattle.html_links.specs.Seen.{foreign_sheet, raw_sheet, sheet_of};
@@ -11,7 +12,7 @@ ghost use Rattle.html_links.specs.Styled.{found_bytes, FoundLeaves};
 use crate::bytes::{after_byte, parts, split_quoted};
 use crate::context::{Context, is_foreign};
 use crate::escapes::{State, is_break, is_escaped, push_unescaped, state_after};
-use crate::links::{Links, PlacedLinks};
+use crate::links::Links;
 use crate::raw_text::{after_raw_text, same_name};
 use crate::refresh::{after_letter, is_quote};
 use std::alloc::{AllocError, Global};
@@ -29,64 +30,74 @@ enum Run {
     Single,
 }
 
-/// Passes on the texts of `url()` and `@import` in a style sheet or a style, in order.
+/// A URL in a style sheet as written, the number of bytes from its first byte on, and the bytes after it and its quote.
+#[derive(Clone, Copy)]
+struct UrlAt<'a> {
+    text: &'a [u8],
+    left: usize,
+    rest: &'a [u8],
+}
+
+/// Passes on the texts of `url()` and `@import` in a style sheet or a style, in order, all at this position.
 ///
 /// # Errors
 /// If an allocation fails.
+#[tactic(auto, using(crate::proofs::Placing::more_mapped, crate::proofs::Placing::last_mapped))]
 pub(crate) fn push_urls<L: Links>(
     alloc: Global,
     text: &[u8],
+    position: usize,
     links: &mut L,
 ) -> Result<(), AllocError>
-    ensures { OnOk result (L.texts links.new ≡ L.texts links.old ++ style_links_of text.now) }
+    ensures texts { OnOk result (L.texts links.new ≡ L.texts links.old ++ style_links_of text.now) }
+    ensures positions { OnOk result (L.positions links.new ≡ L.positions links.old ++ all_at position (style_links_of text.now)) }
 {
     let mut decoded = Vec::new(alloc);
     let mut rest = text;
-    'urls: while let Some((url, more)) = next_url(rest) {
-        push_url(url, &mut decoded, links)?;
-        rest = more;
+    'urls: while let Some(url) = next_url(rest) {
+        push_url(url.text, position, &mut decoded, links)?;
+        rest = url.rest;
     }
     Ok(())
 }
 
-/// Passes on a URL with its escapes decoded. It overwrites `decoded`.
-fn push_url<L: Links>(url: &[u8], decoded: &mut Vec<u8>, links: &mut L) -> Result<(), AllocError>
-    ensures { OnOk result (L.texts links.new ≡ L.texts links.old ++ unescaped url.now ∷ []) }
+/// Passes on a URL at this position, with its escapes decoded. It overwrites `decoded`.
+fn push_url<L: Links>(
+    url: &[u8],
+    position: usize,
+    decoded: &mut Vec<u8>,
+    links: &mut L,
+) -> Result<(), AllocError>
+    ensures texts { OnOk result (L.texts links.new ≡ L.texts links.old ++ unescaped url.now ∷ []) }
+    ensures positions { OnOk result (L.positions links.new ≡ L.positions links.old ++ position ∷ []) }
 {
     decoded.clear();
     push_unescaped(url, decoded)?;
-    links.push(decoded.as_slice())
+    links.push(position, decoded.as_slice())
 }
 
-/// Passes on the texts of `url()` and `@import` in a style sheet, in order, and before each the index at which it begins. `begin` is
-/// the index at which the sheet begins.
+/// Passes on the texts of `url()` and `@import` in a style sheet, in order, each at the position at which it begins. `end` is the
+/// position at which the sheet ends.
 ///
 /// # Errors
 /// If an allocation fails.
-pub fn read_style<L: PlacedLinks>(
+#[tactic(auto, using(crate::proofs::Placing::more_mapped, crate::proofs::Placing::last_mapped))]
+pub fn read_style<L: Links>(
     alloc: Global,
     sheet: &[u8],
-    begin: usize,
+    end: usize,
     links: &mut L,
 ) -> Result<(), AllocError>
-    ensures { OnOk result (L.texts links.new ≡ L.texts links.old ++ style_links_of sheet.now) }
+    ensures texts { OnOk result (L.texts links.new ≡ L.texts links.old ++ style_links_of sheet.now) }
+    ensures positions { OnOk result (L.positions links.new ≡ L.positions links.old ++ url_positions end sheet.now) }
 {
     let mut decoded = Vec::new(alloc);
     let mut rest = sheet;
-    'urls: while let Some((url, more)) = next_url(rest) {
-        links.begin_at(begin.saturating_add(url_index(sheet, url, more.len())));
-        push_url(url, &mut decoded, links)?;
-        rest = more;
+    'urls: while let Some(url) = next_url(rest) {
+        push_url(url.text, end.saturating_sub(url.left), &mut decoded, links)?;
+        rest = url.rest;
     }
     Ok(())
-}
-
-/// The index of a URL in a style sheet, if `left` bytes are after it and its quote.
-fn url_index(sheet: &[u8], url: &[u8], left: usize) -> usize {
-    let end = sheet.len().saturating_sub(left);
-    let quoted = matches!(sheet.get(end.saturating_sub(1)), Some(b'"' | b'\''));
-    end.saturating_sub(url.len())
-        .saturating_sub(usize::from(quoted))
 }
 
 /// The style sheet in an element with this name and context, from the bytes after its start tag. Only a `style` has one.
@@ -136,9 +147,10 @@ fn raw_sheet(bytes: &[u8]) -> &[u8]
     }
 }
 
-/// The next URL, and the bytes after it.
-fn next_url(bytes: &[u8]) -> Option<(&[u8], &[u8])>
-    ensures gives { MatchOption result (style_links_of bytes.now ≡ []) (λ x. style_links_of bytes.now ≡ unescaped x.0.now ∷ style_links_of x.1.now) }
+/// The next URL.
+fn next_url(bytes: &[u8]) -> Option<UrlAt<'_>>
+    ensures texts { MatchOption result (style_links_of bytes.now ≡ []) (λ x. style_links_of bytes.now ≡ unescaped x.text.now ∷ style_links_of x.rest.now) }
+    ensures lefts { MatchOption result (style_lefts_of bytes.now ≡ []) (λ x. style_lefts_of bytes.now ≡ x.left ∷ style_lefts_of x.rest.now) }
     ensures leaves { FoundLeaves result bytes.now }
 {
     let mut rest = bytes;
@@ -148,7 +160,7 @@ fn next_url(bytes: &[u8]) -> Option<(&[u8], &[u8])>
             return None;
         };
         match found_at(imports, rest) {
-            Some((url, left)) => return Some((url, left)),
+            Some(url) => return Some(url),
             None => {
                 let (left, more) = pass(imports, rest);
                 rest = left;
@@ -158,8 +170,8 @@ fn next_url(bytes: &[u8]) -> Option<(&[u8], &[u8])>
     }
 }
 
-/// The URL with which the bytes begin, and the bytes after it. A text in quotes is a URL only if an `@import` is before it.
-fn found_at(imports: bool, bytes: &[u8]) -> Option<(&[u8], &[u8])>
+/// The URL with which the bytes begin. A text in quotes is a URL only if an `@import` is before it.
+fn found_at(imports: bool, bytes: &[u8]) -> Option<UrlAt<'_>>
     ensures { found_bytes result ≡ found_at imports bytes.now }
 {
     match after_url(bytes) {
@@ -274,8 +286,8 @@ fn after_import(bytes: &[u8]) -> Option<&[u8]>
     after_letter(b't', r)
 }
 
-/// The URL after a `url(`, with or without quotes, and the bytes after it. A `)` need not follow.
-fn in_brackets(bytes: &[u8]) -> Option<(&[u8], &[u8])>
+/// The URL after a `url(`, with or without quotes. A `)` need not follow.
+fn in_brackets(bytes: &[u8]) -> Option<UrlAt<'_>>
     ensures { found_bytes result ≡ in_brackets bytes.now }
 {
     let inner = skip_wide_space(bytes);
@@ -285,8 +297,8 @@ fn in_brackets(bytes: &[u8]) -> Option<(&[u8], &[u8])>
     }
 }
 
-/// The text in quotes at the front, and the bytes after it.
-fn quoted(bytes: &[u8]) -> Option<(&[u8], &[u8])>
+/// The text in quotes at the front.
+fn quoted(bytes: &[u8]) -> Option<UrlAt<'_>>
     ensures { found_bytes result ≡ quoted bytes.now }
 {
     let Some((first, more)) = parts(bytes) else {
@@ -299,19 +311,24 @@ fn quoted(bytes: &[u8]) -> Option<(&[u8], &[u8])>
     }
 }
 
-/// The text before this quote, and the bytes after it. The text may also end with the sheet, but not with its line.
-fn closed(quote: u8, bytes: &[u8]) -> Option<(&[u8], &[u8])>
+/// The text before this quote. The text may also end with the sheet, but not with its line.
+fn closed(quote: u8, bytes: &[u8]) -> Option<UrlAt<'_>>
     ensures { found_bytes result ≡ closed quote bytes.now (after_run (run_in quote) State.Plain bytes.now) }
 {
-    let left = after_run(run_in(quote), State::Plain, bytes);
-    let text = before(bytes, left);
-    match parts(left) {
+    let after = after_run(run_in(quote), State::Plain, bytes);
+    let text = before(bytes, after);
+    let left = bytes.len();
+    match parts(after) {
         Some((last, rest)) => if last == quote {
-            Some((text, rest))
+            Some(UrlAt { text, left, rest })
         } else {
             None
         },
-        None => Some((text, left)),
+        None => Some(UrlAt {
+            text,
+            left,
+            rest: after,
+        }),
     }
 }
 
@@ -409,14 +426,15 @@ fn in_word(byte: u8) -> bool
         || byte >= 128
 }
 
-/// A URL without quotes, which has at least one byte, and the bytes after it.
-fn plain(bytes: &[u8]) -> Option<(&[u8], &[u8])>
+/// A URL without quotes, which has at least one byte.
+fn plain(bytes: &[u8]) -> Option<UrlAt<'_>>
     ensures { found_bytes result ≡ plain bytes.now }
 {
-    let left = after_run(Run::Plain, State::Plain, bytes);
-    let url = before(bytes, left);
-    match parts(url) {
-        Some(_) => Some((url, left)),
+    let rest = after_run(Run::Plain, State::Plain, bytes);
+    let text = before(bytes, rest);
+    let left = bytes.len();
+    match parts(text) {
+        Some(_) => Some(UrlAt { text, left, rest }),
         None => None,
     }
 }

@@ -13,6 +13,8 @@ use std::alloc::{AllocError, Global};
 pub struct AttributeAt<'a> {
     pub name: &'a [u8],
     pub value: &'a [u8],
+    /// The number of bytes from the first byte of the value on. A value that is missing is at the end of the name.
+    pub left: usize,
 }
 
 /// A tag, and the bytes after its `>`.
@@ -68,8 +70,9 @@ fn quoted<'a>(name: &'a [u8], bytes: &'a [u8]) -> Piece<'a>
     ensures reads { ReadsValue result name.now (34 ∷ bytes.now) }
     ensures leaves { Leaves result (length bytes.now) }
 {
+    let left = bytes.len();
     match split_quoted(b'"', bytes) {
-        Some((value, rest)) => Piece::Attribute(AttributeAt { name, value }, rest),
+        Some((value, rest)) => Piece::Attribute(AttributeAt { name, value, left }, rest),
         None => Piece::Unfinished,
     }
 }
@@ -81,14 +84,22 @@ fn attribute(bytes: &[u8]) -> Piece<'_>
     ensures reads { Reads result bytes.now }
     ensures leaves { Leaves result (length bytes.now) }
 {
-    let (name, rest) = split_name(bytes);
-    if let Some(more) = after_quote(rest) {
+    let (name, after) = split_name(bytes);
+    if let Some(more) = after_quote(after) {
         return quoted(name, more);
     }
-    let rest = skip_space(rest);
+    let left = after.len();
+    let rest = skip_space(after);
     match after_byte(b'=', rest) {
         Some(more) => value(name, skip_space(more)),
-        None => Piece::Attribute(AttributeAt { name, value: &[] }, rest),
+        None => Piece::Attribute(
+            AttributeAt {
+                name,
+                value: &[],
+                left,
+            },
+            rest,
+        ),
     }
 }
 
@@ -103,18 +114,35 @@ fn value<'a>(name: &'a [u8], bytes: &'a [u8]) -> Piece<'a>
         return Piece::Unfinished;
     };
     match class_of(first) {
-        Class::Quote => match split_quoted(b'"', more) {
-            Some((value, rest)) => Piece::Attribute(AttributeAt { name, value }, rest),
-            None => Piece::Unfinished,
-        },
-        Class::Apostrophe => match split_quoted(b'\'', more) {
-            Some((value, rest)) => Piece::Attribute(AttributeAt { name, value }, rest),
-            None => Piece::Unfinished,
-        },
-        Class::Greater => Piece::Attribute(AttributeAt { name, value: &[] }, bytes),
+        Class::Quote => {
+            let left = more.len();
+            match split_quoted(b'"', more) {
+                Some((value, rest)) => Piece::Attribute(AttributeAt { name, value, left }, rest),
+                None => Piece::Unfinished,
+            }
+        }
+        Class::Apostrophe => {
+            let left = more.len();
+            match split_quoted(b'\'', more) {
+                Some((value, rest)) => Piece::Attribute(AttributeAt { name, value, left }, rest),
+                None => Piece::Unfinished,
+            }
+        }
+        Class::Greater => {
+            let left = bytes.len();
+            Piece::Attribute(
+                AttributeAt {
+                    name,
+                    value: &[],
+                    left,
+                },
+                bytes,
+            )
+        }
         _ => {
+            let left = bytes.len();
             let (value, rest) = split_unquoted(bytes);
-            Piece::Attribute(AttributeAt { name, value }, rest)
+            Piece::Attribute(AttributeAt { name, value, left }, rest)
         }
     }
 }

@@ -9,7 +9,7 @@ returns-in-Some-after_contents c =
       has_same _ _
           (seen_start c.args.context c.tag_context-own.result (map lower c.args.name.now) c.args.bytes.now c.element_at-element.result (values_at c.values_in.new.values) c.in-Some.text.now _
           c.tag_context-own.ensures c.element_at-element.ensures c.in-Some.ensures refl
-          ∙ ap (λ seen. seen_with (map lower c.args.name.now) c.element_at-element.result (values_at c.values_in.new.values) (sheet_of c.tag_context-own.result (map lower c.args.name.now) c.values_in.new.values.self_closing c.in-Some.text.now) ∷ seen) c.in-Some-after_contents.ensures.reads),
+          ∙ ap (λ seen. seen_with (map lower c.args.name.now) c.element_at-element.result (values_at c.values_in.new.values) (sheet_of c.tag_context-own.result (map lower c.args.name.now) c.values_in.new.values.self_closing c.in-Some.text.now) (length c.in-Some.text.now) ∷ seen) c.in-Some-after_contents.ensures.reads),
       omega (arith, c.in-Some-after_contents.ensures.leaves),
     )
 
@@ -19,6 +19,6 @@ returns-in-None c =
       has_same _ _
           (seen_start c.args.context c.tag_context-own.result (map lower c.args.name.now) c.args.bytes.now c.element_at-element.result (values_at c.values_in.new.values) c.in-Some.text.now _
           c.tag_context-own.ensures c.element_at-element.ensures c.in-Some.ensures refl
-          ∙ ap (λ seen. seen_with (map lower c.args.name.now) c.element_at-element.result (values_at c.values_in.new.values) (sheet_of c.tag_context-own.result (map lower c.args.name.now) c.values_in.new.values.self_closing c.in-Some.text.now) ∷ seen) c.in-None.ensures.reads),
+          ∙ ap (λ seen. seen_with (map lower c.args.name.now) c.element_at-element.result (values_at c.values_in.new.values) (sheet_of c.tag_context-own.result (map lower c.args.name.now) c.values_in.new.values.self_closing c.in-Some.text.now) (length c.in-Some.text.now) ∷ seen) c.in-None.ensures.reads),
       omega arith,
     )

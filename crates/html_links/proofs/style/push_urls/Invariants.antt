@@ -1,9 +1,11 @@
 use Rattle.html_links.proofs.Prelude.{◌≡◌, ◌++◌, length, style_links_of}
+use Rattle.html_links.specs.Positions.{all_at}
 use Rattle.html_links.proofs.style.push_urls.Given as goal
 
--- the texts so far and those of what is left are the whole
+-- the texts so far and those of what is left are the whole, and so are the positions
 abbrev pub invariant-urls : goal.invariant-urls
-invariant-urls g l = g.L.Links.texts l.links ++ style_links_of l.rest ≡ g.L.Links.texts l.initial.links ++ style_links_of l.fn.text
+invariant-urls g l = (g.L.Links.texts l.links ++ style_links_of l.rest ≡ g.L.Links.texts l.initial.links ++ style_links_of l.fn.text) ×
+    (g.L.Links.positions l.links ++ all_at l.position (style_links_of l.rest) ≡ g.L.Links.positions l.initial.links ++ all_at l.fn.position (style_links_of l.fn.text))
 
 abbrev pub decreases-urls : goal.decreases-urls
 decreases-urls g l = length l.rest

@@ -1,5 +1,5 @@
 use Rattle.html_links.proofs.Prelude.{◌∙◌, ◌≤◌, ◌==◌, arith, length, map, not, lower, in_unquoted}
-use Rattle.html_links.proofs.Jumps.{read_double, read_open_double, read_single, read_open_single, read_unquoted, quoted_shorter, shorter}
+use Rattle.html_links.proofs.Jumps.{read_double, read_open_double, read_single, read_open_single, read_missing, read_unquoted, quoted_shorter, shorter}
 use Rattle.html_links.proofs.tag.value.Goals as goal
 
 pub returns-in-Some-split_quoted-clause-reads : goal.returns-in-Some-split_quoted-clause-reads
@@ -25,6 +25,9 @@ returns-in-Some-split_quoted-2-clause-leaves c =
 pub returns-in-None-split_quoted-clause-reads : goal.returns-in-None-split_quoted-clause-reads
 returns-in-None-split_quoted-clause-reads c =
     read_open_single (map lower c.args.name.now) c.args.bytes.now c.in-Some.first c.in-Some.more.now c.in-Some.ensures c.in-Apostrophe.ensures c.in-None-split_quoted.ensures
+
+pub returns-in-Greater-clause-reads : goal.returns-in-Greater-clause-reads
+returns-in-Greater-clause-reads c = read_missing (map lower c.args.name.now) c.args.bytes.now c.in-Some.first c.in-Some.more.now c.in-Some.ensures c.in-Greater.ensures
 
 pub returns-in_default-class_of : goal.returns-in_default-class_of
 returns-in_default-class_of c =
