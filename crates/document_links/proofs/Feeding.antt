@@ -1,15 +1,15 @@
 -- Links of feeds and lists of URLs, over runs of bytes.
 use Rattle.document_links.proofs.Prelude.{◌≡◌, ◌∙◌, ℕ, ◌==◌, true, false, not, List, [], ◌∷◌, ◌++◌, take, drop, Option, refl, sym, ap, arith, cond-true, cond-false, cases_Bool}
-use Rattle.std.proofs.Common.{zero, suc, append-nil, append_assoc, subst}
+use Rattle.std.proofs.Common.{◌+◌, length, zero, suc, append-nil, append_assoc, subst}
 use Rattle.html_links.specs.Shown.{following, front}
-use Rattle.html_links.proofs.Sources.{front_all}
+use Rattle.html_links.proofs.Sources.{front_all, front_shorter}
 use Rattle.url.specs.Input.{trim_c0_control_and_space}
 use Rattle.document_links.specs.declared.feed.FeedKind.{FeedKind}
 use Rattle.document_links.specs.declared.markup.Markup.{Markup}
 use Rattle.document_links.specs.Feeds.{kind_after, links_from, markup_links, text_from, text_links, text_of}
 use Rattle.document_links.specs.Markup.{is_tag, markup_len, markup_of, section_of}
 use Rattle.document_links.specs.Unescaped.{unescaped}
-use Rattle.document_links.specs.UrlLists.{lines_from, url_lines_of}
+use Rattle.document_links.specs.UrlLists.{line_positions, line_positions_from, lines_from, url_lines_of}
 use Rattle.document_links.proofs.Runs.{collects_run, fails}
 
 -- ---- links
@@ -92,3 +92,23 @@ pub next_line : (bytes line more : List ℕ) → line ≡ front (λ b. not (b ==
     url_lines_of bytes ≡ text_links (trim_c0_control_and_space line) ++ url_lines_of more
 next_line bytes line more before here =
     run_line [] bytes ∙ ap (λ l. lines_from l (following (λ b. not (b == 10)) bytes)) (sym before) ∙ ap (lines_from line) (sym here)
+
+-- and their positions
+
+run_position : (end : ℕ) (line bytes : List ℕ) → line_positions_from end line bytes ≡ line_positions_from end (line ++ front (λ b. not (b == 10)) bytes) (following (λ b. not (b == 10)) bytes)
+run_position end = collects_run (line_positions_from end) (λ b. not (b == 10)) (λ line b bytes inside. fails (b == 10) _ _ inside)
+
+pub last_position : (end : ℕ) (bytes : List ℕ) → following (λ b. not (b == 10)) bytes ≡ [] → line_positions_from end [] bytes ≡ line_positions end (length bytes) bytes
+last_position end bytes none =
+    run_position end [] bytes ∙ ap (λ more. line_positions_from end (front (λ b. not (b == 10)) bytes) more) none
+    ∙ ap (λ (l : List ℕ). line_positions end (length l) l) (front_all (λ b. not (b == 10)) bytes none)
+
+line_length : (bytes line more : List ℕ) → line ≡ front (λ b. not (b == 10)) bytes → 10 ∷ more ≡ following (λ b. not (b == 10)) bytes → length line + length (10 ∷ more) ≡ length bytes
+line_length bytes line more before here =
+    ap (λ (l : List ℕ). length l + length (10 ∷ more)) before ∙ ap (λ (l : List ℕ). length (front (λ b. not (b == 10)) bytes) + length l) here ∙ front_shorter (λ b. not (b == 10)) bytes
+
+pub next_position : (end : ℕ) (bytes line more : List ℕ) → line ≡ front (λ b. not (b == 10)) bytes → 10 ∷ more ≡ following (λ b. not (b == 10)) bytes →
+    line_positions_from end [] bytes ≡ line_positions end (length bytes) line ++ line_positions_from end [] more
+next_position end bytes line more before here =
+    run_position end [] bytes ∙ ap (λ l. line_positions_from end l (following (λ b. not (b == 10)) bytes)) (sym before) ∙ ap (line_positions_from end line) (sym here)
+    ∙ ap (λ n. line_positions end n line ++ line_positions_from end [] more) (line_length bytes line more before here)

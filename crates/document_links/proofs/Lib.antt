@@ -1,9 +1,11 @@
 pub mod After
+pub mod Encoded
 pub mod Feeding
 pub mod Fitting
 pub mod Marking
 pub mod Parsing
 pub mod Prelude
+pub mod Pushing
 pub mod Rooting
 pub mod Runs
 pub mod Trimming

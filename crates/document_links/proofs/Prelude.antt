@@ -3,8 +3,8 @@ pub use Rattle.document_links.specs.Encoding.{HasFileLinks, HasFileTexts, HasLin
 pub use Rattle.document_links.specs.Places.{begins_character, is_lf, last_line, point_at, point_of}
 pub use Rattle.document_links.specs.Rooted.{begins_path, below_after, depth_after, in_segment, is_slash, kept, path_below, rooted}
 pub use Rattle.document_links.specs.Texts.{fits, is_inner, is_plain}
-pub use Rattle.document_links.specs.Written.{can_write, clean, keeps_links, shortened, without_fragment, written}
-pub use Rattle.memchr.specs.Find.{IsFirstByte, NoneAfter, Nowhere, Passes, is_byte, is_byte3}
+pub use Rattle.document_links.specs.Written.{clean, shortened, without_fragment, written}
+pub use Rattle.memchr.specs.Find.{IsFirstByte, NoneAfter, Nowhere, Passes, is_byte}
 pub use Rattle.std.proofs.Common.{Bool, IfOk, List, None, Option, Result, Some, [], ap, arith, cond, count_by, drop, false, filter, get_or, length, length-drop, length-take, map, not, refl, reverse, rules, subst, sym, take, take-append-drop, tests, true, true≢false, ℕ, ◌++◌, ◌+◌, ◌-◌, ◌<◌, ◌==◌, ◌||◌, ◌∙◌, ◌∷◌, ◌≡◌, ◌≤◌, ◌⊎◌}
 pub use Rattle.std.proofs.lemmas.Bool.{agree_below_at, and_from, and_parts, cases_Bool, cond-false, cond-true, eqb-true, false_from_ne_true, le-leb, or_parts}
 pub use Rattle.std.proofs.lemmas.Iterator.Consumers.{count_from_yields_List}

@@ -1,7 +1,10 @@
 -- What a URL parser drops from a text, and the text before its fragment.
-use Rattle.document_links.proofs.Prelude.{◌≡◌, ◌<◌, ℕ, Bool, false, not, List, [], ◌∷◌, length, filter, get_or, Some, None, refl, sym, ap, arith, Option, is_some, list_any, position_or_len, cases_Bool, cond-true, false_from_ne_true, or_parts, get_or_default, list_any_none, list_any_at, IsFirstByte, Passes, is_byte, is_byte3, prefix_len_is, clean}
-use Rattle.url.specs.Input.{is_tab_or_new_line, trim_c0_control_and_space, strip_tabs_and_new_lines}
+use Rattle.document_links.proofs.Prelude.{◌≡◌, ◌∙◌, ◌≤◌, ◌+◌, ◌-◌, ◌++◌, ℕ, Bool, false, not, List, [], ◌∷◌, length, length-reverse, reverse, reverse-append, take, drop, prefix_len, suffix_len, filter, get_or, Some, None, refl, ap, arith, list_any, position_or_len, cond-true, cond-false, false_from_ne_true, or_parts, sym, true, true≢false, IsFirstByte, is_byte, prefix_len_is, begins_path, is_slash, is_c0_control_or_space, clean}
+use Rattle.std.proofs.lemmas.Bool.{cond_both, not-true}
+use Rattle.std.proofs.Common.{suc}
+use Rattle.url.specs.Input.{is_tab_or_new_line, trim_c0_control_and_space, trim_end, trim_start, strip_tabs_and_new_lines}
 use Rattle.crawl_keys.specs.Fragments.{is_number_sign}
+use Rattle.document_links.specs.Rooted.{begins_visibly}
 
 -- ---- the text before its fragment
 
@@ -16,13 +19,6 @@ no_sign text none = grind (arith, prefix_len_is, false_from_ne_true)
 
 -- ---- tabs and line breaks
 
-fails : (test : ℕ → Bool) (xs : List ℕ) (k d : ℕ) → k < length xs → (Passes test xs k → ⊥) → test (get_or xs k d) ≡ false
-fails test xs k d within refutes = grind (arith, cases_Bool, get_or_default)
-
-pub found_any : (xs : List ℕ) (r : Option ℕ) → IsFirstByte (is_byte3 9 10 13) xs r → is_some r ≡ list_any is_tab_or_new_line xs
-found_any xs None none = sym (list_any_none is_tab_or_new_line xs (λ k d within. fails is_tab_or_new_line xs k d within (none k (omega arith) within)))
-found_any xs (Some k) first = sym (list_any_at is_tab_or_new_line xs k 0 first.0.high first.1)
-
 pub none_dropped : (test : ℕ → Bool) (xs : List ℕ) → list_any test xs ≡ false → filter (λ b. not (test b)) xs ≡ xs
 none_dropped test [] none = refl
 none_dropped test (x ∷ xs) none = grind (arith, or_parts, cond-true, none_dropped test xs)
@@ -31,3 +27,25 @@ none_dropped test (x ∷ xs) none = grind (arith, or_parts, cond-true, none_drop
 pub unbroken_clean : (text : List ℕ) → list_any is_tab_or_new_line (trim_c0_control_and_space text) ≡ false → clean text ≡ trim_c0_control_and_space text
 unfolding strip_tabs_and_new_lines
 unbroken_clean text none = none_dropped is_tab_or_new_line (trim_c0_control_and_space text) none
+
+-- ---- the first byte
+
+-- a byte that fails the test ends the bytes that pass it
+short : (test : ℕ → Bool) (xs : List ℕ) (b : ℕ) → test b ≡ false → prefix_len test (xs ++ b ∷ []) ≤ length xs
+short test [] b fail = omega (arith, cond-false {A = ℕ} (test b) 1 0 fail)
+short test (x ∷ xs) b fail = cond_both (test x) (1 + prefix_len test (xs ++ b ∷ [])) 0 (λ n. n ≤ length (x ∷ xs)) (λ pass. omega (arith, short test xs b fail)) (λ none. omega arith)
+
+-- a link whose first byte is kept begins with that byte
+first_kept : (b : ℕ) (rest : List ℕ) → is_c0_control_or_space b ≡ false → begins_path (trim_c0_control_and_space (b ∷ rest)) ≡ is_slash b
+unfolding trim_c0_control_and_space
+first_kept b rest kept =
+    let test : ℕ → Bool = is_c0_control_or_space in
+    let start : trim_start test (b ∷ rest) ≡ b ∷ rest = ap (λ n. drop n (b ∷ rest)) (cond-false (test b) (1 + prefix_len test rest) 0 kept) in
+    let ends : reverse (b ∷ rest) ≡ reverse rest ++ b ∷ [] = reverse-append (b ∷ []) rest in
+    let few : suffix_len test (b ∷ rest) ≤ length rest = omega (arith, short test (reverse rest) b kept, ap (prefix_len test) ends, length-reverse rest) in
+    let count : length (b ∷ rest) - suffix_len test (b ∷ rest) ≡ suc (length rest - suffix_len test (b ∷ rest)) = omega (arith, few) in
+    ap (λ text. begins_path (trim_end test text)) start ∙ ap (λ n. begins_path (take n (b ∷ rest))) count
+
+pub visible_path : (text : List ℕ) → begins_visibly text ≡ true → begins_path (trim_c0_control_and_space text) ≡ begins_path text
+visible_path [] none = absurd (true≢false (sym none))
+visible_path (b ∷ rest) visible = first_kept b rest (not-true (is_c0_control_or_space b) visible)

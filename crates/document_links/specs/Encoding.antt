@@ -1,9 +1,11 @@
 -- The text of a document in UTF-8, and its links.
-use Rattle.std.specs.Prelude.{◌≡◌, ◌≤◌, ℕ, ◌-◌, ◌%◌, nat_lt, Bool, true, false, ◌||◌, List, [], ◌∷◌, ◌++◌, codes, drop, map, take, slice_index, Option, None, Some, Vec, if◌then◌else◌, bytes_eq}
+use Rattle.std.specs.Prelude.{◌≡◌, ℕ, ◌-◌, ◌%◌, nat_lt, Bool, true, false, ◌||◌, List, [], ◌∷◌, ◌++◌, codes, drop, take, slice_index, Option, None, Some, Vec, if◌then◌else◌, bytes_eq}
+use Rattle.std.specs.Char.{encode_utf8}
 use Rattle.std.specs.Int.{is_in_range}
+use Rattle.std.specs.List.{flat_map}
+use Rattle.std.specs.Str.{is_utf8, IsAscii}
 use Rattle.std.specs.Str.Lossy.{utf8_lossy}
 use Rattle.std.specs.declared.alloc.Global.{Global}
-use Rattle.std.specs.List.{list_all}
 use Rattle.html_links.specs.Links.{base_of, links_of}
 use Rattle.html_links.specs.Styles.{style_links_of}
 use Rattle.document_links.specs.Feeds.{feed_links_of}
@@ -15,7 +17,7 @@ use Rattle.document_links.specs.declared.charset.Charset.TheVariants.{Utf8, Utf1
 use Rattle.document_links.specs.declared.text_kind.TextKind.{TextKind}
 use Rattle.document_links.specs.declared.text_kind.TextKind.TheVariants.{Document, StyleSheet, Feed, UrlList}
 use Rattle.document_links.specs.Rooted.{all_rooted}
-use Rattle.document_links.specs.Written.{AreWritten, byte_count, can_write, is_unicode, written}
+use Rattle.document_links.specs.Written.{AreWritten}
 
 -- the byte order mark of UTF-8
 abbrev pub mark : List ℕ
@@ -27,13 +29,33 @@ has_mark body = bytes_eq (take 3 body) mark
 abbrev pub without_mark : List ℕ → List ℕ
 without_mark body = if has_mark body then drop 3 body else body
 
--- the text is that of a document in this encoding. Nothing is stated about the text in an encoding other than UTF-8
+-- the character that a byte means
+abbrev pub character_of : ℕ → ℕ
+character_of byte = if is_in_range 128 159 byte then slice_index WINDOWS (byte - 128) else byte
+
+-- the one byte that may mean a character
+abbrev pub likely_byte : ℕ → ℕ
+likely_byte number = if nat_lt number 256 then number else slice_index LIKELY (number % 79)
+
+-- the text of a document in windows-1252
+abbrev pub windows_text : List ℕ → List ℕ
+windows_text body = flat_map (λ byte. encode_utf8 (character_of byte)) body
+
+-- the text is that of a document in this encoding. Nothing is stated about the text in UTF-16, or in another encoding
 abbrev pub IsTextIn : Charset → List ℕ → List ℕ → Type 0
 IsTextIn Utf8 body text = text ≡ utf8_lossy (without_mark body)
 IsTextIn Utf16Le body text = Unit {0}
 IsTextIn Utf16Be body text = Unit {0}
-IsTextIn Windows1252 body text = Unit {0}
+IsTextIn Windows1252 body text = text ≡ windows_text body
 IsTextIn Other body text = Unit {0}
+
+-- the encoding is a known one, so that all bytes are read
+abbrev pub is_known : Charset → Bool
+is_known Utf8 = true
+is_known Utf16Le = true
+is_known Utf16Be = true
+is_known Windows1252 = true
+is_known Other = false
 
 -- the converted text, or the document without its byte order mark
 abbrev pub text_in : List ℕ → Option (Vec ℕ Global) → List ℕ
@@ -45,22 +67,23 @@ text_in body (Some text) = text.items
 abbrev pub read_links_of : ReadOptions → List ℕ → List (List ℕ)
 read_links_of options text = all_rooted options.root (links_of options.styles options.syntax text)
 
--- a document with this text has these link texts, if it has no `base`
+-- a document with this text has these link texts, if it has no `base` and its encoding is a known one
 abbrev pub HasTexts : ReadOptions → Charset → List ℕ → List (List ℕ) → Type 0
-HasTexts options charset text links =
-    is_unicode charset ≡ true → base_of options.syntax text ≡ None → list_all can_write (read_links_of options text) ≡ true → byte_count links ≤ options.byte_limit
-    → links ≡ map written (read_links_of options text)
+HasTexts options charset text links = is_known charset ≡ true → base_of options.syntax text ≡ None → AreWritten charset [] (read_links_of options text) links options.byte_limit
 
--- a document in this encoding has these link texts
+-- a document in this encoding has these link texts. If all of it is ASCII, its text is the document itself
 pub record HasLinks (options : ReadOptions) (charset : Charset) (body : List ℕ) (links : List (List ℕ)) : Type 0 where
   pub text : List ℕ
   pub decoded : IsTextIn charset body text
+  pub ascii : IsAscii body → text ≡ body
   pub texts : HasTexts options charset text links
 
--- a document has these link texts in some encoding, which is UTF-8 if it begins with the byte order mark of UTF-8
+-- a document has these link texts in some encoding. That is UTF-8 if the document begins with the byte order mark of UTF-8, and a known
+-- one if it is valid UTF-8
 pub record HasLinkTexts (options : ReadOptions) (body : List ℕ) (links : List (List ℕ)) : Type 0 where
   pub charset : Charset
   pub marked : has_mark body ≡ true → charset ≡ Utf8
+  pub valid : is_utf8 body ≡ true → is_known charset ≡ true
   pub has : HasLinks options charset body links
 
 -- ---- files without a `base`: style sheets, feeds and lists of URLs
@@ -87,14 +110,6 @@ is_in_unicode StyleSheet = false
 is_in_unicode Feed = true
 is_in_unicode UrlList = true
 
--- the encoding is a known one, so that all bytes are read
-abbrev pub is_known : Charset → Bool
-is_known Utf8 = true
-is_known Utf16Le = true
-is_known Utf16Be = true
-is_known Windows1252 = true
-is_known Other = false
-
 -- the links in a text of this kind
 abbrev pub links_in : TextKind → List ℕ → List (List ℕ)
 links_in (Document syntax styles) text = links_of styles syntax text
@@ -104,20 +119,22 @@ links_in UrlList text = url_lines_of text
 
 -- a file with this text has these link texts
 abbrev pub HasFileTexts : TextKind → ReadOptions → Charset → List ℕ → List (List ℕ) → Type 0
-HasFileTexts kind options charset text links = is_known charset ≡ true → AreWritten [] (all_rooted options.root (links_in kind text)) links options.byte_limit
+HasFileTexts kind options charset text links = is_known charset ≡ true → AreWritten Utf8 [] (all_rooted options.root (links_in kind text)) links options.byte_limit
 
--- a file in this encoding has these link texts
+-- a file in this encoding has these link texts. If all of it is ASCII, its text is the file itself
 pub record HasFileLinks (kind : TextKind) (options : ReadOptions) (charset : Charset) (file : List ℕ) (links : List (List ℕ)) : Type 0 where
   pub text : List ℕ
   pub decoded : IsTextIn charset file text
+  pub ascii : IsAscii file → text ≡ file
   pub texts : HasFileTexts kind options charset text links
 
--- a file has these link texts in some encoding, which is UTF-8 unless the file names another
+-- a file has these link texts in some encoding. That is UTF-8 unless the file names another, and a known one if the file is valid UTF-8
 pub record HasFile (kind : TextKind) (options : ReadOptions) (file : List ℕ) (links : List (List ℕ)) : Type 0 where
   pub charset : Charset
   pub marked : has_mark file ≡ true → charset ≡ Utf8
   pub unnamed : names_encoding kind file ≡ false → charset ≡ Utf8
   pub known : is_in_unicode kind ≡ true → is_known charset ≡ true
+  pub valid : is_utf8 file ≡ true → is_known charset ≡ true
   pub has : HasFileLinks kind options charset file links
 
 abbrev pub HasSheet : ReadOptions → List ℕ → List (List ℕ) → Type 0
@@ -128,13 +145,3 @@ HasFeed options feed links = HasFile Feed options feed links
 
 abbrev pub HasUrlList : ReadOptions → List ℕ → List (List ℕ) → Type 0
 HasUrlList options list links = HasFile UrlList options list links
-
--- ---- windows-1252
-
--- the character that a byte means
-abbrev pub character_of : ℕ → ℕ
-character_of byte = if is_in_range 128 159 byte then slice_index WINDOWS (byte - 128) else byte
-
--- the one byte that may mean a character
-abbrev pub likely_byte : ℕ → ℕ
-likely_byte number = if nat_lt number 256 then number else slice_index LIKELY (number % 79)

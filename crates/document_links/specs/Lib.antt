@@ -1,3 +1,5 @@
+pub mod AnchorLinks
+pub mod Anchors
 pub mod Encoding
 pub mod Feeds
 pub mod Markup

@@ -1,7 +1,7 @@
 -- The texts of links in a folder whose URL is not known: a path that begins with one slash is a path below the top.
 use Rattle.std.specs.Prelude.{ℕ, ◌+◌, ◌-◌, ◌==◌, Bool, false, not, ◌&&◌, ◌||◌, List, [], ◌∷◌, ◌++◌, map, Option, None, Some, option_map, unwrap_or, if◌then◌else◌}
 use Rattle.std.specs.Borrow.{Bor}
-use Rattle.url.specs.Input.{trim_c0_control_and_space}
+use Rattle.url.specs.Input.{is_c0_control_or_space, trim_c0_control_and_space}
 use Rattle.url.specs.Path.{dot_count}
 use Rattle.document_links.specs.Written.{clean}
 
@@ -12,6 +12,11 @@ is_slash b = b == 47 || b == 92
 abbrev pub begins_path : List ℕ → Bool
 begins_path [] = false
 begins_path (b ∷ bytes) = is_slash b
+
+-- the first byte is one that a URL parser keeps
+abbrev pub begins_visibly : List ℕ → Bool
+begins_visibly [] = false
+begins_visibly (b ∷ bytes) = not (is_c0_control_or_space b)
 
 -- the text after the slash of a text that begins with exactly one slash; after two slashes comes a host
 abbrev pub path_of : List ℕ → Option (List ℕ)

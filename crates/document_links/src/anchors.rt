@@ -1,4 +1,8 @@
 //! The anchors of a document, and its links to anchors.
+ghost use Rattle.std.specs.Prelude.{◌≡◌, length, option_map, unwrap_or};
+ghost use Rattle.document_links.specs.Anchors.{begin_of, bytes_between, end_of, known_index, link_at, link_of, start_of};
+ghost use Rattle.page_anchors.specs.Indicated.{DoAscend};
+
 use crate::cleaning::{push_without_breaks, trimmed_end};
 use crate::link_writer::LinkWriter;
 use crate::raw_links::RawLinks;
@@ -19,7 +23,7 @@ pub struct AnchorLink<'a> {
 
 /// The start of a link's fragment, which ends at the start of the next, and the link's index.
 #[derive(Clone, Copy)]
-struct KeptLink {
+pub(crate) struct KeptLink {
     fragment: u32,
     index: u32,
 }
@@ -37,6 +41,7 @@ pub struct Anchors {
     ends: Vec<u32>,
     /// The texts after the first `#` of these links, one after the other.
     fragments: Vec<u8>,
+    ghost ascend: { DoAscend ids },
 }
 
 /// The anchors of a document, and the targets of its links to anchors: the URLs of links with a `#`, in order. Links with the same
@@ -67,16 +72,27 @@ pub enum Target {
 
 impl Anchors {
     /// The number of the first link to the target with this index, and the number after the last one.
-    pub fn links_to(&self, target: usize) -> (usize, usize) {
-        let begin = match target.checked_sub(1) {
-            Some(before) => self.end_of(before),
-            None => 0,
-        };
-        (begin, self.end_of(target))
+    pub fn links_to(&self, target: usize) -> (usize, usize)
+        ensures begin { result.0 ≡ begin_of self.now.ends.items (length self.now.links.items) target }
+        ensures end { result.1 ≡ end_of self.now.ends.items (length self.now.links.items) target }
+    {
+        (self.begin_of(target), self.end_of(target))
+    }
+
+    /// The number of the first link to the target with this index.
+    fn begin_of(&self, target: usize) -> usize
+        ensures { result ≡ begin_of self.now.ends.items (length self.now.links.items) target }
+    {
+        if target == 0 {
+            return 0;
+        }
+        self.end_of(target - 1)
     }
 
     /// The number after the last link to the target with this index.
-    fn end_of(&self, target: usize) -> usize {
+    fn end_of(&self, target: usize) -> usize
+        ensures { result ≡ end_of self.now.ends.items (length self.now.links.items) target }
+    {
         match self.ends.get(target) {
             Some(end) => *end as usize,
             None => self.links.len(),
@@ -84,21 +100,43 @@ impl Anchors {
     }
 
     /// The link with this number.
-    pub fn link(&self, number: usize) -> Option<AnchorLink<'_>> {
-        let link = self.links.get(number)?;
+    pub fn link(&self, number: usize) -> Option<AnchorLink<'_>>
+        ensures { option_map link_of result ≡ link_at self.now.links.items self.now.fragments.items number }
+    {
+        match self.links.get(number) {
+            Some(link) => Some(self.link_before(link, number.saturating_add(1))),
+            None => None,
+        }
+    }
+
+    /// A kept link as one to an anchor. Its fragment ends at the start of the link with the number `next`.
+    fn link_before<'s>(&'s self, link: &KeptLink, next: usize) -> AnchorLink<'s>
+        ensures fragment { result.fragment.now ≡ bytes_between self.now.fragments.items link.now.fragment (start_of self.now.links.items self.now.fragments.items next) }
+        ensures index { result.index ≡ known_index link.now.index }
+    {
         let begin = link.fragment as usize;
-        let end = match self.links.get(number.saturating_add(1)) {
-            Some(next) => next.fragment as usize,
-            None => self.fragments.len(),
-        };
-        Some(AnchorLink {
-            fragment: self.fragments.as_slice().get(begin..end).unwrap_or(&[]),
+        let end = self.start_of(next);
+        AnchorLink {
+            fragment: bytes_between(self.fragments.as_slice(), begin, end),
             index: known_index(link.index),
-        })
+        }
+    }
+
+    /// The start of the fragment of the link with this number. That of the link after the last one is the end of all fragments.
+    fn start_of(&self, number: usize) -> usize
+        ensures { result ≡ start_of self.now.links.items self.now.fragments.items number }
+    {
+        match self.links.get(number) {
+            Some(link) => link.fragment as usize,
+            None => self.fragments.len(),
+        }
     }
 
     /// Anchors with these ids, without links.
-    fn with(ids: Ids, alloc: Global) -> Anchors {
+    fn with(ids: Ids, alloc: Global) -> Anchors
+        requires { DoAscend ids }
+        ensures { result.ids ≡ ids }
+    {
         Anchors {
             ids,
             links: Vec::new(alloc),
@@ -154,8 +192,20 @@ impl Anchors {
     }
 }
 
+/// The bytes from one position to another; none if there are no such bytes.
+fn bytes_between(bytes: &[u8], begin: usize, end: usize) -> &[u8]
+    ensures { result.now ≡ bytes_between bytes.now begin end }
+{
+    if begin <= end && end <= bytes.len() {
+        return &bytes[begin..end];
+    }
+    &[]
+}
+
 /// Returns the index, or `None` if it is the value for one that four bytes cannot hold.
-fn known_index(index: u32) -> Option<u32> {
+fn known_index(index: u32) -> Option<u32>
+    ensures { result ≡ known_index index }
+{
     if index == FAR { None } else { Some(index) }
 }
 

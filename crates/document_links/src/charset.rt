@@ -1,11 +1,13 @@
 //! The encoding of a document or a style sheet.
 ghost use Rattle.std.specs.Prelude.{◌≡◌, ◌≢◌, ℕ, ◌≤◌, ◌<◌, bytes_eq, false, length, take, true, IsAscii, IfOk, IfSome, IsNone, IsSome};
-ghost use Rattle.document_links.specs.Encoding.{character_of, charset_rule, has_mark, is_in_unicode, is_known, likely_byte, names_encoding};
+ghost use Rattle.std.specs.Str.{is_utf8};
+ghost use Rattle.document_links.specs.Encoding.{character_of, charset_rule, has_mark, is_in_unicode, is_known, likely_byte, names_encoding, windows_text};
 ghost use Rattle.document_links.specs.Places.{keeps_ascii};
 ghost use Rattle.document_links.specs.Written.{is_unicode};
 
 use crate::cleaning::trimmed;
 use crate::document_start::{START_LENGTH, after_first, after_front, start_of};
+use crate::line_text::is_text;
 use crate::name_list::is_among;
 use crate::text_kind::TextKind;
 use memchr::memchr;
@@ -46,6 +48,7 @@ pub(crate) fn charset_of(body: &[u8], kind: TextKind) -> Charset
     ensures marked { has_mark body.now ≡ true → result ≡ Charset.Utf8 }
     ensures unnamed { names_encoding kind body.now ≡ false → result ≡ Charset.Utf8 }
     ensures known { is_in_unicode kind ≡ true → is_known result ≡ true }
+    ensures valid { is_utf8 body.now ≡ true → is_known result ≡ true }
 {
     match body {
         [0xef, 0xbb, 0xbf, ..] => Charset::Utf8,
@@ -60,6 +63,7 @@ fn charset_unmarked(body: &[u8], kind: TextKind) -> Charset
     ensures ascii { keeps_ascii result ≡ true }
     ensures unnamed { names_encoding kind body.now ≡ false → result ≡ Charset.Utf8 }
     ensures known { is_in_unicode kind ≡ true → is_known result ≡ true }
+    ensures valid { is_utf8 body.now ≡ true → is_known result ≡ true }
 {
     match kind {
         TextKind::Document { .. } => document_unmarked(body),
@@ -72,6 +76,7 @@ fn charset_unmarked(body: &[u8], kind: TextKind) -> Charset
 fn sheet_unmarked(body: &[u8]) -> Charset
     ensures ascii { keeps_ascii result ≡ true }
     ensures unnamed { bytes_eq (take 10 body.now) charset_rule ≡ false → result ≡ Charset.Utf8 }
+    ensures valid { is_utf8 body.now ≡ true → is_known result ≡ true }
 {
     match named_in_sheet(body) {
         Some(name) => charset_named(name, body),
@@ -95,7 +100,8 @@ pub(crate) fn named_in_sheet(body: &[u8]) -> Option<&[u8]>
 
 /// The encoding of a document without a byte order mark.
 fn document_unmarked(body: &[u8]) -> Charset
-    ensures { keeps_ascii result ≡ true }
+    ensures ascii { keeps_ascii result ≡ true }
+    ensures valid { is_utf8 body.now ≡ true → is_known result ≡ true }
 {
     match declared(start_of(body)) {
         Some(name) => charset_named(name, body),
@@ -106,9 +112,10 @@ fn document_unmarked(body: &[u8]) -> Charset
 /// Returns UTF-8 if the document is valid UTF-8, and otherwise `otherwise`.
 fn undeclared(body: &[u8], otherwise: Charset) -> Charset
     requires { keeps_ascii otherwise ≡ true }
-    ensures { keeps_ascii result ≡ true }
+    ensures ascii { keeps_ascii result ≡ true }
+    ensures valid { is_utf8 body.now ≡ true → result ≡ Charset.Utf8 }
 {
-    if simdutf8::is_utf8(body) {
+    if is_text(body) {
         Charset::Utf8
     } else {
         otherwise
@@ -117,7 +124,8 @@ fn undeclared(body: &[u8], otherwise: Charset) -> Charset
 
 /// Returns the encoding with this name. If the name is not known here, a document that is valid UTF-8 is in UTF-8.
 fn charset_named(name: &[u8], body: &[u8]) -> Charset
-    ensures { keeps_ascii result ≡ true }
+    ensures ascii { keeps_ascii result ≡ true }
+    ensures valid { is_utf8 body.now ≡ true → is_known result ≡ true }
 {
     if is_among(name, UTF8_NAMES) {
         Charset::Utf8
@@ -291,7 +299,8 @@ static WINDOWS: [char; 32] = [
 
 /// The text of a document in windows-1252.
 pub(crate) fn from_windows(alloc: Global, body: &[u8]) -> Result<Vec<u8>, AllocError>
-    ensures { IsAscii body.now → IfOk result (λ text. text.items ≡ body.now) }
+    ensures ascii { IsAscii body.now → IfOk result (λ text. text.items ≡ body.now) }
+    ensures text { IfOk result (λ text. text.items ≡ windows_text body.now) }
 {
     let mut text = String::new(alloc);
     for byte in body {

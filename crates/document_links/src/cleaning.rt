@@ -4,7 +4,7 @@ ghost use Rattle.std.specs.List.{list_any};
 ghost use Rattle.url.specs.Input.{is_c0_control_or_space, is_tab_or_new_line, strip_tabs_and_new_lines, trim_c0_control_and_space, trim_end, trim_start};
 ghost use Rattle.document_links.specs.Written.{without_fragment};
 
-use memchr::{memchr, memchr3};
+use memchr::memchr;
 use std::alloc::{AllocError, Global};
 
 /// The text without spaces and control bytes at its ends.
@@ -36,7 +36,7 @@ pub(crate) fn trimmed_end(text: &[u8]) -> &[u8]
 }
 
 /// Whether a URL parser drops this byte at the ends of a text.
-fn is_trimmed(byte: u8) -> bool
+pub(crate) fn is_trimmed(byte: u8) -> bool
     ensures { result ≡ is_c0_control_or_space byte }
 {
     byte <= b' '
@@ -50,11 +50,10 @@ fn is_break(byte: u8) -> bool
 }
 
 /// Whether the text has tabs or line breaks, which a URL parser drops.
-#[tactic(auto, using(crate::proofs::Trimming::found_any))]
 pub(crate) fn has_breaks(text: &[u8]) -> bool
     ensures { result ≡ list_any is_tab_or_new_line text.now }
 {
-    memchr3(b'\t', b'\n', b'\r', text).is_some()
+    text.iter().any(|byte| is_break(*byte))
 }
 
 /// The text without tabs and line breaks.

@@ -3,9 +3,9 @@ ghost use Rattle.std.specs.Prelude.{◌≡◌, ◌++◌, [], true, IfOk, OnOk, I
 ghost use Rattle.std.specs.Str.Lossy.{utf8_lossy};
 ghost use Rattle.html_links.specs.Links.{base_of, links_of};
 ghost use Rattle.html_links.specs.Reads.{base_at};
-ghost use Rattle.document_links.specs.Encoding.{HasLinks, HasLinkTexts, HasTexts, IsTextIn, text_in};
+ghost use Rattle.document_links.specs.Encoding.{HasLinks, HasLinkTexts, HasTexts, IsTextIn, is_known, text_in};
 ghost use Rattle.document_links.specs.Places.{keeps_ascii};
-ghost use Rattle.document_links.specs.Written.{AreWritten, is_unicode};
+ghost use Rattle.document_links.specs.Written.{AreWritten};
 
 use crate::anchors::{AnchorTargets, anchors_of};
 use crate::charset::{Charset, charset_of, declared, from_utf16, from_windows};
@@ -18,7 +18,7 @@ use crate::root::add_root;
 use crate::text_kind::TextKind;
 use crate::unknown::{ascii_text, has_unknown, keep_known};
 use crawl_keys::CanonUrl;
-use html_links::{Base, Syntax, read_links, read_page, read_places};
+use html_links::{Base, Syntax, read_page, read_places};
 use std::alloc::{AllocError, Global};
 
 /// Which parts of a document are read, and how.
@@ -108,8 +108,8 @@ pub fn read_document(
     options: ReadOptions<'_>,
     room: &mut RawLinks,
 ) -> Result<Document, AllocError>
-    // For a document in a Unicode encoding without a `base`: one text for each link, in order. If there is a root, paths that begin
-    // with one slash are below it.
+    // For a document in a known encoding without a `base`: the texts of each link, in order. If there is a root, paths that begin with one
+    // slash are below it.
     ensures { IfOk result (λ document. HasLinkTexts options.entry body.now document.links) }
 {
     let charset = charset_of(body, options.kind());
@@ -128,6 +128,7 @@ fn document_in(
     options: ReadOptions<'_>,
     room: &mut RawLinks,
 ) -> Result<Document, AllocError>
+    requires { IsAscii body.now → keeps_ascii charset ≡ true }
     ensures { IfOk result (λ document. HasLinks options.entry charset body.now document.links) }
 {
     match utf8_text(alloc, body, charset)? {
@@ -212,7 +213,7 @@ pub(crate) fn written_links(
     options: ReadOptions<'_>,
     raw: &RawLinks,
 ) -> Result<LinkWriter, AllocError>
-    ensures { is_unicode charset ≡ true → base_at base ≡ None → IfOk result (λ writer. AreWritten [] raw.now.texts writer.links options.entry.byte_limit) }
+    ensures { base_at base ≡ None → IfOk result (λ writer. AreWritten charset [] raw.now.texts writer.links options.entry.byte_limit) }
 {
     let mut writer = LinkWriter::new(alloc, charset, base, url)?;
     writer.make_room(url, raw, options.places)?;
@@ -229,8 +230,8 @@ fn read_known(
     raw: &mut RawLinks,
     ids: &mut RawIds,
 ) -> Result<Base, AllocError>
-    ensures links { is_unicode charset ≡ true → OnOk result (raw.new.texts ≡ raw.old.texts ++ links_of options.entry.styles options.entry.syntax text.now) }
-    ensures base { is_unicode charset ≡ true → IfOk result (λ base. base_at base ≡ base_of options.entry.syntax text.now) }
+    ensures links { is_known charset ≡ true → OnOk result (raw.new.texts ≡ raw.old.texts ++ links_of options.entry.styles options.entry.syntax text.now) }
+    ensures base { is_known charset ≡ true → IfOk result (λ base. base_at base ≡ base_of options.entry.syntax text.now) }
 {
     let base = read_all(alloc, text, options, raw, ids)?;
     match charset {
@@ -255,10 +256,8 @@ fn read_all(
 {
     if options.anchors {
         read_page(alloc, options.syntax, text, options.styles, raw, ids)
-    } else if options.styles {
-        read_places(alloc, options.syntax, text, options.styles, None, raw)
     } else {
-        read_links(alloc, options.syntax, text, raw)
+        read_places(alloc, options.syntax, text, options.styles, None, raw)
     }
 }
 

@@ -1,6 +1,7 @@
 //! The links of a sitemap or a feed.
 ghost use Rattle.std.specs.Prelude.{◌≡◌, ◌++◌, IfOk, OnOk, option_map};
 ghost use Rattle.document_links.specs.Feeds.{feed_links_of, kind_after, kind_of, links_from, markup_links, part_links, part_of, text_links, text_of, value_links};
+ghost use Rattle.html_links.specs.Positions.{all_at};
 ghost use Rattle.document_links.specs.Markup.{value_of};
 
 use crate::bytes::split_byte;
@@ -220,7 +221,8 @@ fn content_of(alloc: Global, bytes: &[u8]) -> Result<Vec<u8>, AllocError>
 
 /// Appends a text at this position as a link, unless a URL parser drops all of it.
 pub(crate) fn push_text(position: usize, text: &[u8], raw: &mut RawLinks) -> Result<(), AllocError>
-    ensures { OnOk result (raw.new.texts ≡ raw.old.texts ++ text_links text.now) }
+    ensures texts { OnOk result (raw.new.texts ≡ raw.old.texts ++ text_links text.now) }
+    ensures positions { OnOk result (raw.new.positions.items ≡ raw.old.positions.items ++ all_at position (text_links text.now)) }
 {
     if trimmed(text).is_empty() {
         return Ok(());

@@ -1,7 +1,9 @@
 //! Reads files without a `base`: style sheets, feeds and lists of URLs.
-ghost use Rattle.std.specs.Prelude.{◌≡◌, ◌++◌, true, IfOk, OnOk};
+ghost use Rattle.std.specs.Prelude.{◌≡◌, ◌++◌, true, IfOk, IsAscii, OnOk};
 ghost use Rattle.html_links.specs.Links.{needed_texts};
+ghost use Rattle.document_links.specs.Places.{Positions};
 ghost use Rattle.document_links.specs.Encoding.{HasFeed, HasFile, HasFileLinks, HasFileTexts, HasSheet, HasUrlList, is_known, links_in};
+ghost use Rattle.document_links.specs.Places.{keeps_ascii};
 
 use crate::charset::{Charset, charset_of, named_in_sheet};
 use crate::document::{Document, ReadOptions, utf8_text, written_links};
@@ -137,6 +139,7 @@ fn links_in_charset(
     options: ReadOptions<'_>,
     room: &mut RawLinks,
 ) -> Result<Document, AllocError>
+    requires { IsAscii body.now → keeps_ascii reading.charset ≡ true }
     ensures { IfOk result (λ file. HasFileLinks reading.kind options.entry reading.charset body.now file.links) }
 {
     match utf8_text(alloc, body, reading.charset)? {
@@ -173,7 +176,8 @@ pub(crate) fn find_links(
     needed: Option<usize>,
     raw: &mut RawLinks,
 ) -> Result<(), AllocError>
-    ensures { is_known reading.charset ≡ true → OnOk result (needed_texts needed raw.new.texts ≡ needed_texts needed (raw.old.texts ++ links_in reading.kind text.now)) }
+    ensures texts { is_known reading.charset ≡ true → OnOk result (needed_texts needed raw.new.texts ≡ needed_texts needed (raw.old.texts ++ links_in reading.kind text.now)) }
+    ensures positions { is_known reading.charset ≡ true → OnOk result (Positions reading.kind needed text.now raw.old.positions.items raw.new.positions.items) }
 {
     match reading.charset {
         // All links are read, since the unknown ones do not count.
@@ -198,14 +202,15 @@ fn push_links(
     needed: Option<usize>,
     raw: &mut RawLinks,
 ) -> Result<Base, AllocError>
-    ensures { OnOk result (needed_texts needed raw.new.texts ≡ needed_texts needed (raw.old.texts ++ links_in kind text.now)) }
+    ensures texts { OnOk result (needed_texts needed raw.new.texts ≡ needed_texts needed (raw.old.texts ++ links_in kind text.now)) }
+    ensures positions { OnOk result (Positions kind needed text.now raw.old.positions.items raw.new.positions.items) }
 {
     match kind {
         TextKind::Document { syntax, styles } => {
             read_places(alloc, syntax, text, styles, needed, raw)
         }
         TextKind::StyleSheet => {
-            read_style(alloc, text, 0, raw)?;
+            read_style(alloc, text, text.len(), raw)?;
             Ok(None)
         }
         TextKind::Feed => {

@@ -21,7 +21,7 @@ pub fn fits(front: usize, text: &[u8]) -> bool
 }
 
 /// Whether the bytes are valid UTF-8, as a saved web requires.
-fn is_text(text: &[u8]) -> bool
+pub(crate) fn is_text(text: &[u8]) -> bool
     ensures { result ≡ is_utf8 text.now }
 {
     simdutf8::is_utf8(text)

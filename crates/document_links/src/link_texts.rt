@@ -76,6 +76,14 @@ impl LinkTexts {
         }
     }
 
+    /// The bytes of the text with this index. It is not tested for UTF-8 again, as `text` does.
+    pub fn bytes(&self, index: usize) -> &[u8]
+        requires { index < length self.now }
+        ensures { result.now ≡ slice_index_or self.now index [] }
+    {
+        self.texts.id(index)
+    }
+
     /// Appends the text of a link.
     ///
     /// # Errors

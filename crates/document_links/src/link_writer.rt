@@ -1,9 +1,10 @@
 //! The texts of a document's links, as a crawl reads them.
 ghost use Rattle.std.specs.Prelude.{◌≡◌, ◌∷◌, ◌++◌, ◌≤◌, [], true, IfOk, OnOk, None};
+ghost use Rattle.std.specs.Char.{is_ascii};
 ghost use Rattle.std.specs.List.{list_all};
 ghost use Rattle.html_links.specs.Reads.{base_at};
 ghost use Rattle.document_links.specs.Texts.{fits, is_plain};
-ghost use Rattle.document_links.specs.Written.{AreWritten, can_write, has_no_base, has_room, keeps_links, shortened, written};
+ghost use Rattle.document_links.specs.Written.{AreWritten, IsOneMore, clean, has_no_base, has_room, keeps_query, shortened, written};
 
 use crate::charset::Charset;
 use crate::cleaning::{cut, has_breaks, trimmed, without_breaks, without_fragment};
@@ -78,8 +79,9 @@ impl LinkWriter {
     }
 
     /// Appends these links, up to and with the one that makes the texts longer than `limit` bytes.
+    #[tactic(auto, using(crate::proofs::Pushing::none_written, crate::proofs::Pushing::all_written, crate::proofs::Pushing::past_limit))]
     pub(crate) fn push_all(&mut self, raw: &RawLinks, limit: usize) -> Result<(), AllocError>
-        ensures { keeps_links self.old.base self.old.charset ≡ true → OnOk result (AreWritten self.old.links raw.now.texts self.new.links limit) }
+        ensures { has_no_base self.old.base ≡ true → OnOk result (AreWritten self.old.charset self.old.links raw.now.texts self.new.links limit) }
     {
         for index in 0..raw.len() {
             if self.links.byte_count() > limit {
@@ -127,7 +129,8 @@ impl LinkWriter {
     fn push(&mut self, text: &[u8]) -> Result<(), AllocError>
         ensures base { self.new.base ≡ self.old.base }
         ensures charset { self.new.charset ≡ self.old.charset }
-        ensures written { keeps_links self.old.base self.old.charset ≡ true → can_write text.now ≡ true → OnOk result (self.new.links ≡ self.old.links ++ written text.now ∷ []) }
+        ensures one { OnOk result (IsOneMore self.old.links self.new.links) }
+        ensures written { has_no_base self.old.base ≡ true → has_room (clean text.now) ≡ true → keeps_query self.old.charset (clean text.now) ≡ true → OnOk result (self.new.links ≡ self.old.links ++ written text.now ∷ []) }
     {
         if self.keeps(text) {
             return self.push_plain(text);
@@ -144,9 +147,10 @@ impl LinkWriter {
     fn push_clean(&mut self, text: &[u8]) -> Result<(), AllocError>
         ensures base { self.new.base ≡ self.old.base }
         ensures charset { self.new.charset ≡ self.old.charset }
-        ensures written { keeps_links self.old.base self.old.charset ≡ true → has_room text.now ≡ true → OnOk result (self.new.links ≡ self.old.links ++ shortened text.now ∷ []) }
+        ensures one { OnOk result (IsOneMore self.old.links self.new.links) }
+        ensures written { has_no_base self.old.base ≡ true → has_room text.now ≡ true → keeps_query self.old.charset text.now ≡ true → OnOk result (self.new.links ≡ self.old.links ++ shortened text.now ∷ []) }
     {
-        if self.charset.is_unicode() || text.is_ascii() {
+        if keeps_query(self.charset, text) {
             return self.push_meant(text);
         }
         let mut link = Vec::new(self.alloc);
@@ -158,6 +162,7 @@ impl LinkWriter {
     fn push_meant(&mut self, text: &[u8]) -> Result<(), AllocError>
         ensures base { self.new.base ≡ self.old.base }
         ensures charset { self.new.charset ≡ self.old.charset }
+        ensures one { OnOk result (IsOneMore self.old.links self.new.links) }
         ensures written { has_no_base self.old.base ≡ true → has_room text.now ≡ true → OnOk result (self.new.links ≡ self.old.links ++ shortened text.now ∷ []) }
     {
         match meaning_of(self.alloc, &self.base, text)? {
@@ -171,6 +176,7 @@ impl LinkWriter {
     fn push_unplaced(&mut self, text: &[u8]) -> Result<(), AllocError>
         ensures base { self.new.base ≡ self.old.base }
         ensures charset { self.new.charset ≡ self.old.charset }
+        ensures one { OnOk result (IsOneMore self.old.links self.new.links) }
     {
         let positions = self.positions.take();
         let pushed = self.push_short(text);
@@ -182,6 +188,7 @@ impl LinkWriter {
     fn push_short(&mut self, text: &[u8]) -> Result<(), AllocError>
         ensures base { self.new.base ≡ self.old.base }
         ensures charset { self.new.charset ≡ self.old.charset }
+        ensures one { OnOk result (IsOneMore self.old.links self.new.links) }
         ensures written { has_room text.now ≡ true → OnOk result (self.new.links ≡ self.old.links ++ shortened text.now ∷ []) }
     {
         if fits(LINK_FRONT, text) {
@@ -195,9 +202,11 @@ impl LinkWriter {
     }
 
     /// Appends the start of a long link with another scheme, which a crawl skips.
+    #[tactic(auto, using(crate::proofs::Pushing::none_more))]
     fn push_cut(&mut self, text: &[u8]) -> Result<(), AllocError>
         ensures base { self.new.base ≡ self.old.base }
         ensures charset { self.new.charset ≡ self.old.charset }
+        ensures one { OnOk result (IsOneMore self.old.links self.new.links) }
     {
         let front = cut(text, TEXT_LIMIT);
         if !is_web(scheme_of(text)) && fits(LINK_FRONT, front) {
@@ -208,11 +217,13 @@ impl LinkWriter {
     }
 
     /// Does what `push_text` does, for a text without a colon.
+    #[tactic(auto, using(crate::proofs::Pushing::one_more))]
     fn push_plain(&mut self, text: &[u8]) -> Result<(), AllocError>
         requires { fits 5 text.now ≡ true }
         ensures base { self.new.base ≡ self.old.base }
         ensures charset { self.new.charset ≡ self.old.charset }
         ensures links { OnOk result (self.new.links ≡ self.old.links ++ text.now ∷ []) }
+        ensures one { OnOk result (IsOneMore self.old.links self.new.links) }
     {
         if let Some(positions) = &mut self.positions {
             positions.push_plain(text)?;
@@ -221,15 +232,31 @@ impl LinkWriter {
     }
 
     /// Appends a text that fits in a line, and keeps its index if the caller asks for indices.
+    #[tactic(auto, using(crate::proofs::Pushing::one_more))]
     fn push_text(&mut self, text: &[u8]) -> Result<(), AllocError>
         requires { fits 5 text.now ≡ true }
         ensures base { self.new.base ≡ self.old.base }
         ensures charset { self.new.charset ≡ self.old.charset }
         ensures links { OnOk result (self.new.links ≡ self.old.links ++ text.now ∷ []) }
+        ensures one { OnOk result (IsOneMore self.old.links self.new.links) }
     {
         if let Some(positions) = &mut self.positions {
             positions.push(text)?;
         }
         self.links.push(text)
     }
+}
+
+/// Whether the query of a link with this text is in UTF-8 on a page in this encoding.
+fn keeps_query(charset: Charset, text: &[u8]) -> bool
+    ensures { result ≡ keeps_query charset text.now }
+{
+    charset.is_unicode() || is_ascii(text)
+}
+
+/// Whether each byte of the text is ASCII.
+fn is_ascii(text: &[u8]) -> bool
+    ensures { result ≡ list_all is_ascii text.now }
+{
+    text.iter().all(|byte| byte.is_ascii())
 }

@@ -1,15 +1,13 @@
 //! The links and ids of a document, as `html_links` finds them.
-ghost use Rattle.std.specs.Prelude.{◌≡◌, ◌<◌, ◌∷◌, ◌++◌, [], OnOk, length, slice_index_or};
+ghost use Rattle.std.specs.Prelude.{◌≡◌, ◌<◌, ◌∷◌, ◌++◌, [], IfOk, OnOk, length, slice_index_or};
 
-use html_links::{CountedLinks, Links, PlacedLinks};
+use html_links::{CountedLinks, DocumentIds, Links};
 use page_anchors::Ids;
 use std::alloc::{AllocError, Global};
 
 /// The texts of a document's links, and the positions of their values in the document.
 #[derive(Drop)]
 pub struct RawLinks {
-    /// The position of the next link's value.
-    index: usize,
     pub(crate) texts: Ids,
     pub(crate) positions: Vec<usize>,
 }
@@ -17,18 +15,33 @@ pub struct RawLinks {
 impl RawLinks {
     /// Creates a list without links. The call allocates nothing.
     pub fn new(alloc: Global) -> RawLinks
-        ensures { result.texts ≡ [] }
+        ensures texts { result.texts ≡ [] }
+        ensures positions { result.positions.items ≡ [] }
     {
         RawLinks {
-            index: 0,
             texts: Ids::new(alloc),
             positions: Vec::new(alloc),
         }
     }
 
+    /// Creates a list without links, with room for `count` texts of `length` bytes together.
+    pub(crate) fn with_room(
+        alloc: Global,
+        count: usize,
+        length: usize,
+    ) -> Result<RawLinks, AllocError>
+        ensures { IfOk result (λ links. links.texts ≡ []) }
+    {
+        Ok(RawLinks {
+            texts: Ids::with_room(alloc, count, length)?,
+            positions: Vec::with_capacity(alloc, count)?,
+        })
+    }
+
     /// Removes the links. The memory is reused for the next ones.
     pub(crate) fn clear(&mut self) -> Result<(), AllocError>
-        ensures { OnOk result (self.new.texts ≡ []) }
+        ensures texts { OnOk result (self.new.texts ≡ []) }
+        ensures positions { OnOk result (self.new.positions.items ≡ []) }
     {
         self.positions.clear();
         self.texts = Ids::with_room(self.allocator(), self.texts.len(), self.texts.byte_count())?;
@@ -69,7 +82,8 @@ impl RawLinks {
 
     /// Appends a link whose value is at this position.
     pub(crate) fn push_at(&mut self, position: usize, text: &[u8]) -> Result<(), AllocError>
-        ensures { OnOk result (self.new.texts ≡ self.old.texts ++ text.now ∷ []) }
+        ensures texts { OnOk result (self.new.texts ≡ self.old.texts ++ text.now ∷ []) }
+        ensures positions { OnOk result (self.new.positions.items ≡ self.old.positions.items ++ position ∷ []) }
     {
         self.positions.push(position)?;
         self.texts.push(text)
@@ -79,20 +93,16 @@ impl RawLinks {
 impl Links for RawLinks {
     ghost texts = { λ found. found.texts };
 
-    fn push(&mut self, text: &[u8]) -> Result<(), AllocError> {
-        self.push_at(self.index, text)
-    }
-}
+    ghost positions = { λ found. found.positions.items };
 
-impl PlacedLinks for RawLinks {
-    fn begin_at(&mut self, index: usize) {
-        self.index = index;
+    fn push(&mut self, position: usize, text: &[u8]) -> Result<(), AllocError> {
+        self.push_at(position, text)
     }
 }
 
 impl CountedLinks for RawLinks {
     fn count(&self) -> usize {
-        self.len()
+        self.positions.len().min(self.texts.len())
     }
 }
 
@@ -116,7 +126,7 @@ impl RawIds {
     }
 }
 
-impl Links for RawIds {
+impl DocumentIds for RawIds {
     ghost texts = { λ found. found.ids };
 
     fn push(&mut self, text: &[u8]) -> Result<(), AllocError> {

@@ -1,11 +1,12 @@
 //! Links in a folder whose URL is not known: a path that begins with one slash is a path below the top.
 ghost use Rattle.std.specs.Prelude.{◌≡◌, ◌<◌, ◌≤◌, ◌∷◌, ◌++◌, ℕ, List, [], drop, false, length, map, option_map, take, unwrap_or, IfOk, OnOk, None};
 ghost use Rattle.std.specs.List.{prefix_len};
+ghost use Rattle.url.specs.Input.{trim_c0_control_and_space};
 ghost use Rattle.url.specs.Path as spec;
 ghost use Rattle.html_links.specs.Reads.{base_at};
-ghost use Rattle.document_links.specs.Rooted.{all_rooted, begins_path, below_root, climbs, depth_after, in_segment, is_slash, kept, path_below, path_of, rooted};
+ghost use Rattle.document_links.specs.Rooted.{all_rooted, begins_path, begins_visibly, below_root, climbs, depth_after, in_segment, is_slash, kept, path_below, path_of, rooted};
 
-use crate::cleaning::{has_breaks, trimmed, without_breaks};
+use crate::cleaning::{has_breaks, is_trimmed, trimmed, without_breaks};
 use crate::page_base::base_target;
 use crate::raw_links::RawLinks;
 use crawl_keys::CanonUrl;
@@ -86,18 +87,40 @@ fn has_path(raw: &RawLinks) -> bool
     ensures { result ≡ false → (root : List ℕ) → map (rooted root) raw.now.texts ≡ raw.now.texts }
 {
     for index in 0..raw.len() {
-        if begins_path(trimmed(raw.text(index))) {
+        if is_path(raw.text(index)) {
             return true;
         }
     }
     false
 }
 
+/// Whether a link begins with a slash, without the spaces around it.
+#[tactic(auto, using(crate::proofs::Trimming::visible_path))]
+fn is_path(text: &[u8]) -> bool
+    ensures { result ≡ begins_path (trim_c0_control_and_space text.now) }
+{
+    // Most links do.
+    if begins_visibly(text) {
+        return begins_path(text);
+    }
+    begins_path(trimmed(text))
+}
+
+/// Whether a text begins with a byte that a URL parser keeps.
+fn begins_visibly(text: &[u8]) -> bool
+    ensures { result ≡ begins_visibly text.now }
+{
+    match text {
+        [first, ..] => !is_trimmed(*first),
+        [] => false,
+    }
+}
+
 /// The links, moved.
 fn rooted_links(root: &str, raw: &RawLinks) -> Result<RawLinks, AllocError>
     ensures { IfOk result (λ moved. moved.texts ≡ map (rooted root.now) raw.now.texts) }
 {
-    let mut moved = RawLinks::new(raw.allocator());
+    let mut moved = RawLinks::with_room(raw.allocator(), raw.len(), raw.byte_count())?;
     for index in 0..raw.len() {
         push_rooted(root, raw.text(index), raw.position(index), &mut moved)?;
     }
@@ -124,10 +147,10 @@ fn push_rooted(
 fn rooted_text(alloc: Global, root: &str, text: &[u8]) -> Result<Option<Vec<u8>>, AllocError>
     ensures { IfOk result (λ moved. unwrap_or (option_map (λ new. new.items) moved) text.now ≡ rooted root.now text.now) }
 {
-    let visible = trimmed(text);
-    if !begins_path(visible) {
+    if !is_path(text) {
         return Ok(None);
     }
+    let visible = trimmed(text);
     if !has_breaks(visible) {
         return below_root(alloc, root, visible);
     }

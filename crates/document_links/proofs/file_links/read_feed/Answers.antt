@@ -1,0 +1,8 @@
+use Rattle.document_links.proofs.Encoded.{file_in}
+use Rattle.document_links.specs.declared.text_kind.TextKind.TheVariants.{Feed}
+use Rattle.document_links.proofs.file_links.read_feed.Goals as goal
+
+pub returns : goal.returns
+returns c =
+    let found = c.charset_of-charset in
+    file_in Feed c.args.options found.result c.args.body.now c.links_in_charset.result found.ensures.marked found.ensures.unnamed found.ensures.known found.ensures.valid c.links_in_charset.ensures
