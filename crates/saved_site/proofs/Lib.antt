@@ -1,5 +1,4 @@
 pub mod Prelude
-pub mod FileLinks
 pub mod Found
 pub mod LedPages
 pub mod Lines

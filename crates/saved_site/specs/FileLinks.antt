@@ -1,10 +1,10 @@
 -- The links of a file, by its kind.
-use Rattle.std.specs.Prelude.{◌≡◌, ◌⊎◌, ◌^◌, ℕ, List, [], ◌++◌, Option, IfSome, string_bytes}
-use Rattle.std.specs.Borrow.{Bor}
+use Rattle.std.specs.Prelude.{◌≡◌, ◌⊎◌, ◌^◌, ℕ, List, [], Option, None, option_map, string_bytes, if◌then◌else◌}
 use Rattle.html_links.specs.declared.context.Syntax.{Syntax}
 use Rattle.html_links.specs.declared.context.Syntax.TheVariants as syntax
 use Rattle.document_links.specs.Encoding.{HasFeed, HasLinkTexts, HasSheet, HasUrlList}
 use Rattle.document_links.specs.declared.document.ReadOptions.{ReadOptions}
+use Rattle.site_files.specs.Server.{after_front}
 use Rattle.site_files.specs.declared.files.SiteFiles.{SiteFiles}
 use Rattle.site_files.specs.declared.kinds.FileKind.{FileKind}
 use Rattle.site_files.specs.declared.kinds.FileKind.TheVariants.{Html, Xml, Svg, Style, Feed, UrlList, Unknown}
@@ -22,9 +22,9 @@ syntax_of Feed = syntax.Html
 syntax_of UrlList = syntax.Html
 syntax_of Unknown = syntax.Html
 
--- the path below which absolute paths are, if there is one, is that of the top
-abbrev pub IsRoot : SiteFiles → Option (Bor (List ℕ)) → Type 0
-IsRoot files root = IfSome root (λ path. string_bytes files.site.top ≡ string_bytes files.site.origin ++ path.now)
+-- the path of the top, if absolute paths are below it
+abbrev pub root_of : SiteFiles → Option (List ℕ)
+root_of files = if files.rules.now.rooted then after_front (string_bytes files.site.origin) (string_bytes files.site.top) else None
 
 -- what is read of a file of this kind: not more links than the largest saved web has
 pub record AreOptions (files : SiteFiles) (kind : FileKind) (options : ReadOptions) : Type 0 where
@@ -32,7 +32,7 @@ pub record AreOptions (files : SiteFiles) (kind : FileKind) (options : ReadOptio
   pub styles : options.styles ≡ files.rules.now.styles
   pub anchors : options.anchors ≡ files.rules.now.anchors
   pub places : options.places ≡ files.rules.now.places
-  pub root : IsRoot files options.root
+  pub root : option_map (λ path. path.now) options.root ≡ root_of files
   pub limit : options.byte_limit ≡ 2 ^ 30
 
 -- a file of this kind with these contents has these link texts

@@ -1,6 +1,6 @@
 //! What is read of a file that can have links.
-ghost use Rattle.std.specs.Prelude.{◌≡◌, IfOk};
-ghost use Rattle.saved_site.specs.FileLinks.{AreOptions, IsFileDocument, IsRoot, syntax_of};
+ghost use Rattle.std.specs.Prelude.{◌≡◌, IfOk, option_map};
+ghost use Rattle.saved_site.specs.FileLinks.{AreOptions, IsFileDocument, root_of, syntax_of};
 
 use crate::web_text::WEB_LIMIT;
 use crawl_keys::CanonUrl;
@@ -63,7 +63,7 @@ fn syntax_of(kind: FileKind) -> Syntax
 
 /// The path of the top, if absolute paths are below it.
 pub fn root_of<'a>(files: &'a SiteFiles<'_>) -> Option<&'a str>
-    ensures { IsRoot files.now result }
+    ensures { option_map (λ path. path.now) result ≡ root_of files.now }
 {
     if files.rules().rooted {
         files.top().strip_prefix(files.origin())

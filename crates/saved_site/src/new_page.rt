@@ -226,7 +226,7 @@ fn target_spellings(
     text: &str,
 ) -> Result<Vec<Task>, AllocError> {
     let mut all = Vec::new(alloc);
-    if files.can_spell(text)
+    if files.can_spell(text.as_bytes())
         && let Some(spelling) = text_spelling(alloc, files, url, text)?
     {
         all.push(spelling)?;

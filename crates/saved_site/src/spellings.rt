@@ -22,9 +22,11 @@ pub(crate) fn link_spellings(
     let base = Base::new(alloc, url)?;
     let mut last = LastText { text: "" };
     for index in first..links.len() {
+        if !files.can_spell(links.bytes(index)) {
+            continue;
+        }
         let text = links.text(index);
-        if files.can_spell(text)
-            && !last.is_again(text)
+        if !last.is_again(text)
             && let Some(spelling) = spelling_at(alloc, files, &base, text)?
         {
             all.push(spelling)?;
@@ -36,7 +38,7 @@ pub(crate) fn link_spellings(
 /// The index of the first text that can be another spelling, or the number of texts.
 fn first_spelling(files: &SiteFiles<'_>, links: &LinkTexts) -> usize {
     for index in 0..links.len() {
-        if files.can_spell(links.text(index)) {
+        if files.can_spell(links.bytes(index)) {
             return index;
         }
     }

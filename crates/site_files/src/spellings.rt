@@ -15,18 +15,16 @@ use crate::files::SiteFiles;
 use crate::pages::ends_in_slash;
 use crate::rules::split_name;
 use crawl_keys::CanonUrl;
-use memchr::{memchr_iter, memchr3};
 use std::alloc::{AllocError, Global};
 
 impl SiteFiles<'_> {
     /// Whether the URL of a link with this text can be another spelling. If no symbolic link leads to a folder and there is no fallback,
-    /// the text must have an escape, a query, or consecutive slashes in its path. A backslash is a slash in a URL.
-    pub fn can_spell(&self, text: &str) -> bool {
+    /// the text must have an escape, a query, or consecutive slashes before its fragment. A backslash is a slash in a URL.
+    pub fn can_spell(&self, text: &[u8]) -> bool {
         if self.rules.html_fallback || !self.linked.is_empty() {
             return true;
         }
-        let bytes = text.as_bytes();
-        !self.rules.exact && (memchr3(b'?', b'%', b'\\', bytes).is_some() || has_empty_name(bytes))
+        !self.rules.exact && has_mark(text)
     }
 
     /// The number of the page that a server returns for a URL, if it returns one.
@@ -136,15 +134,23 @@ impl SiteFiles<'_> {
     }
 }
 
-/// Whether a text has two slashes in a row, in addition to those of a host: its first slashes, at its beginning or after a colon.
-fn has_empty_name(text: &[u8]) -> bool {
+/// Whether a text has, before its fragment, an escape, a query, a backslash, or two slashes in a row in addition to those of a host: its
+/// first slashes, at its beginning or after a colon.
+fn has_mark(text: &[u8]) -> bool {
     let mut is_first = true;
-    for at in memchr_iter(b'/', text) {
-        let is_host = is_first && matches!(text.get(at.wrapping_sub(1)), None | Some(b':'));
-        if !is_host && text.get(at.wrapping_add(1)) == Some(&b'/') {
-            return true;
+    for (at, byte) in text.iter().enumerate() {
+        match *byte {
+            b'#' => return false,
+            b'?' | b'%' | b'\\' => return true,
+            b'/' => {
+                let is_host = is_first && matches!(text.get(at.wrapping_sub(1)), None | Some(b':'));
+                if !is_host && text.get(at.wrapping_add(1)) == Some(&b'/') {
+                    return true;
+                }
+                is_first = false;
+            }
+            _ => {}
         }
-        is_first = false;
     }
     false
 }

@@ -131,6 +131,10 @@ impl LinkTable {
         ensures keep { KeepIndices self.old.urls self.new.urls }
         ensures known { OnOk result (IsTableOf base.now self.new) }
     {
+        // It leads to the page itself, so it is not known of a folder.
+        if begins_fragment(text) {
+            return url_index(&mut self.urls, alloc, base, text);
+        }
         let key = LinkText::new(before_fragment(text));
         match self.known.find(&key) {
             Some(index) => Ok(index),
@@ -156,6 +160,11 @@ impl LinkTable {
         }
         Ok(index)
     }
+}
+
+/// Whether the text of a link is only a fragment.
+fn begins_fragment(text: &str) -> bool {
+    matches!(text.as_bytes(), [b'#', ..])
 }
 
 /// Whether what is known of the last page stays known on the next one.
