@@ -1,5 +1,5 @@
 -- Each link that is looked for has its location among those that are found.
-use Rattle.site_check.proofs.Prelude.{Global, IfOk, PageResult, SiteFiles, Vec, flat_map, ◌≡◌, ◌∙◌, ℕ, zero, suc, ◌+◌, ◌<◌, ◌≤◌, Bool, true, false, ◌&&◌, List, [], ◌∷◌, ◌++◌, length, map, map_more, get_or, take, Option, Some, None, option_map, refl, sym, ap, subst, arith, append_assoc, slice_get, slice_get-map}
+use Rattle.site_check.proofs.Prelude.{Global, IfOk, PageResult, SiteFiles, Vec, flat_map, ◌≡◌, ◌∙◌, ℕ, zero, suc, ◌+◌, ◌<◌, ◌≤◌, Bool, true, false, ◌&&◌, List, [], ◌∷◌, ◌++◌, length, map, map_more, get_or, take, Option, Some, None, refl, sym, ap, subst, arith, append_assoc, slice_get}
 use Rattle.std.proofs.Common.{◌==◌, append-nil, eq-eqb}
 use Rattle.std.proofs.lemmas.Bool.{lt-ltb}
 use Rattle.std.proofs.lemmas.List.{get_or-map, length-map, map-append, take_all}
@@ -7,23 +7,17 @@ use Rattle.std.proofs.lemmas.List.Elements.{All-append, All-contains, All-contai
 use Rattle.std.proofs.lemmas.List.Sorted.{Contains-permutation, IsPermutation-map}
 use Rattle.std.specs.List.{All, Contains}
 use Rattle.std.specs.List.Sorted.{IsPermutation}
-use Rattle.std.specs.Prelude.{◌%◌, Err, IsOk, Ok, Result, nat_lt, option_and_then}
+use Rattle.std.specs.Prelude.{◌%◌, Err, IsOk, Ok, Result, nat_lt}
 use Rattle.document_links.specs.Places.{point_at, point_of_place}
 use Rattle.document_links.specs.declared.places.TextPlace.{TextPlace}
 use Rattle.site_files.specs.Bodies.{contents}
-use Rattle.site_files.specs.Entries.{IsEntryAt, entry_at, file_in, response_of}
-use Rattle.site_files.specs.Files.{Document, document_at, page_of, pages_of}
-use Rattle.site_files.specs.Files as sites
-use Rattle.site_files.specs.Pages.{Missing, found_file}
+use Rattle.site_files.specs.Files.{Document}
 use Rattle.site_files.specs.declared.files.SiteFile.{SiteFile}
 use Rattle.site_files.specs.declared.notes.Left.{Left}
-use Rattle.site_files.specs.declared.page_table.Entry.{Entry}
-use Rattle.site_files.specs.declared.page_table.Source.{Source}
-use Rattle.site_files.specs.declared.page_table.Source.TheVariants as origin
 use Rattle.site_check.proofs.Placed.{contains_slice_get, one_place, some_same}
 use Rattle.site_check.specs.Complete.{HasPlace, HasTaken, IsPlaced, is_taken}
 use Rattle.site_check.specs.Located.{IsFileOf, IsFirstPage, Pushes, PushesPlaces, TargetLocation, document_of, index_of, items_of, link_place, link_places, placed_at, places_from}
-use Rattle.site_check.specs.Locations.{IsFileAt, IsLinkAt, text_kind}
+use Rattle.site_check.specs.Locations.{IsLinkAt, text_kind}
 use Rattle.site_check.specs.declared.check_error.CheckError.{CheckError}
 use Rattle.site_check.specs.declared.check_error.CheckError.TheVariants as wrong
 use Rattle.site_check.specs.declared.located.ListedLead.{ListedLead}
@@ -76,7 +70,7 @@ module _ (files : SiteFiles) (results : List PageResult) (reads : ℕ → Option
   placed_on old new one page more is = record { name = is.name; place = is.place; is_link = is.is_link; is_in = more (link_place is.name one is.place) is.is_in }
 
   pub has_on : (old new : List TargetLocation) (one : ListedLead) → ((x : TargetLocation) → Contains old x → Contains new x) → HasPlace files results reads old one → HasPlace files results reads new one
-  has_on old new one more has = record { placed = λ page file at is. placed_on old new one page more (has.placed page file at is) }
+  has_on old new one more has = record { placed = λ page at. placed_on old new one page more (has.placed page at) }
 
   -- ---- the links of a page
 
@@ -92,7 +86,7 @@ module _ (files : SiteFiles) (results : List PageResult) (reads : ℕ → Option
       let found = there pushed.places k (omega (arith, below, counted)) in
       let none_before : 0 + k ≡ k = omega arith in
       record {
-        placed = λ page other at_page is_file.
+        placed = λ page at_page.
             let page_is : page ≡ of.page = some_same page of.page (sym at_page ∙ ap (slice_get results) is_source ∙ of.is_page) in
             record {
               name = file.name;
@@ -119,16 +113,6 @@ module _ (files : SiteFiles) (results : List PageResult) (reads : ℕ → Option
       All (HasPlace files results reads new) own
   file_whole source file left room body own old new of same read none same_body pushed =
       page_whole source (document_of file) body own old new of same (subst (reads file.index) (ap (λ l. contents l room) none ∙ ap (λ b. Some b) (sym same_body)) read) pushed
-
-  -- a page without a file has no locations
-  pub no_file : (all : List TargetLocation) (source : ℕ) (own : List ListedLead) (found : Option SiteFile) → All (λ one. one.lead.source ≡ source) own → found ≡ None →
-      ((page : PageResult) (file : Document) → slice_get results source ≡ Some page → IsFileAt files page.url file → option_map document_of found ≡ Some file) → All (HasPlace files results reads all) own
-  no_file all source own found same none known =
-      All-weaker (λ (one : ListedLead). one.lead.source ≡ source) (HasPlace files results reads all)
-      (λ one is.
-      record {
-        placed = λ page file at_page is_file. absurd (nothing file (ap (option_map document_of) (sym none) ∙ known page file (ap (slice_get results) (sym is) ∙ at_page) is_file));
-      }) own same
 
   -- ---- the pages that one thread takes
 
@@ -223,33 +207,6 @@ all_placed files results reads leads count chunks places sorted some counted ok 
     Contains-permutation (map placed_at places) (map placed_at sorted) x (IsPermutation-map placed_at places sorted permuted)
     (subst (λ (l : List TargetPlace). Contains (map placed_at l) x) (sym all) (in_flat placed_at chunks (source % count) other x within has))))
     leads (All-contains_itself leads)
-
--- ---- the file of a page
-
-in_response : (s : Source) → file_in s ≡ found_file (response_of s)
-in_response (origin.File index) = refl
-in_response (origin.Index index) = refl
-in_response (origin.Moved url) = refl
-
-never_missing : (s : Source) → Missing ≡ response_of s → ⊥
-never_missing (origin.File index) is = cc
-never_missing (origin.Index index) is = cc
-never_missing (origin.Moved url) is = cc
-
-file_there : (files : SiteFiles) (number : ℕ) (entry : Entry) → slice_get files.pages number ≡ Some entry → document_at files number ≡ option_and_then (sites.document_of files) (file_in entry.source)
-file_there files number entry there_is =
-    ap (option_and_then (λ (page : sites.PageFile). option_and_then (sites.document_of files) page.file)) (slice_get-map page_of files.pages number ∙ ap (option_map page_of) there_is)
-
--- two numbers of one URL have one file
-pub one_file : (files : SiteFiles) (url : List ℕ) (number : ℕ) (file : Document) → IsEntryAt files.pages url number → IsFileAt files url file → document_at files number ≡ Some file
-one_file files url number file found is =
-    let a = found.entry in
-    let b = is.is_page.entry in
-    let same : file_in a.source ≡ file_in b.source = in_response a.source ∙ ap found_file (sym found.first ∙ is.is_page.first) ∙ sym (in_response b.source) in
-    file_there files number a found.there ∙ ap (option_and_then (sites.document_of files)) same ∙ sym (file_there files is.number b is.is_page.there) ∙ is.is_file
-
-pub no_entry : (files : SiteFiles) (url : List ℕ) (file : Document) → entry_at files.pages url ≡ Missing → IsFileAt files url file → ⊥
-no_entry files url file none is = never_missing is.is_page.entry.source (sym none ∙ is.is_page.first)
 
 -- ---- the test of the rows
 

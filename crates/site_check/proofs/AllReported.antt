@@ -1,21 +1,22 @@
 -- The rows of a check are those of all results.
-use Rattle.site_check.proofs.Prelude.{◌≡◌, ◌∙◌, ℕ, Bool, List, ap, filter, flat_map, map, subst, AreTexts, PageResult, SiteFiles, anchor_text, is_unfound, linked, linked_at, outside_at, outside_linked, outside_texts, result_at, rows_with, shown_at, text_at, text_of, texts_if}
+use Rattle.site_check.proofs.Prelude.{◌≡◌, ◌∙◌, ℕ, Bool, List, ap, filter, flat_map, map, subst, AreTexts, PageResult, SiteFiles, anchor_text, is_unfound, linked, linked_at, outside_at, outside_linked, result_at, rows_with, shown_at, text_at, text_of, texts_if}
 use Rattle.check_report.specs.declared.value.Broken.{Broken}
 use Rattle.document_links.specs.declared.positions.LinkPlaces.{LinkPlaces}
 use Rattle.site_check.proofs.AllRows.{hints_of_all, leaving_of_all, outside_texts_of_all, rows_of_all, texts_of_all}
 use Rattle.site_check.proofs.TextsOnce.{are_unused}
 use Rattle.site_check.specs.Reported.{AreReported, AreRows}
 use Rattle.site_check.specs.declared.input.MapName.{MapName}
+use Rattle.site_check.specs.declared.input.Scope.{Scope}
 use Rattle.site_check.specs.declared.invalid.InvalidText.{InvalidText}
 use Rattle.site_check.specs.declared.outside.Outside.{Outside}
 use Rattle.site_check.specs.declared.linked.Linked as code
 use Rattle.site_check.specs.declared.missing_anchors.MissingAnchor.{MissingAnchor}
 
-are_all : (front : List ℕ) (entries links : List (List ℕ)) (rooted : Bool) (maps : List MapName) (files : SiteFiles) (results found : List PageResult) (all : List code.Linked) (anchors : List MissingAnchor) (invalid : List InvalidText)
-    (outside : List Outside) (rows : List Broken) (unused_ones : List (List ℕ)) → map linked_at all ≡ map (linked results) (filter is_unfound results) → AreTexts links (map text_of invalid) →
+are_all : (front : List ℕ) (entries : List (List ℕ)) (scope : Scope) (places : List LinkPlaces) (rooted : Bool) (maps : List MapName) (files : SiteFiles) (results found : List PageResult) (all : List code.Linked) (anchors : List MissingAnchor)
+    (invalid : List InvalidText) (outside : List Outside) (rows : List Broken) (unused_ones : List (List ℕ)) → map linked_at all ≡ map (linked results) (filter is_unfound results) → AreTexts (texts_if scope.invalid places results) (map text_of invalid) →
     map outside_at outside ≡ outside_linked rooted maps files results found → AreRows front entries files all anchors invalid outside rows unused_ones →
-    AreReported front entries links rooted maps files results found rows unused_ones
-are_all front entries links rooted maps files results found all anchors invalid outside rows unused_ones is texts outs own =
+    AreReported front entries scope places rooted maps files results found rows unused_ones
+are_all front entries scope places rooted maps files results found all anchors invalid outside rows unused_ones is texts outs own =
     record {
       whole = own.whole;
       all = record {
@@ -25,20 +26,20 @@ are_all front entries links rooted maps files results found all anchors invalid 
         invalid = record { texts = map text_of invalid; each = texts; exact = own.texts_are };
         leaving = own.leaving ∙ leaving_of_all entries rooted maps files results found outside outs;
         ignores =
-            are_unused front entries results (map anchor_text anchors) (map text_of invalid) links (outside_texts rooted files found) (map shown_at outside) (flat_map (text_at front) (map result_at all)) unused_ones
+            are_unused front entries results (map anchor_text anchors) (map text_of invalid) _ _ (map shown_at outside) (flat_map (text_at front) (map result_at all)) unused_ones
             own.whole own.anchors_are own.ignores (texts_of_all front results all is) texts (outside_texts_of_all rooted maps files results found outside outs);
       };
       left = own.left;
     }
 
 -- of the results and the files that a check has
-pub are_reported : (front : List ℕ) (entries : List (List ℕ)) (listed rooted : Bool) (maps : List MapName) (places : List LinkPlaces) (files own_files : SiteFiles) (results own_results found : List PageResult) (all : List code.Linked)
+pub are_reported : (front : List ℕ) (entries : List (List ℕ)) (scope : Scope) (rooted : Bool) (maps : List MapName) (places : List LinkPlaces) (files own_files : SiteFiles) (results own_results found : List PageResult) (all : List code.Linked)
     (anchors : List MissingAnchor) (invalid : List InvalidText) (outside : List Outside) (rows : List Broken) (unused_ones : List (List ℕ)) → own_files ≡ files → own_results ≡ results →
-    map linked_at all ≡ map (linked results) (filter is_unfound results) → AreTexts (texts_if listed places own_results) (map text_of invalid) →
+    map linked_at all ≡ map (linked results) (filter is_unfound results) → AreTexts (texts_if scope.invalid places own_results) (map text_of invalid) →
     map outside_at outside ≡ outside_linked rooted maps own_files own_results found → AreRows front entries own_files all anchors invalid outside rows unused_ones →
-    AreReported front entries (texts_if listed places results) rooted maps files results found rows unused_ones
-are_reported front entries listed rooted maps places files own_files results own_results found all anchors invalid outside rows unused_ones same_files same_results is texts outs own =
-    are_all front entries (texts_if listed places results) rooted maps files results found all anchors invalid outside rows unused_ones is
-    (subst (λ rs. AreTexts (texts_if listed places rs) (map text_of invalid)) same_results texts)
+    AreReported front entries scope places rooted maps files results found rows unused_ones
+are_reported front entries scope rooted maps places files own_files results own_results found all anchors invalid outside rows unused_ones same_files same_results is texts outs own =
+    are_all front entries scope places rooted maps files results found all anchors invalid outside rows unused_ones is
+    (subst (λ rs. AreTexts (texts_if scope.invalid places rs) (map text_of invalid)) same_results texts)
     (outs ∙ (λ i. outside_linked rooted maps (same_files i) (same_results i) found))
     (subst (λ f. AreRows front entries f all anchors invalid outside rows unused_ones) same_files own)

@@ -10,10 +10,12 @@ use Rattle.check_report.specs.declared.value.Broken.{Broken}
 use Rattle.crawl_pages.specs.Pages.{is_found, is_missing}
 use Rattle.crawl_pages.specs.declared.page.Page.TheVariants.{Found, Moved, Missing}
 use Rattle.document_links.specs.declared.positions.LinkPlaces.{LinkPlaces}
+use Rattle.site_files.specs.declared.alias.Alias.{Alias}
 use Rattle.site_check.proofs.AllPlaced.{contains_map, nothing, there}
 use Rattle.site_check.proofs.LeadTargets.{Has, contains_had, has_at, has_contained, has_filtered, number_of_target, unfound_of}
+use Rattle.site_check.proofs.PageIndices.{rising_order}
 use Rattle.site_check.proofs.Placed.{contains_slice_get, some_same}
-use Rattle.site_check.specs.Complete.{AreOnce, HasAllLinks, HasPlace, IsBrokenLink, IsKept, IsKeptPlace, IsLinkKept}
+use Rattle.site_check.specs.Complete.{AreOnce, HasAllLinks, HasIndices, HasPlace, IsBrokenLink, IsKept, IsKeptPlace, IsLinkKept}
 use Rattle.site_check.specs.Leads.{is_reported}
 use Rattle.site_check.specs.Located.{AddsListed, TargetLocation, link_place, listed, page_text, placed_at}
 use Rattle.site_check.specs.Locations.{EndsAt, location_in}
@@ -232,23 +234,28 @@ module _ (front : List ℕ) (entries : List (List ℕ)) (results rs : List PageR
       let same : of.one ≡ one = one_end url of.one one is_of is_one (missing_of front entries of.one of.reported) (missing_of front entries one reported) ends_of ends in
       record { number = some.number; found = some.is; at = of.there ∙ ap (λ (x : PageResult). Some x) same }
 
-module _ (front : List ℕ) (entries : List (List ℕ)) (places : List LinkPlaces) (files : SiteFiles) (results : List PageResult) (reads : ℕ → Option (List ℕ) → Type 0) (all : List code.Linked) (leads : List ListedLead) (placed : List TargetLocation) (rows : List Broken)
+module _ (front : List ℕ) (entries : List (List ℕ)) (aliases : List Alias) (places : List LinkPlaces) (files : SiteFiles) (results : List PageResult) (reads : ℕ → Option (List ℕ) → Type 0) (all : List code.Linked) (leads : List ListedLead) (placed : List TargetLocation) (rows : List Broken)
     (unfound : map result_at all ≡ filter is_unfound results)
+    (indexed : All (HasIndices files.rules.now.places (number_in (targets_of front entries (map result_at all))) (indices_in places) aliases) results)
     (led : All (Contains leads) (map (listed 0) (leads_from (number_in (targets_of front entries (map result_at all))) (indices_in places) 0 results)))
     (has : All (HasPlace files results reads placed) leads)
     (kept : All (IsKeptPlace front entries all rows) placed)
     (once : AreOnce results) where
-  link_kept : (page : PageResult) (index : ℕ) (one : PageResult) → IsBrokenLink front entries places files results page index one → IsLinkKept entries files reads rows page index (shown front one.url)
-  link_kept page index one broken =
+  link_kept : (page : PageResult) (at : ℕ) (one : PageResult) → IsBrokenLink front entries aliases files results page at one → IsLinkKept entries places files reads rows page at (shown front one.url)
+  link_kept page at one broken =
       let rs = map result_at all in
       let f = number_in (targets_of front entries rs) in
       let k = broken.is_page.0 in
       let at_page : slice_get results k ≡ Some page = contains_slice_get results k page broken.is_page.1 broken.is_page.2 in
       let its = its_number front entries results rs unfound once broken.url one broken.reported broken.is_one broken.ends in
       let link = broken.link in
+      let within : at < length (indices_in places page.url) =
+      ((All-contains (HasIndices files.rules.now.places f (indices_in places) aliases) results page indexed broken.is_page).each broken.positions broken.is_own at broken.url link its.number its.found).0 in
+      let known = there (indices_in places page.url) at within in
+      let index : ℕ = known.x in
       let lead : Lead = record { source = k; index = index; number = its.number } in
       let here : Contains (leads_of f (indices_in places) k page.url (Found link.links link.skipped)) lead =
-      lead_in f k link.links (indices_in places page.url) link.at broken.url index its.number link.is_link link.is_index its.found in
+      lead_in f k link.links (indices_in places page.url) at broken.url index its.number link.is_link known.at its.found in
       let none_before : k ≡ 0 + k = omega arith in
       let own : Contains (leads_of f (indices_in places) (0 + k) page.url page.page) lead =
       subst (λ (j : ℕ). Contains (leads_of f (indices_in places) j page.url page.page) lead) none_before (subst (λ (p : Page). Contains (leads_of f (indices_in places) k page.url p) lead) (sym link.found) here) in
@@ -256,33 +263,52 @@ module _ (front : List ℕ) (entries : List (List ℕ)) (places : List LinkPlace
       let in_pages : Contains pages lead = result_in f (indices_in places) 0 results k page lead at_page own in
       let one_lead : ListedLead = listed 0 lead in
       let in_leads : Contains leads one_lead = All-contains (Contains leads) (map (listed 0) pages) one_lead led (contains_map (listed 0) pages lead in_pages) in
-      let place = (All-contains (HasPlace files results reads placed) leads one_lead has in_leads).placed page broken.file at_page broken.has_file in
+      let place = (All-contains (HasPlace files results reads placed) leads one_lead has in_leads).placed page at_page in
       let target = image result_at all its.number one its.at in
       let of_pages : ◌≡◌ {A = ℕ} 0 0 = refl in
       let row : IsKept entries rows (page_text front target.x) (location_in place.name place.place) =
       (All-contains (IsKeptPlace front entries all rows) placed (link_place place.name one_lead place.place) kept place.is_in).kept of_pages target.x target.at in
       record {
+        index = index;
+        is_index = known.at;
         name = place.name;
         place = place.place;
         is_link = place.is_link;
         kept = subst (λ (text : List ℕ). IsKept entries rows text (location_in place.name place.place)) (ap (λ (x : PageResult). shown front x.url) target.is) row;
       }
 
+  links_in_order : (page : PageResult) (at later : ℕ) (one : PageResult) → IsBrokenLink front entries aliases files results page at one → at < later → (index next : ℕ) → slice_get (indices_in places page.url) at ≡ Some index →
+      slice_get (indices_in places page.url) later ≡ Some next → index < next
+  links_in_order page at later one broken before index next is_index is_next =
+      let rs = map result_at all in
+      let f = number_in (targets_of front entries rs) in
+      let its = its_number front entries results rs unfound once broken.url one broken.reported broken.is_one broken.ends in
+      let rises = ((All-contains (HasIndices files.rules.now.places f (indices_in places) aliases) results page indexed broken.is_page).each broken.positions broken.is_own at broken.url broken.link its.number its.found).1 in
+      rising_order 0 (indices_in places page.url) rises at later index next before is_index is_next
+
 -- ---- the rows of a check
 
-pub all_links : (front : List ℕ) (entries : List (List ℕ)) (places : List LinkPlaces) (own_files files : SiteFiles) (own_results results : List PageResult) (reads : ℕ → Option (List ℕ) → Type 0) (all : List code.Linked) (own_leads leads : List ListedLead) (found own_found : List TargetPlace)
+pub all_links : (front : List ℕ) (entries : List (List ℕ)) (aliases : List Alias) (places : List LinkPlaces) (own_files files : SiteFiles) (own_results results : List PageResult) (reads : ℕ → Option (List ℕ) → Type 0) (all : List code.Linked) (own_leads leads : List ListedLead) (found own_found : List TargetPlace)
     (rows : List Broken) → own_files ≡ files → own_results ≡ results → own_leads ≡ leads → own_found ≡ found → map linked_at all ≡ map (linked results) (filter is_unfound results) →
+    All (HasIndices own_files.rules.now.places (number_in (targets_of front entries (map result_at all))) (indices_in places) aliases) own_results →
     All (Contains leads) (map (listed 0) (leads_from (number_in (targets_of front entries (map result_at all))) (indices_in places) 0 own_results)) → All (HasPlace own_files own_results reads (map placed_at found)) own_leads →
-    All (IsKeptPlace front entries all rows) (map placed_at own_found) → AreOnce results → HasAllLinks front entries places files results reads rows
-all_links front entries places own_files files own_results results reads all own_leads leads found own_found rows same_files same_results same_leads same_found is led has kept once =
-    let pages : List PageResult → List Lead = λ rs. leads_from (number_in (targets_of front entries (map result_at all))) (indices_in places) 0 rs in
+    All (IsKeptPlace front entries all rows) (map placed_at own_found) → AreOnce results → HasAllLinks front entries aliases places files results reads rows
+all_links front entries aliases places own_files files own_results results reads all own_leads leads found own_found rows same_files same_results same_leads same_found is indexed led has kept once =
+    let f = number_in (targets_of front entries (map result_at all)) in
+    let pages : List PageResult → List Lead = λ rs. leads_from f (indices_in places) 0 rs in
     let placed = map placed_at found in
+    let indexed_1 : All (HasIndices own_files.rules.now.places f (indices_in places) aliases) results = subst (All (HasIndices own_files.rules.now.places f (indices_in places) aliases)) same_results indexed in
+    let indexed_2 : All (HasIndices files.rules.now.places f (indices_in places) aliases) results =
+    subst (λ (fs : SiteFiles). All (HasIndices fs.rules.now.places f (indices_in places) aliases) results) same_files indexed_1 in
     let has_1 : All (HasPlace own_files own_results reads placed) leads = subst (All (HasPlace own_files own_results reads placed)) same_leads has in
     let has_2 : All (HasPlace own_files results reads placed) leads = subst (λ rs. All (HasPlace own_files rs reads placed) leads) same_results has_1 in
     let has_3 : All (HasPlace files results reads placed) leads = subst (λ fs. All (HasPlace fs results reads placed) leads) same_files has_2 in
     let led_1 : All (Contains leads) (map (listed 0) (pages results)) = subst (λ rs. All (Contains leads) (map (listed 0) (pages rs))) same_results led in
     let kept_1 : All (IsKeptPlace front entries all rows) placed = subst (λ f. All (IsKeptPlace front entries all rows) (map placed_at f)) same_found kept in
-    record { each = link_kept front entries places files results reads all leads placed rows (unfound_of results all is) led_1 has_3 kept_1 once }
+    record {
+      each = link_kept front entries aliases places files results reads all leads placed rows (unfound_of results all is) indexed_2 led_1 has_3 kept_1 once;
+      in_order = links_in_order front entries aliases places files results reads all leads placed rows (unfound_of results all is) indexed_2 led_1 has_3 kept_1 once;
+    }
 
 -- ---- the links of all lists
 

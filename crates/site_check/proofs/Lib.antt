@@ -18,6 +18,7 @@ pub mod Marks
 pub mod Namesakes
 pub mod Orders
 pub mod Outsides
+pub mod PageIndices
 pub mod Patterns
 pub mod Placed
 pub mod Retained

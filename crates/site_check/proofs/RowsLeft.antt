@@ -1,10 +1,11 @@
 -- Which rows and locations entries leave out.
-use Rattle.site_check.proofs.Prelude.{◌≡◌, ◌∙◌, ℕ, suc, Bool, true, false, not, ◌&&◌, ◌||◌, cond, List, [], ◌∷◌, ◌++◌, length, map, filter, refl, sym, ap, subst, arith, inl, inr, cases_Bool, cond-true, cond-false, flat_map, list_any, string_bytes, AreInvalid, PageResult, SiteFiles, TargetRow, file_in, fits, is_gone, is_place_ignored, matches, missing_texts, names_file, outside_texts, places_left, rows_left, target_in, target_row, with_left}
+use Rattle.site_check.proofs.Prelude.{◌≡◌, ◌∙◌, ℕ, suc, Bool, true, false, not, ◌&&◌, ◌||◌, cond, List, [], ◌∷◌, ◌++◌, length, map, filter, refl, sym, ap, subst, arith, inl, inr, cases_Bool, cond-true, cond-false, flat_map, list_any, string_bytes, AreInvalid, PageResult, SiteFiles, TargetRow, file_in, fits, is_gone, is_place_ignored, matches, missing_texts, names_file, places_left, rows_left, target_in, target_row, with_left}
 use Rattle.std.proofs.Common.{◌==◌, eq-eqb, ne_eqb}
 use Rattle.std.proofs.lemmas.Bool.{or_parts}
 use Rattle.std.specs.List.{list_all}
 use Rattle.check_report.specs.declared.value.Broken.{Broken}
 use Rattle.check_report.specs.declared.value.Place.{Place}
+use Rattle.document_links.specs.declared.positions.LinkPlaces.{LinkPlaces}
 use Rattle.site_check.proofs.AllRows.{flat_mapped, mapped}
 use Rattle.site_check.specs.Hints.{hints_with}
 use Rattle.site_check.specs.Ignored.{AreUnused, if_anchor}
@@ -15,6 +16,7 @@ use Rattle.site_check.specs.Reported.{AreAllRows, AreReported}
 use Rattle.site_check.specs.RowMeanings.{if_page}
 use Rattle.site_check.specs.Totals.{is_leaving}
 use Rattle.site_check.specs.declared.input.MapName.{MapName}
+use Rattle.site_check.specs.declared.input.Scope.{Scope}
 
 -- ---- no entry names a file
 
@@ -88,9 +90,9 @@ unused_seen front entries results links others rows whole all same own =
 abbrev leaving_seen : TargetRow → List LeavingRow
 leaving_seen row = cond (is_leaving row.kind) (record { text = row.target; pages = row.pages; kind = row.kind; folder = row.hint } ∷ []) []
 
-pub reported_all : (front : List ℕ) (entries links : List (List ℕ)) (rooted : Bool) (maps : List MapName) (files : SiteFiles) (results found : List PageResult) (rows : List Broken) (unused_ones : List (List ℕ)) →
-    list_any names_file entries ≡ false → AreReported front entries links rooted maps files results found rows unused_ones → AreAllRows front entries links rooted maps files results found rows unused_ones
-reported_all front entries links rooted maps files results found rows unused_ones none own =
+pub reported_all : (front : List ℕ) (entries : List (List ℕ)) (scope : Scope) (places : List LinkPlaces) (rooted : Bool) (maps : List MapName) (files : SiteFiles) (results found : List PageResult) (rows : List Broken) (unused_ones : List (List ℕ)) →
+    list_any names_file entries ≡ false → AreReported front entries scope places rooted maps files results found rows unused_ones → AreAllRows front entries scope places rooted maps files results found rows unused_ones
+reported_all front entries scope places rooted maps files results found rows unused_ones none own =
     let whole : List Broken = own.whole in
     let same : map target_row rows ≡ map target_row whole = own.left ∙ all_left entries (map target_row whole) none in
     record {
@@ -99,9 +101,9 @@ reported_all front entries links rooted maps files results found rows unused_one
           map_seen (λ (row : TargetRow). row.same_name) rows whole same ∙ own.all.names
           ∙ sym (map_seen (λ (row : TargetRow). name_for row.kind (same_name front files row.target row.places)) rows whole same);
       hints = flat_seen (λ (row : TargetRow). hints_with row.kind row.hint) rows whole same ∙ own.all.hints;
-      invalid = subst (AreInvalid entries links) (sym (flat_seen (λ (row : TargetRow). if_invalid row.kind row.target) rows whole same)) own.all.invalid;
+      invalid = subst (AreInvalid entries _) (sym (flat_seen (λ (row : TargetRow). if_invalid row.kind row.target) rows whole same)) own.all.invalid;
       leaving = flat_seen leaving_seen rows whole same ∙ own.all.leaving;
-      ignores = unused_seen front entries results links (outside_texts rooted files found) rows whole unused_ones same own.all.ignores;
+      ignores = unused_seen front entries results _ _ rows whole unused_ones same own.all.ignores;
     }
 
 -- ---- rows that go

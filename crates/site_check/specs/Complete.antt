@@ -1,15 +1,17 @@
 -- No link to a missing page is left out: its location is in the row of the page.
-use Rattle.std.specs.Prelude.{◌≡◌, ◌==◌, ◌%◌, ◌⊎◌, ℕ, Bool, true, ◌&&◌, List, Contains, map, nat_lt, Option, Some, slice_get, string_bytes, bytes_eq}
+use Rattle.std.specs.Prelude.{◌≡◌, ◌==◌, ◌<◌, ◌%◌, ◌+◌, ◌⊎◌, ℕ, Bool, true, false, not, ◌&&◌, List, [], ◌∷◌, Contains, length, map, nat_lt, Option, Some, slice_get, string_bytes, bytes_eq}
 use Rattle.check_report.specs.declared.value.Broken.{Broken}
+use Rattle.crawl_pages.specs.declared.page.Page.TheVariants.{Found}
 use Rattle.crawl_pages.specs.declared.page.PageResult.{PageResult}
 use Rattle.document_links.specs.declared.places.TextPlace.{TextPlace}
 use Rattle.document_links.specs.declared.positions.LinkPlaces.{LinkPlaces}
-use Rattle.site_files.specs.Files.{Document}
+use Rattle.site_files.specs.declared.alias.Alias.{Alias}
 use Rattle.site_files.specs.declared.files.SiteFiles.{SiteFiles}
+use Rattle.site_check.specs.Aliases.{is_alias}
 use Rattle.site_check.specs.Broken.{is_place_ignored, shown}
-use Rattle.site_check.specs.Leads.{is_reported}
+use Rattle.site_check.specs.Leads.{indices_in, is_reported}
 use Rattle.site_check.specs.Located.{TargetLocation, link_place, page_text}
-use Rattle.site_check.specs.Locations.{EndsAt, HasLink, IsFileAt, IsLinkAt, Location, location_in, location_of}
+use Rattle.site_check.specs.Locations.{EndsAt, IsLinkAt, Location, location_in, location_of}
 use Rattle.site_check.specs.Totals.{is_page}
 use Rattle.site_check.specs.declared.linked.Linked.{Linked}
 use Rattle.site_check.specs.declared.located.ListedLead.{ListedLead}
@@ -45,30 +47,55 @@ IsKept entries rows target at = (is_place_ignored entries target at.file ≡ tru
 pub record AreOnce (results : List PageResult) : Type 0 where
   pub same : (a b : PageResult) → Contains results a → Contains results b → a.url ≡ b.url → a ≡ b
 
--- the link with this index on a page leads to a missing page, directly or by a redirect. The linking page has a file, and no entry of the
--- ignore list matches the missing page
-pub record IsBrokenLink (front : List ℕ) (entries : List (List ℕ)) (places : List LinkPlaces) (files : SiteFiles) (results : List PageResult) (page : PageResult) (index : ℕ) (one : PageResult) : Type 0 where
+-- the link with this number on a page that was found leads to this URL
+pub record HasUrlAt (page : PageResult) (at : ℕ) (url : List ℕ) : Type 0 where
+  pub links : List (List ℕ)
+  pub skipped : ℕ
+  pub found : page.page ≡ Found links skipped
+  pub is_link : slice_get links at ≡ Some url
+
+-- the link with this number on a page leads to a missing page, directly or by a redirect. No entry of the ignore list matches the missing
+-- page. The linking page is not that of an alias, whose only link, to the own URL of its file, is in no file. And the rules of the site ask
+-- for the positions of links
+pub record IsBrokenLink (front : List ℕ) (entries : List (List ℕ)) (aliases : List Alias) (files : SiteFiles) (results : List PageResult) (page : PageResult) (at : ℕ) (one : PageResult) : Type 0 where
   pub is_page : Contains results page
-  pub file : Document
-  pub has_file : IsFileAt files page.url file
+  pub is_own : is_alias aliases page.url ≡ false
+  pub positions : files.rules.now.places ≡ true
   pub url : List ℕ
-  pub link : HasLink places page url index
+  pub link : HasUrlAt page at url
   pub is_one : Contains results one
   pub ends : EndsAt results url one
   pub reported : is_reported front entries one ≡ true
 
--- the location of the link with this index on a page is in a row of the missing page that is shown with this text, unless an entry matches it
-pub record IsLinkKept (entries : List (List ℕ)) (files : SiteFiles) (reads : ℕ → Option (List ℕ) → Type 0) (rows : List Broken) (page : PageResult) (index : ℕ) (target : List ℕ) : Type 0 where
+-- the link with this number on a page has an index among the links of the page's file, and the location of the link with this index is in a
+-- row of the missing page that is shown with this text, unless an entry matches it
+pub record IsLinkKept (entries : List (List ℕ)) (places : List LinkPlaces) (files : SiteFiles) (reads : ℕ → Option (List ℕ) → Type 0) (rows : List Broken) (page : PageResult) (at : ℕ) (target : List ℕ) : Type 0 where
+  pub index : ℕ
+  pub is_index : slice_get (indices_in places page.url) at ≡ Some index
   pub name : List ℕ
   pub place : TextPlace
   pub is_link : IsLinkAt files reads page index name place
   pub kept : IsKept entries rows target (location_in name place)
 
--- so is that of each link to a missing page
-pub record HasAllLinks (front : List ℕ) (entries : List (List ℕ)) (places : List LinkPlaces) (files : SiteFiles) (results : List PageResult) (reads : ℕ → Option (List ℕ) → Type 0) (rows : List Broken) : Type 0 where
-  pub each : (page : PageResult) (index : ℕ) (one : PageResult) → IsBrokenLink front entries places files results page index one → IsLinkKept entries files reads rows page index (shown front one.url)
+-- so it is for each link to a missing page. The links of a page have their indices in order, so two links have two indices
+pub record HasAllLinks (front : List ℕ) (entries : List (List ℕ)) (aliases : List Alias) (places : List LinkPlaces) (files : SiteFiles) (results : List PageResult) (reads : ℕ → Option (List ℕ) → Type 0) (rows : List Broken) : Type 0 where
+  pub each : (page : PageResult) (at : ℕ) (one : PageResult) → IsBrokenLink front entries aliases files results page at one → IsLinkKept entries places files reads rows page at (shown front one.url)
+  pub in_order : (page : PageResult) (at later : ℕ) (one : PageResult) → IsBrokenLink front entries aliases files results page at one → at < later → (index next : ℕ) → slice_get (indices_in places page.url) at ≡ Some index → slice_get (indices_in places page.url) later ≡ Some next → index < next
 
 -- ---- how it is known
+
+-- each of these is less than the next, and the first is at least this
+abbrev pub rises_from : ℕ → List ℕ → Bool
+rises_from least [] = true
+rises_from least (index ∷ more) = not (nat_lt index least) && rises_from (index + 1) more
+
+-- each link of a page has an index in the list for its URL, unless the page is that of an alias. The indices are in order
+pub record IsIndexed (indices_of : List ℕ → List ℕ) (aliases : List Alias) (page : PageResult) : Type 0 where
+  pub each : is_alias aliases page.url ≡ false → (at : ℕ) (url : List ℕ) → HasUrlAt page at url → (at < length (indices_of page.url)) × (rises_from 0 (indices_of page.url) ≡ true)
+
+-- the same for the links to targets, if the rules ask for the positions of links
+pub record HasIndices (positions : Bool) (number_of : List ℕ → Option ℕ) (indices_of : List ℕ → List ℕ) (aliases : List Alias) (page : PageResult) : Type 0 where
+  pub each : positions ≡ true → is_alias aliases page.url ≡ false → (at : ℕ) (url : List ℕ) → HasUrlAt page at url → (number : ℕ) → number_of url ≡ Some number → (at < length (indices_of page.url)) × (rises_from 0 (indices_of page.url) ≡ true)
 
 -- of a number of threads the one with the number `rest` reads the file of the result with the number `source`
 abbrev pub is_taken : ℕ → ℕ → ℕ → Bool
@@ -81,9 +108,9 @@ pub record IsPlaced (files : SiteFiles) (reads : ℕ → Option (List ℕ) → T
   pub is_link : IsLinkAt files reads page one.lead.index name place
   pub is_in : Contains all (link_place name one place)
 
--- so is that of the link, if the page that has it has a file
+-- so it is for the page that has the link
 pub record HasPlace (files : SiteFiles) (results : List PageResult) (reads : ℕ → Option (List ℕ) → Type 0) (all : List TargetLocation) (one : ListedLead) : Type 0 where
-  pub placed : (page : PageResult) (file : Document) → slice_get results one.lead.source ≡ Some page → IsFileAt files page.url file → IsPlaced files reads all one page
+  pub placed : (page : PageResult) → slice_get results one.lead.source ≡ Some page → IsPlaced files reads all one page
 
 -- the same, if the thread with the number `rest` reads the file
 pub record HasTaken (files : SiteFiles) (results : List PageResult) (reads : ℕ → Option (List ℕ) → Type 0) (of rest : ℕ) (all : List TargetLocation) (one : ListedLead) : Type 0 where

@@ -4,20 +4,26 @@ use Rattle.check_report.specs.declared.value.Broken.{Broken}
 use Rattle.check_report.specs.declared.value.Kind.{Kind}
 use Rattle.check_report.specs.declared.value.Place.{Place}
 use Rattle.crawl_pages.specs.declared.page.PageResult.{PageResult}
+use Rattle.document_links.specs.declared.positions.LinkPlaces.{LinkPlaces}
 use Rattle.site_check.specs.Anchors.{anchor_text}
 use Rattle.site_check.specs.Broken.{broken_of, is_place_ignored, linked_at, result_at, rows_with}
 use Rattle.site_check.specs.Hints.{hints_at, hints_in, hints_of}
 use Rattle.site_check.specs.Ignored.{AreUnused, anchors_in, not_ignored, text_at, unused}
-use Rattle.site_check.specs.Invalid.{AreInvalid, invalid_rows_in, row_of, text_of}
+use Rattle.site_check.specs.Invalid.{AreInvalid, invalid_rows_in, row_of, text_of, texts_if}
 use Rattle.site_check.specs.Leaving.{leaving_in, leaving_of, outside_at, outside_texts, row_at, shown_at}
 use Rattle.site_check.specs.Names.{AreNamed}
 use Rattle.site_check.specs.RowMeanings.{rows_in}
 use Rattle.site_check.specs.declared.input.MapName.{MapName}
+use Rattle.site_check.specs.declared.input.Scope.{Scope}
 use Rattle.site_check.specs.declared.invalid.InvalidText.{InvalidText}
 use Rattle.site_check.specs.declared.outside.Outside.{Outside}
 use Rattle.site_check.specs.declared.linked.Linked as code
 use Rattle.site_check.specs.declared.missing_anchors.MissingAnchor.{MissingAnchor}
 use Rattle.site_files.specs.declared.files.SiteFiles.{SiteFiles}
+
+-- a check reports all that it finds
+abbrev pub reports_all : Scope → Bool
+reports_all scope = scope.invalid
 
 -- ---- what is left
 
@@ -53,20 +59,21 @@ rows_left entries rows = map (with_left entries) (filter (λ row. not (is_gone e
 -- ---- all rows
 
 -- these rows are rows for exactly the following: the missing pages, in order, each with the number of results that link to it, the only page
--- with its file name and the hint at it; the texts `links` of invalid links, each once; and the URLs outside the site, each with the folder of
--- `maps` in which it was looked up. The entries `unused_ones` match none of these, no missing anchor and no location
-pub record AreAllRows (front : List ℕ) (entries links : List (List ℕ)) (rooted : Bool) (maps : List MapName) (files : SiteFiles) (results found : List PageResult) (rows : List Broken) (unused_ones : List (List ℕ)) : Type 0 where
+-- with its file name and the hint at it; the texts of invalid links that `places` has for found pages, each once, if they are in the scope; and
+-- the URLs outside the site, each with the folder of `maps` in which it was looked up. The entries `unused_ones` match none of these, no
+-- missing anchor and no location
+pub record AreAllRows (front : List ℕ) (entries : List (List ℕ)) (scope : Scope) (places : List LinkPlaces) (rooted : Bool) (maps : List MapName) (files : SiteFiles) (results found : List PageResult) (rows : List Broken) (unused_ones : List (List ℕ)) : Type 0 where
   pub pages : rows_in rows ≡ broken_of front entries results
   pub names : AreNamed front files rows
   pub hints : hints_in rows ≡ hints_of front entries files results
-  pub invalid : AreInvalid entries links (invalid_rows_in rows)
+  pub invalid : AreInvalid entries (texts_if scope.invalid places results) (invalid_rows_in rows)
   pub leaving : leaving_in rows ≡ leaving_of entries rooted maps files results found
-  pub ignores : AreUnused front entries results links (outside_texts rooted files found) rows unused_ones
+  pub ignores : AreUnused front entries results (texts_if scope.invalid places results) (outside_texts rooted files found) rows unused_ones
 
 -- these rows are what the entries leave of such rows
-pub record AreReported (front : List ℕ) (entries links : List (List ℕ)) (rooted : Bool) (maps : List MapName) (files : SiteFiles) (results found : List PageResult) (rows : List Broken) (unused_ones : List (List ℕ)) : Type 0 where
+pub record AreReported (front : List ℕ) (entries : List (List ℕ)) (scope : Scope) (places : List LinkPlaces) (rooted : Bool) (maps : List MapName) (files : SiteFiles) (results found : List PageResult) (rows : List Broken) (unused_ones : List (List ℕ)) : Type 0 where
   pub whole : List Broken
-  pub all : AreAllRows front entries links rooted maps files results found whole unused_ones
+  pub all : AreAllRows front entries scope places rooted maps files results found whole unused_ones
   pub left : map target_row rows ≡ rows_left entries (map target_row whole)
 
 -- ---- how they are found

@@ -5,7 +5,7 @@ ghost use Rattle.crawl_sources.specs.Tallies.{pointed};
 ghost use Rattle.site_files.specs.declared.files.SiteFiles.{SiteFiles};
 ghost use Rattle.site_check.specs.Base.{hint_at};
 ghost use Rattle.site_check.specs.Broken.{linked_at, redirects_of, result_at, rows_with, ways_with};
-ghost use Rattle.site_check.specs.Complete.{AreOnce, HasAllLinks, IsKeptPlace};
+ghost use Rattle.site_check.specs.Complete.{AreOnce, HasAllLinks, HasIndices, IsKeptPlace};
 ghost use Rattle.site_check.specs.Hints.{hints_at, hints_in};
 ghost use Rattle.site_check.specs.Ignored.{not_ignored, anchors_in, text_at, unused};
 ghost use Rattle.site_check.specs.Invalid.{AreTexts, invalid_rows_in, row_of, text_of, texts_if};
@@ -28,6 +28,7 @@ use crate::check_error::CheckError;
 use crate::complete::has_all_places;
 use crate::file_entries::leave_out;
 use crate::ignored::unused;
+use crate::indexed::has_indices;
 use crate::input::CheckInput;
 use crate::invalid::{InvalidText, invalid_texts, push_texts};
 use crate::leads::{Lead, Maps, link_indices, targets};
@@ -119,13 +120,14 @@ pub fn check_site<'f, R: Threads + Sync, B: FileBytes + Sync>(
     // that an entry matches. A missing page has the number of results that link to it, the only page with its file name, in the same case
     // or else in another, unless a link to the missing page is in the file of that page, and the hint at what a server with other rules
     // finds. The unused entries are those that match none of these and no location.
-    ensures rows { IfOk result (λ checked. AreReported input.entry.front.now (map string_bytes input.entry.ignores.now) (texts_if input.entry.invalid input.entry.places.now results.now) input.entry.rooted input.entry.maps.now files.now results.now input.entry.found.now checked.broken.items (map string_bytes checked.unused_ignores.items)) }
+    ensures rows { IfOk result (λ checked. AreReported input.entry.front.now (map string_bytes input.entry.ignores.now) input.entry.scope input.entry.places.now input.entry.rooted input.entry.maps.now files.now results.now input.entry.found.now checked.broken.items (map string_bytes checked.unused_ignores.items)) }
     // Each location of a row is that of a link in what was read of the file of a page. If the row reports a missing page, the link leads to
     // it, directly or by a redirect.
     ensures places { IfOk result (λ checked. All (IsLocated input.entry.front.now input.entry.places.now files.now results.now (B.reads bytes.now)) checked.broken.items) }
-    // No link to a missing page is left out. If each URL is that of one result, the location of each link of a page that leads to a missing
-    // page, directly or by a redirect, is in the row of the missing page, unless an entry matches the page or the location.
-    ensures complete { IfOk result (λ checked. AreOnce results.now → HasAllLinks input.entry.front.now (map string_bytes input.entry.ignores.now) input.entry.places.now files.now results.now (B.reads bytes.now) checked.broken.items) }
+    // No link to a missing page is left out. If each URL is that of one result, and the rules of the site ask for positions, each link of a
+    // page that leads to a missing page, directly or by a redirect, has an index, and its location is in the row of the missing page, unless
+    // an entry matches the page or the location. The link of an alias has none.
+    ensures complete { IfOk result (λ checked. AreOnce results.now → HasAllLinks input.entry.front.now (map string_bytes input.entry.ignores.now) input.entry.aliases.now input.entry.places.now files.now results.now (B.reads bytes.now) checked.broken.items) }
     // The rows of redirects are the moved results that are linked to.
     ensures redirects { IfOk result (λ checked. map way_of checked.redirects.items ≡ redirects_of input.entry.front.now results.now) }
     // The unreached files are those of which a search from the starts found no page, by the first URL of each, in order, if they are listed.
@@ -194,15 +196,16 @@ fn sought_by<'p, R: Threads + Sync>(
     input: CheckInput<'p>,
     site: Site<'p, '_>,
     linked: &[Linked<'p>],
-) -> Result<BrokenLinks<'p>, NoMemory>
-    ensures invalid { IfOk result (λ sought. AreTexts (texts_if input.entry.invalid input.entry.places.now site.entry.pages.results.now) (map text_of sought.invalid.items)) }
+) -> Result<BrokenLinks<'p>, CheckError>
+    ensures invalid { IfOk result (λ sought. AreTexts (texts_if input.entry.scope.invalid input.entry.places.now site.entry.pages.results.now) (map text_of sought.invalid.items)) }
     ensures outside { IfOk result (λ sought. map outside_at sought.outside.items ≡ outside_linked input.entry.rooted input.entry.maps.now site.entry.files.now site.entry.pages.results.now input.entry.found.now) }
     ensures whole { IfOk result (λ sought. All (Contains sought.leads.items) (map (listed 0) (leads_from (number_in (targets_of input.entry.front.now (map string_bytes input.entry.ignores.now) (map result_at linked.now))) (indices_in input.entry.places.now) 0 site.entry.pages.results.now))) }
     ensures leads { IfOk result (λ sought. All (IsListed (leads_from (number_in (targets_of input.entry.front.now (map string_bytes input.entry.ignores.now) (map result_at linked.now))) (indices_in input.entry.places.now) 0 site.entry.pages.results.now)) sought.leads.items) }
+    ensures indexed { IfOk result (λ _. All (HasIndices site.entry.files.now.rules.now.places (number_in (targets_of input.entry.front.now (map string_bytes input.entry.ignores.now) (map result_at linked.now))) (indices_in input.entry.places.now) input.entry.aliases.now) site.entry.pages.results.now) }
 {
     let threads = site.files.threads().max(1);
-    let of_pages = move || -> Result<Vec<ListedLead>, NoMemory>
-        ensures { IfOk result (λ all. all.items ≡ map (listed 0) (leads_from (number_in (targets_of input.entry.front.now (map string_bytes input.entry.ignores.now) (map result_at linked.entry.now))) (indices_in input.entry.places.now) 0 site.entry.pages.results.now)) }
+    let of_pages = move || -> Result<Vec<ListedLead>, CheckError>
+        ensures { IfOk result (λ all. (all.items ≡ map (listed 0) (leads_from (number_in (targets_of input.entry.front.now (map string_bytes input.entry.ignores.now) (map result_at linked.entry.now))) (indices_in input.entry.places.now) 0 site.entry.pages.results.now)) × All (HasIndices site.entry.files.now.rules.now.places (number_in (targets_of input.entry.front.now (map string_bytes input.entry.ignores.now) (map result_at linked.entry.now))) (indices_in input.entry.places.now) input.entry.aliases.now) site.entry.pages.results.now) }
     { listed_leads(rt, alloc, input, site, linked) };
     let (leads, lacked) = join(rt, of_pages, move || lacked_by(rt, alloc, site, threads));
     let mut leads = leads?;
@@ -238,8 +241,8 @@ fn listed_leads<'p, R: Threads + Sync>(
     input: CheckInput<'p>,
     site: Site<'p, '_>,
     linked: &[Linked<'p>],
-) -> Result<Vec<ListedLead>, NoMemory>
-    ensures { IfOk result (λ all. all.items ≡ map (listed 0) (leads_from (number_in (targets_of input.entry.front.now (map string_bytes input.entry.ignores.now) (map result_at linked.now))) (indices_in input.entry.places.now) 0 site.entry.pages.results.now)) }
+) -> Result<Vec<ListedLead>, CheckError>
+    ensures { IfOk result (λ all. (all.items ≡ map (listed 0) (leads_from (number_in (targets_of input.entry.front.now (map string_bytes input.entry.ignores.now) (map result_at linked.now))) (indices_in input.entry.places.now) 0 site.entry.pages.results.now)) × All (HasIndices site.entry.files.now.rules.now.places (number_in (targets_of input.entry.front.now (map string_bytes input.entry.ignores.now) (map result_at linked.now))) (indices_in input.entry.places.now) input.entry.aliases.now) site.entry.pages.results.now) }
 {
     let leads = page_leads(rt, alloc, input, site, linked)?;
     let mut all = Vec::new(alloc);
@@ -269,7 +272,7 @@ fn found_texts<'a>(
     results: &'a [PageResult],
     all: &mut Vec<ListedLead>,
 ) -> Result<Vec<InvalidText<'a>>, NoMemory>
-    ensures texts { IfOk result (λ texts. AreTexts (texts_if input.entry.invalid input.entry.places.now results.now) (map text_of texts.items)) }
+    ensures texts { IfOk result (λ texts. AreTexts (texts_if input.entry.scope.invalid input.entry.places.now results.now) (map text_of texts.items)) }
     ensures leads { OnOk result (AddsListed 2 all.old.items all.new.items) }
 {
     let mut leads = Vec::new(alloc);
@@ -289,14 +292,18 @@ fn push_listed(list: usize, leads: &[Lead], all: &mut Vec<ListedLead>) -> Result
 }
 
 /// The links to missing pages that are not ignored, directly or by a redirect.
+///
+/// # Errors
+/// `LinkLost`, `NoMemory`.
 fn page_leads<'p, R: Threads + Sync>(
     rt: &R,
     alloc: Global,
     input: CheckInput<'p>,
     site: Site<'p, '_>,
     linked: &[Linked<'p>],
-) -> Result<Vec<Lead>, NoMemory>
-    ensures { IfOk result (λ all. all.items ≡ leads_from (number_in (targets_of input.entry.front.now (map string_bytes input.entry.ignores.now) (map result_at linked.now))) (indices_in input.entry.places.now) 0 site.entry.pages.results.now) }
+) -> Result<Vec<Lead>, CheckError>
+    ensures leads { IfOk result (λ all. all.items ≡ leads_from (number_in (targets_of input.entry.front.now (map string_bytes input.entry.ignores.now) (map result_at linked.now))) (indices_in input.entry.places.now) 0 site.entry.pages.results.now) }
+    ensures indexed { IfOk result (λ _. All (HasIndices site.entry.files.now.rules.now.places (number_in (targets_of input.entry.front.now (map string_bytes input.entry.ignores.now) (map result_at linked.now))) (indices_in input.entry.places.now) input.entry.aliases.now) site.entry.pages.results.now) }
 {
     let numbers = targets(alloc, input.front, input.ignores, linked)?;
     let is_empty = numbers.is_empty();
@@ -304,11 +311,18 @@ fn page_leads<'p, R: Threads + Sync>(
         return Ok(Vec::new(alloc));
     }
     let indices = link_indices(alloc, input.places)?;
+    let results = site.pages.results;
+    let positions = site.files.rules().places;
+    let is_known = has_indices(positions, &indices, input.aliases, results);
+    if !is_known {
+        return Err(CheckError::LinkLost);
+    }
     let maps = Maps {
         numbers: &numbers,
         indices: &indices,
     };
-    leads_by(rt, alloc, maps, site.pages.results, site.files.threads())
+    let leads = leads_by(rt, alloc, maps, results, site.files.threads())?;
+    Ok(leads)
 }
 
 /// The results of a check, with the locations of the links.

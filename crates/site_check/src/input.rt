@@ -1,4 +1,7 @@
 //! The settings of a check.
+ghost use Rattle.std.specs.Prelude.{◌≡◌, true};
+ghost use Rattle.site_check.specs.Reported.{reports_all};
+
 use crawl_keys::CanonUrl;
 use crawl_pages::PageResult;
 use document_links::{LinkPlaces, PageAnchors};
@@ -11,6 +14,31 @@ pub struct MapName<'a> {
     pub prefix: &'a str,
     /// The folder as it is reported.
     pub folder: &'a str,
+}
+
+/// Which findings a check reports.
+#[derive(Clone, Copy)]
+pub struct Scope {
+    /// Whether links are reported that are no URL, have an unknown scheme or name a local file.
+    pub invalid: bool,
+}
+
+impl Default for Scope {
+    ghost is_default = { λ scope. reports_all scope ≡ true };
+
+    /// All findings.
+    fn default() -> Scope {
+        Scope { invalid: true }
+    }
+}
+
+impl Scope {
+    /// Whether all findings are reported.
+    pub fn reports_all(self) -> bool
+        ensures { result ≡ reports_all self }
+    {
+        self.invalid
+    }
 }
 
 /// The settings of a check, and what is known of the site.
@@ -30,8 +58,8 @@ pub struct CheckInput<'a> {
     /// The indices of the links in the site's documents and their invalid links, in the order of the documents' URLs. If there are none,
     /// links to missing pages are reported without locations.
     pub places: &'a [LinkPlaces],
-    /// Whether invalid links are reported.
-    pub invalid: bool,
+    /// Which findings are reported.
+    pub scope: Scope,
     /// All results of the crawl, below the top or not. Those of the site's host that are not below it are reported.
     pub found: &'a [PageResult],
     /// Whether the URL of the folder is not known, so that a URL above the top is shown as a path from the top.

@@ -89,9 +89,9 @@ pub(crate) fn invalid_texts<'a>(
     results: &'a [PageResult],
     leads: &mut Vec<Lead>,
 ) -> Result<Vec<InvalidText<'a>>, NoMemory>
-    ensures { IfOk result (λ texts. AreTexts (texts_if input.entry.invalid input.entry.places.now results.now) (map text_of texts.items)) }
+    ensures { IfOk result (λ texts. AreTexts (texts_if input.entry.scope.invalid input.entry.places.now results.now) (map text_of texts.items)) }
 {
-    if !input.invalid {
+    if !input.scope.invalid {
         return Ok(Vec::new(alloc));
     }
     let links = sorted_links(alloc, input.places, results)?;

@@ -214,7 +214,7 @@ fn push_page<'p>(
 }
 
 /// Returns the indices of the links of the document at this URL; none if they are not known.
-fn indices_of<'p>(indices: &LinkIndices<'p>, url: &'p CanonUrl) -> &'p [u32]
+pub(crate) fn indices_of<'p>(indices: &LinkIndices<'p>, url: &'p CanonUrl) -> &'p [u32]
     ensures { result.now ≡ indices_at indices.now url.now }
 {
     match indices.get(&url.hashed()) {

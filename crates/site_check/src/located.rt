@@ -1,11 +1,9 @@
 //! The locations of broken links. Only files that have one are read again.
-ghost use Rattle.std.specs.Prelude.{◌≡◌, ◌++◌, [], true, All, IfOk, IsPermutation, MatchOption, OnOk, Some, length, map, option_map, slice_get, string_bytes, take_while};
-ghost use Rattle.crawl_pages.specs.declared.page.PageResult.{PageResult};
+ghost use Rattle.std.specs.Prelude.{◌≡◌, ◌++◌, [], true, All, IfOk, IsPermutation, MatchOption, OnOk, length, map, option_map, string_bytes, take_while};
 ghost use Rattle.document_links.specs.Places.{ArePlaces};
 ghost use Rattle.site_check.specs.Complete.{HasPlace, HasTaken, is_taken};
 ghost use Rattle.site_check.specs.Located.{IsFileOf, IsFirstPage, IsRowPlace, IsTargetPlace, IsToTarget, Pushes, PushesPlaces, comes_last, document_of, index_of, is_of, is_to, link_places, placed_at, places_from, put_last};
-ghost use Rattle.site_check.specs.Locations.{IsFileAt, ascends, comes_before, if_any, in_row, is_earlier, location_in, location_of, text_kind, unless_same};
-ghost use Rattle.site_files.specs.Files.{Document};
+ghost use Rattle.site_check.specs.Locations.{ascends, comes_before, if_any, in_row, is_earlier, location_in, location_of, text_kind, unless_same};
 
 use crate::check_error::CheckError;
 use crate::leads::Lead;
@@ -64,7 +62,7 @@ pub(crate) struct PageLeads<'a> {
 /// by `of`. The links of a page are consecutive. Its file is read again.
 ///
 /// # Errors
-/// `FileUnread`, `NoMemory`.
+/// `FileUnread`, `LinkLost`, `NoMemory`.
 #[tactic(auto, using(crate::proofs::Placed::all_contained, crate::proofs::AllPlaced::passed_none))]
 pub(crate) fn every_place<B: FileBytes>(
     alloc: Global,
@@ -129,11 +127,11 @@ fn is_of(source: usize, one: &ListedLead) -> bool
     one.lead.source == source
 }
 
-/// Appends the locations of the links of a result, whose file is read again into `body`, if the result has a file.
+/// Appends the locations of the links of a result, whose file is read again into `body`. Each result with a link that has an index has a
+/// file, but this is checked, because a contract promises it.
 ///
 /// # Errors
-/// `FileUnread`, `NoMemory`.
-#[tactic(auto, using(crate::proofs::Placed::pushes_none))]
+/// `FileUnread`, `LinkLost`, `NoMemory`.
 fn push_page<B: FileBytes>(
     alloc: Global,
     site: Site<'_, '_>,
@@ -147,7 +145,7 @@ fn push_page<B: FileBytes>(
     ensures whole { OnOk result (All (HasPlace site.entry.files.now site.entry.pages.results.now (B.reads bytes.now) (map placed_at all.new.items)) page.entry.own.now) }
 {
     let Some(file) = file_of(site, page.source) else {
-        return Ok(());
+        return Err(CheckError::LinkLost);
     };
     body.clear();
     if bytes.read(file, body)?.is_some() {
@@ -159,8 +157,7 @@ fn push_page<B: FileBytes>(
 
 /// The file of the result with this number, if it can have links.
 fn file_of<'f>(site: Site<'_, 'f>, source: usize) -> Option<SiteFile<'f>>
-    ensures is { MatchOption result (Unit {0}) (λ file. IsFileOf site.entry.files.now site.entry.pages.results.now source (document_of file)) }
-    ensures whole { (page : PageResult) (file : Document) → slice_get site.entry.pages.results.now source ≡ Some page → IsFileAt site.entry.files.now page.url file → option_map document_of result ≡ Some file }
+    ensures { MatchOption result (Unit {0}) (λ file. IsFileOf site.entry.files.now site.entry.pages.results.now source (document_of file)) }
 {
     let one = site.pages.results.get(source)?;
     let number = site.files.find(one.url.as_str())?;

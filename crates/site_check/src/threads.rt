@@ -126,7 +126,7 @@ pub(crate) fn lacked_by<'p, R: Threads + Sync>(
 /// The locations of these links, which are together by their pages, sorted by their targets. Each thread reads the pages that it takes.
 ///
 /// # Errors
-/// `FileUnread`, `NoMemory`.
+/// `FileUnread`, `LinkLost`, `NoMemory`.
 pub(crate) fn locate_by<R: Threads + Sync, B: FileBytes + Sync>(
     rt: &R,
     alloc: Global,

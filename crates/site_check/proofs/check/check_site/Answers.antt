@@ -14,7 +14,7 @@ returns-clause-rows g c =
     let site = c.site_of-site.result in
     let sought = c.in_ok-sought.sought in
     IfOk-weaker c.results_of.result _ _
-    (λ (checked : Checked) own. are_reported input.front.now (map string_bytes input.ignores.now) input.invalid input.rooted input.maps.now input.places.now c.args.files.now site.files.now c.args.results.now site.pages.results.now input.found.now
+    (λ (checked : Checked) own. are_reported input.front.now (map string_bytes input.ignores.now) input.scope input.rooted input.maps.now input.places.now c.args.files.now site.files.now c.args.results.now site.pages.results.now input.found.now
     c.as_slice-all.result.now sought.anchors.items sought.invalid.items sought.outside.items checked.broken.items (map string_bytes checked.unused_ignores.items)
     c.site_of-site.ensures.files c.site_of-site.ensures.results (ap (map linked_at) c.as_slice-all.ensures.value ∙ c.in_ok-linked.ensures) c.in_ok-sought.ensures.invalid c.in_ok-sought.ensures.outside own)
     c.results_of.ensures.rows
@@ -38,9 +38,9 @@ returns-clause-complete g c =
     let site = c.site_of-site.result in
     let sought = c.in_ok-sought.sought in
     IfOk-weaker c.results_of.result _ _
-    (λ (checked : Checked) own. all_links input.front.now (map string_bytes input.ignores.now) input.places.now site.files.now c.args.files.now site.pages.results.now c.args.results.now (g.B.FileBytes.reads c.args.bytes.now) c.as_slice-all.result.now
+    (λ (checked : Checked) own. all_links input.front.now (map string_bytes input.ignores.now) input.aliases.now input.places.now site.files.now c.args.files.now site.pages.results.now c.args.results.now (g.B.FileBytes.reads c.args.bytes.now) c.as_slice-all.result.now
     c.as_slice-2.result.now sought.leads.items c.in_ok-places.places.items c.as_slice-3.result.now checked.broken.items c.site_of-site.ensures.files c.site_of-site.ensures.results c.as_slice-2.ensures.value c.as_slice-3.ensures.value
-    (ap (map linked_at) c.as_slice-all.ensures.value ∙ c.in_ok-linked.ensures) c.in_ok-sought.ensures.whole c.in_ok-places.ensures.whole own)
+    (ap (map linked_at) c.as_slice-all.ensures.value ∙ c.in_ok-linked.ensures) c.in_ok-sought.ensures.indexed c.in_ok-sought.ensures.whole c.in_ok-places.ensures.whole own)
     c.results_of.ensures.whole
 
 -- the totals are those of the rows

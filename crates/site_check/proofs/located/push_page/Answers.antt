@@ -1,6 +1,5 @@
-use Rattle.site_check.proofs.Prelude.{◌≡◌, ◌∙◌, None, map, sym}
-use Rattle.std.proofs.Common.{rules}
-use Rattle.site_check.proofs.AllPlaced.{file_whole, no_file}
+use Rattle.site_check.proofs.Prelude.{◌∙◌, map, sym}
+use Rattle.site_check.proofs.AllPlaced.{file_whole}
 use Rattle.site_check.proofs.Placed.{file_placed, not_some}
 use Rattle.site_check.specs.Located.{placed_at}
 use Rattle.site_check.proofs.located.push_page.Goals as goal
@@ -11,7 +10,7 @@ returns-clause-links g c =
     let page = c.args.page in
     let left = c.in_ok-read.field-0 in
     file_placed site.files.now site.pages.results.now (g.B.FileBytes.reads c.args.bytes.now) page.source c.in-Some.file left c.read.new.body c.as_slice.result.now page.own.now (map placed_at c.args.all.now.items)
-    (map placed_at c.push_places.new.all.items) c.in-Some.ensures.is c.requires (c.in_ok-read.ensures c.clear.ensures) (not_some left (sym c.is_some.ensures ∙ c.if-is_some.false)) c.as_slice.ensures c.in_ok-push_places.ensures
+    (map placed_at c.push_places.new.all.items) c.in-Some.ensures c.requires (c.in_ok-read.ensures c.clear.ensures) (not_some left (sym c.is_some.ensures ∙ c.if-is_some.false)) c.as_slice.ensures c.in_ok-push_places.ensures
 
 pub returns-clause-whole : goal.returns-clause-whole
 returns-clause-whole g c =
@@ -19,12 +18,4 @@ returns-clause-whole g c =
     let page = c.args.page in
     let left = c.in_ok-read.field-0 in
     file_whole site.files.now site.pages.results.now (g.B.FileBytes.reads c.args.bytes.now) page.source c.in-Some.file left c.read.new.body c.as_slice.result.now page.own.now (map placed_at c.args.all.now.items)
-    (map placed_at c.push_places.new.all.items) c.in-Some.ensures.is c.requires (c.in_ok-read.ensures c.clear.ensures) (not_some left (sym c.is_some.ensures ∙ c.if-is_some.false)) c.as_slice.ensures c.in_ok-push_places.ensures
-
--- the page has no file
-pub returns-in_default-clause-whole : goal.returns-in_default-clause-whole
-returns-in_default-clause-whole g c =
-    let site = c.args.site in
-    let page = c.args.page in
-    let none : c.file_of.result ≡ None = search rules in
-    no_file site.files.now site.pages.results.now (g.B.FileBytes.reads c.args.bytes.now) (map placed_at c.args.all.now.items) page.source page.own.now c.file_of.result c.requires none c.file_of.ensures.whole
+    (map placed_at c.push_places.new.all.items) c.in-Some.ensures c.requires (c.in_ok-read.ensures c.clear.ensures) (not_some left (sym c.is_some.ensures ∙ c.if-is_some.false)) c.as_slice.ensures c.in_ok-push_places.ensures
