@@ -9,6 +9,7 @@ use Rattle.mercator.specs.declared.commands.plan_error.PlanError.TheVariants as 
 use Rattle.mercator.specs.declared.commands.planned.Plan.{Plan}
 use Rattle.mercator.specs.declared.commands.planned.Plan.TheVariants as asks
 use Rattle.mercator_site.specs.declared.options.CheckOptions.{CheckOptions}
+use Rattle.site_check.specs.Reported.{reports_all}
 
 -- ---- the arguments
 
@@ -55,7 +56,7 @@ may_set_options arguments = not (has_no_config arguments) || has_option argument
 
 -- a check starts at all documents, looks for all kinds of errors, and rewrites nothing
 abbrev pub is_whole : CheckOptions → Bool
-is_whole options = options.anchors && (options.invalid && (not options.reachable && is_off options.fix))
+is_whole options = options.anchors && (reports_all options.scope && (not options.reachable && is_off options.fix))
 
 -- it also has no ignore list, and looks up no link in another folder, so that it reports all that it finds
 abbrev pub is_plain : CheckOptions → Option (String Global) → Bool

@@ -101,13 +101,13 @@ crawl_text crawl.NoMemory = codes "out of memory"
 
 -- why the folder with this name has no report, or no saved web
 abbrev pub site_text : List ℕ → FolderError → List ℕ
-site_text file unsited.CannotReadFolder = codes "cannot read " ++ file
+site_text file unsited.CannotReadFolder = codes "cannot read " ++ file ++ codes ": not a readable folder"
 site_text file unsited.BadBase = codes "BASE: must be the http or https URL of a folder, without a query, such as https://example.org/docs/"
 site_text file unsited.BadHost = codes "BASE: the host may contain only letters, digits, - and ."
 site_text file unsited.NoFiles = file ++ codes ": no files"
 site_text file (unsited.List error) = codes "index: " ++ list_text error
 site_text file unsited.NoneListed = codes "index: no URL below BASE"
-site_text file (unsited.CannotReadMap folder) = codes "cannot read " ++ string_bytes folder
+site_text file (unsited.CannotReadMap folder) = codes "cannot read " ++ string_bytes folder ++ codes ": not a readable folder"
 site_text file (unsited.NoMapFiles folder) = string_bytes folder ++ codes ": no files"
 site_text file unsited.BadSeed = codes "--seed: not a URL below BASE"
 site_text file (unsited.NoStart link) = string_bytes link ++ codes ": no such page to start at"

@@ -7,14 +7,14 @@ use Rattle.crawl_keys.specs.HostFilter.{is_good}
 use Rattle.session_log.specs.Plans.{IsSessionPlan}
 use Rattle.shown_text.specs.Shown.{is_visible_or_lf}
 use Rattle.mercator.specs.declared.commands.error.CommandError.{CommandError}
-use Rattle.mercator.specs.declared.commands.error.CommandError.TheVariants as error
+use Rattle.mercator.specs.declared.commands.error.CommandError.TheVariants as wrong
 use Rattle.mercator.specs.WebCrawl.{CrawlPlan}
 use Rattle.mercator.specs.declared.commands.planned.CrawlOptions.{CrawlOptions}
 use Rattle.mercator.specs.declared.commands.planned.CrawlPlan.{CrawlPlan as Fields}
 use Rattle.mercator.specs.declared.commands.planned.Plan.{Plan}
 use Rattle.mercator.specs.declared.commands.planned.Plan.TheVariants as asks
 use Rattle.mercator.specs.declared.commands.plan_error.PlanError.{PlanError}
-use Rattle.mercator.specs.declared.commands.plan_error.PlanError.TheVariants as wrong
+use Rattle.mercator.specs.declared.commands.plan_error.PlanError.TheVariants as unplanned
 
 -- the FILE is the standard input
 abbrev pub is_input : List ℕ → Bool
@@ -57,8 +57,8 @@ IsVisible text = list_all is_visible_or_lf (chars text) ≡ true
 
 -- a text is shown with the status of help or with that of a bad command line
 abbrev pub IsShown : PlanError → Type 0
-IsShown (wrong.Shown text status) = ((status ≡ 0) ⊎ (status ≡ 3)) × IsVisible (string_bytes text)
-IsShown wrong.NoMemory = Unit {0}
+IsShown (unplanned.Shown text status) = ((status ≡ 0) ⊎ (status ≡ 3)) × IsVisible (string_bytes text)
+IsShown unplanned.NoMemory = Unit {0}
 
 -- what is known of the bytes of a FILE: what is known of the standard input; nothing of another file
 abbrev pub known_bytes : List ℕ → Option (List ℕ) → Option (List ℕ)

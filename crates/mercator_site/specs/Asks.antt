@@ -5,6 +5,7 @@ use Rattle.mercator_site.specs.declared.options.CheckOptions.{CheckOptions}
 use Rattle.mercator_site.specs.declared.options.ReportOptions.{ReportOptions}
 use Rattle.mercator_site.specs.declared.settings.CheckSettings.{CheckSettings}
 use Rattle.mercator_site.specs.declared.mapped.MappedFolder.{MappedFolder}
+use Rattle.site_check.specs.declared.input.Scope.{Scope}
 
 pub record Asks : Type 0 where
   pub report : ReportOptions
@@ -16,8 +17,8 @@ pub record Asks : Type 0 where
   pub seeds : List (List ℕ)
   -- whether only what the search reaches is checked
   pub reachable : Bool
-  -- whether invalid links are reported
-  pub invalid : Bool
+  -- which findings are reported
+  pub scope : Scope
   -- whether the URL of the folder is not known
   pub rooted : Bool
   -- the prefix that is removed from each URL
@@ -35,7 +36,7 @@ asks_in s = record {
   source_url = s.source_url.now;
   seeds = map string_bytes s.seeds.now;
   reachable = s.reachable;
-  invalid = s.invalid;
+  scope = s.scope;
   rooted = s.rooted;
   front = s.front.now;
   entries = map string_bytes s.ignores.now;
@@ -54,7 +55,7 @@ asks_with options seeds front entries folders = record {
   source_url = string_bytes options.source_url;
   seeds = seeds;
   reachable = options.reachable;
-  invalid = options.invalid;
+  scope = options.scope;
   rooted = options.paths;
   front = front;
   entries = entries;

@@ -37,7 +37,6 @@ use Rattle.site_check.specs.Broken.{redirects_of}
 use Rattle.site_check.specs.Complete.{AreOnce, HasAllLinks}
 use Rattle.site_files.specs.declared.files.SiteFiles.{SiteFiles}
 use Rattle.site_files.specs.declared.alias.Alias.{Alias}
-use Rattle.site_check.specs.Invalid.{texts_if}
 use Rattle.site_check.specs.LinkBase.{base_hint_of}
 use Rattle.site_check.specs.Locations.{IsLocated}
 use Rattle.site_check.specs.Reported.{AreReported}
@@ -108,9 +107,10 @@ pub record AreResults (site : SiteFiles) (reads : ℕ → Option (List ℕ) → 
   pub totals : checked.totals ≡ totals_of aliases documents own checked.broken.items checked.redirects.items
   -- what is known of the links of these pages
   pub places : List LinkPlaces
-  pub rows : AreReported asks.front asks.entries (texts_if asks.invalid places own) asks.rooted (names_of asks.folders) site own (unmapped asks.folders pages) checked.broken.items (map string_bytes checked.unused_ignores.items)
+  pub rows : AreReported asks.front asks.entries asks.scope places asks.rooted (names_of asks.folders) site own (unmapped asks.folders pages) checked.broken.items (map string_bytes checked.unused_ignores.items)
   pub located : All (IsLocated asks.front places site own reads) checked.broken.items
-  pub complete : AreOnce own → HasAllLinks asks.front asks.entries places site own reads checked.broken.items
+  -- no link to a missing page is left out, if each URL is that of one result
+  pub complete : AreOnce own → HasAllLinks asks.front asks.entries aliases places site own reads checked.broken.items
   pub verdict : is_broken checked.totals ≡ not (length checked.broken.items == 0)
   pub worst : map file_links checked.worst.items ≡ worst_of checked.broken.items
   pub unreached : map string_bytes checked.unreached.items ≡ unreached_by asks.front site reached
@@ -158,6 +158,8 @@ pub record IsCheck (site : SiteFiles) (reads : ℕ → Option (List ℕ) → Typ
   pub reached : Option (List PageResult)
   pub are_reached : AreReached asks.report.lists.unreached top web asks.reachable asks.seeds reached
   pub findings : IsFindings name site reads own pages reached aliases asks broken text
+  -- no link to a missing page is left out
+  pub complete : HasAllLinks asks.front asks.entries aliases findings.results.places site own reads findings.checked.broken.items
 
 -- the page of each alias in the saved web has one link, to the own URL of the alias's file
 abbrev pub AreAliasesIn : List ℕ → List Alias → Type 0

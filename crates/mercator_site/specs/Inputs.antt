@@ -4,12 +4,13 @@ use Rattle.crawl_pages.specs.declared.page.PageResult.{PageResult}
 use Rattle.mercator_site.specs.Asks.{Asks}
 use Rattle.site_check.specs.declared.input.CheckInput.{CheckInput}
 use Rattle.site_check.specs.declared.input.MapName.{MapName}
+use Rattle.site_check.specs.declared.input.Scope.{Scope}
 use Rattle.site_files.specs.declared.alias.Alias.{Alias}
 
 pub record Input : Type 0 where
   pub front : List ℕ
   pub entries : List (List ℕ)
-  pub invalid : Bool
+  pub scope : Scope
   pub rooted : Bool
   pub maps : List MapName
   -- the results among which are the pages that are not below the top
@@ -23,7 +24,7 @@ abbrev pub input_in : CheckInput → Input
 input_in input = record {
   front = input.front.now;
   entries = map string_bytes input.ignores.now;
-  invalid = input.invalid;
+  scope = input.scope;
   rooted = input.rooted;
   maps = input.maps.now;
   found = input.found.now;
@@ -37,7 +38,7 @@ abbrev pub input_with : Asks → List MapName → List PageResult → List Alias
 input_with asks maps found aliases documents reached = record {
   front = asks.front;
   entries = asks.entries;
-  invalid = asks.invalid;
+  scope = asks.scope;
   rooted = asks.rooted;
   maps = maps;
   found = found;

@@ -233,7 +233,7 @@ fn input_of<'a>(
         documents: site.documents.as_slice(),
         anchors: site.anchors.as_slice(),
         places: site.places.as_slice(),
-        invalid: settings.invalid,
+        scope: settings.scope,
         found: lookups.left,
         rooted: settings.rooted,
         maps: lookups.names,

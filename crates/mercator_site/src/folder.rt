@@ -347,7 +347,7 @@ pub(crate) fn settings_of<'a>(
         ignores: found.known,
         seeds: found.seeds,
         reachable: options.reachable,
-        invalid: options.invalid,
+        scope: options.scope,
         rooted: options.paths,
         maps: found.maps,
         report: options.report,

@@ -1,6 +1,7 @@
 //! The settings of a saved web of a folder and of its check.
 use crate::maps::FolderMap;
 use check_report::Lists;
+use site_check::Scope;
 
 /// The form of a report.
 #[derive(Clone, Copy, Debug, PartialEq, Eq)]
@@ -82,8 +83,8 @@ pub struct CheckOptions {
     pub workers: u32,
     /// Whether anchors are checked.
     pub anchors: bool,
-    /// Whether links are reported that are no URL, have an unknown scheme or name a local file.
-    pub invalid: bool,
+    /// Which findings are reported.
+    pub scope: Scope,
     pub report: ReportOptions,
     /// The URL of the folder's sources, with which the URLs of locations begin in an HTML page and in SARIF; empty for none.
     pub source_url: String,

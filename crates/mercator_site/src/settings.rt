@@ -1,6 +1,7 @@
 //! The settings of a check of a folder or of files in memory.
 use crate::mapped::MappedFolder;
 use crate::options::ReportOptions;
+use site_check::Scope;
 
 /// The settings of a check.
 #[derive(Clone, Copy)]
@@ -17,8 +18,8 @@ pub struct CheckSettings<'a> {
     pub seeds: &'a [String],
     /// Whether only what the search reaches is checked, and not all documents.
     pub reachable: bool,
-    /// Whether links are reported that are no URL, have an unknown scheme or name a local file.
-    pub invalid: bool,
+    /// Which findings are reported.
+    pub scope: Scope,
     /// Whether the URL of the folder is not known, so that a link that leads above the top is reported by its path from the top.
     pub rooted: bool,
     /// The folders in which links are looked up that lead out of the site.

@@ -136,7 +136,7 @@ fn is_plain(options: &CheckOptions, ignores: &Option<String>) -> bool
 fn is_whole(options: &CheckOptions) -> bool
     ensures { result ≡ is_whole options.now }
 {
-    options.anchors && options.invalid && !options.reachable && is_off(options.fix)
+    options.anchors && options.scope.reports_all() && !options.reachable && is_off(options.fix)
 }
 
 /// Whether no links are rewritten.

@@ -12,7 +12,7 @@ use crate::commands::option_values::OptionValues;
 use clap::builder::ValueParser;
 use clap::{Arg, ArgAction, ArgGroup, ArgMatches, Command};
 use mercator_site::{
-    CheckForm, CheckOptions, Fix, FolderMap, Lists, MapError, ReportOptions, read_maps,
+    CheckForm, CheckOptions, Fix, FolderMap, Lists, MapError, ReportOptions, Scope, read_maps,
 };
 use std::alloc::{AllocError, Global};
 
@@ -131,7 +131,7 @@ fn push_fix_args<'a>(alloc: Global, args: &mut Vec<Arg<'a>>) -> Result<(), Alloc
 /// The option to rewrite links.
 fn fix<'a>(alloc: Global) -> Result<Arg<'a>, AllocError> {
     let help =
-        "Rewrite links to redirects, and to missing pages with a suggestion, in the files, then check";
+        "Rewrite links to redirects, and to missing pages with a certain suggestion, in the files, then check";
     with_rivals(flag_of(alloc, "fix", help).help_heading(FIXES), "fix")
 }
 
@@ -288,7 +288,7 @@ pub fn check_options(
         paths: base.is_none(),
         workers,
         anchors: !values.flag("no-anchors"),
-        invalid: !values.flag("no-invalid"),
+        scope: scope_of(values),
         report: ReportOptions {
             form,
             lists: lists_of(values),
@@ -310,6 +310,13 @@ fn fix_of(found: &ArgMatches<'_>) -> Fix {
         Fix::Diff
     } else {
         Fix::Write
+    }
+}
+
+/// Which findings are reported.
+fn scope_of(values: &OptionValues<'_, '_>) -> Scope {
+    Scope {
+        invalid: !values.flag("no-invalid"),
     }
 }
 

@@ -260,7 +260,7 @@ impl fmt::Display for SiteText<'_> {
     fn fmt<W: fmt::Write>(&self, f: &mut fmt::Formatter<W>) -> fmt::Result {
         let file = self.file;
         match self.error {
-            FolderError::CannotReadFolder => write!(f, "cannot read {file}"),
+            FolderError::CannotReadFolder => write!(f, "cannot read {file}: not a readable folder"),
             FolderError::BadBase => f.write_str(
                 "BASE: must be the http or https URL of a folder, without a query, such as https://example.org/docs/",
             ),
@@ -275,7 +275,10 @@ impl fmt::Display for SiteText<'_> {
             .fmt(f),
             FolderError::NoneListed => f.write_str("index: no URL below BASE"),
             FolderError::BadSeed => f.write_str("--seed: not a URL below BASE"),
-            FolderError::CannotReadMap(folder) => write!(f, "cannot read {folder}"),
+            FolderError::CannotReadMap(folder) => write!(
+                f,
+                "cannot read {folder}: not a readable folder"
+            ),
             FolderError::NoMapFiles(folder) => write!(f, "{folder}: no files"),
             FolderError::NoStart(link) => write!(f, "{link}: no such page to start at"),
             FolderError::NoDocuments => write!(

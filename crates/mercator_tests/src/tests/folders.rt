@@ -1,5 +1,5 @@
 //! Files in memory: their saved web, and a check of them. A file that grows while it is read.
-use mercator_site::{CheckSettings, Files, ReportOptions, report_of_files};
+use mercator_site::{CheckSettings, Files, ReportOptions, Scope, report_of_files};
 use saved_site::{WebText, site_web};
 use site_files::{Body, InMemory, Rules, SiteFiles, SiteNames};
 use std::alloc::{AllocError, Global};
@@ -95,7 +95,7 @@ fn settings(none: &[String]) -> CheckSettings<'_> {
         front: "",
         ignores: none,
         seeds: none,
-        invalid: true,
+        scope: Scope::default(),
         rooted: false,
         maps: &[],
         reachable: false,

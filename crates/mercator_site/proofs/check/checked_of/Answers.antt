@@ -8,7 +8,6 @@ use Rattle.mercator_site.specs.Maps.{names_of, unmapped}
 use Rattle.site_check.specs.Base.{hint_at}
 use Rattle.site_check.specs.Broken.{redirects_of}
 use Rattle.site_check.specs.Complete.{AreOnce, HasAllLinks}
-use Rattle.site_check.specs.Invalid.{texts_if}
 use Rattle.site_check.specs.LinkBase.{base_hint_of}
 use Rattle.site_check.specs.Locations.{IsLocated}
 use Rattle.site_check.specs.Reported.{AreReported}
@@ -29,12 +28,12 @@ by_reached front site (Some results) = refl
 -- what is found with an input is found with the settings that the input has
 results_of : (answer : Result Checked CheckError) (site : SiteFiles) (reads : ℕ → Option (List ℕ) → Type 0) (own pages : List PageResult) (reached : Option (List PageResult)) (aliases : List Alias) (documents : List (List ℕ)) (asks : Asks) (input : CheckInput)
     → input_in input ≡ input_with asks (names_of asks.folders) (unmapped asks.folders pages) aliases documents reached
-    → IfOk answer (λ checked. AreReported input.front.now (map string_bytes input.ignores.now) (texts_if input.invalid input.places.now own) input.rooted input.maps.now site own input.found.now checked.broken.items (map string_bytes checked.unused_ignores.items))
+    → IfOk answer (λ checked. AreReported input.front.now (map string_bytes input.ignores.now) input.scope input.places.now input.rooted input.maps.now site own input.found.now checked.broken.items (map string_bytes checked.unused_ignores.items))
     → IfOk answer (λ checked. map way_of checked.redirects.items ≡ redirects_of input.front.now own)
     → IfOk answer (λ checked. checked.totals ≡ totals_of input.aliases.now input.documents.now own checked.broken.items checked.redirects.items)
     → IfOk answer (λ checked. is_broken checked.totals ≡ not (length checked.broken.items == 0)) → IfOk answer (λ checked. map file_links checked.worst.items ≡ worst_of checked.broken.items)
     → IfOk answer (λ checked. map string_bytes checked.unreached.items ≡ unreached_in input.front.now site input.reached) → IfOk answer (λ checked. All (IsLocated input.front.now input.places.now site own reads) checked.broken.items)
-    → IfOk answer (λ checked. AreOnce own → HasAllLinks input.front.now (map string_bytes input.ignores.now) input.places.now site own reads checked.broken.items)
+    → IfOk answer (λ checked. AreOnce own → HasAllLinks input.front.now (map string_bytes input.ignores.now) input.aliases.now input.places.now site own reads checked.broken.items)
     → IfOk answer (λ checked. option_map hint_at checked.base_hint ≡ base_hint_of input.rooted site own checked.broken.items) → IfOk answer (AreResults site reads own pages reached aliases asks)
 results_of (Ok checked) site reads own pages reached aliases documents asks input same rows ways totals verdict worst unreached located complete hint = record {
   ways = ways ∙ ap (λ (i : Input). redirects_of i.front own) same;
@@ -42,10 +41,10 @@ results_of (Ok checked) site reads own pages reached aliases documents asks inpu
   totals = totals ∙ ap (λ (i : Input). totals_of i.aliases i.documents own checked.broken.items checked.redirects.items) same;
   places = input.places.now;
   rows =
-      subst (λ (i : Input). AreReported i.front i.entries (texts_if i.invalid input.places.now own) i.rooted i.maps site own i.found checked.broken.items (map string_bytes checked.unused_ignores.items))
+      subst (λ (i : Input). AreReported i.front i.entries i.scope input.places.now i.rooted i.maps site own i.found checked.broken.items (map string_bytes checked.unused_ignores.items))
       same rows;
   located = subst (λ (i : Input). All (IsLocated i.front input.places.now site own reads) checked.broken.items) same located;
-  complete = subst (λ (i : Input). AreOnce own → HasAllLinks i.front i.entries input.places.now site own reads checked.broken.items) same complete;
+  complete = subst (λ (i : Input). AreOnce own → HasAllLinks i.front i.entries i.aliases input.places.now site own reads checked.broken.items) same complete;
   verdict = verdict;
   worst = worst;
   unreached = unreached ∙ by_reached input.front.now site input.reached ∙ ap (λ (i : Input). unreached_by i.front site i.reached) same;
