@@ -59,11 +59,11 @@ fn ask_link(
 fn is_expected(
     rt: &impl Print,
     alloc: Global,
-    result: Result<CanonUrl, KeyError>,
+    read: Result<CanonUrl, KeyError>,
     input: &str,
     expected: &str,
 ) -> Option<bool> {
-    let shown = shown(alloc, result)?;
+    let shown = shown(alloc, read)?;
     let same = shown.as_str() == expected;
     if !same {
         let _ = println!(rt; "{input} => {shown}, and not {expected}");
@@ -72,8 +72,8 @@ fn is_expected(
 }
 
 /// A result as the table writes it.
-fn shown(alloc: Global, result: Result<CanonUrl, KeyError>) -> Option<String> {
-    match result {
+fn shown(alloc: Global, read: Result<CanonUrl, KeyError>) -> Option<String> {
+    match read {
         Ok(url) => format!(in alloc; "{url} {}", url.host_key()).ok(),
         Err(error) => format!(in alloc; "{error:?}").ok(),
     }

@@ -2,14 +2,13 @@
 //! shows all of them.
 ghost use Rattle.std.specs.Prelude.{map};
 
-use html_links::{Links, PlacedLinks, Syntax, read_page, read_style};
+use html_links::{DocumentIds, Links, Syntax, read_page, read_style};
 use std::alloc::{AllocError, Global};
 
-/// Texts, each with the position at which its value begins.
+/// Texts, each with the position at which its value begins. The position of an id is 0.
 #[derive(Drop)]
 struct Texts {
     alloc: Global,
-    index: usize,
     texts: Vec<(usize, Vec<u8>)>,
 }
 
@@ -17,7 +16,6 @@ impl Texts {
     fn new(alloc: Global) -> Texts {
         Texts {
             alloc,
-            index: 0,
             texts: Vec::new(alloc),
         }
     }
@@ -26,16 +24,21 @@ impl Texts {
 impl Links for Texts {
     ghost texts = { λ all. map (λ text. text.1.items) all.texts.items };
 
-    fn push(&mut self, text: &[u8]) -> Result<(), AllocError> {
+    ghost positions = { λ all. map (λ text. text.0) all.texts.items };
+
+    fn push(&mut self, position: usize, text: &[u8]) -> Result<(), AllocError> {
         self.texts
-            .push((self.index, Vec::from_slice(self.alloc, text)?))?;
+            .push((position, Vec::from_slice(self.alloc, text)?))?;
         Ok(())
     }
 }
 
-impl PlacedLinks for Texts {
-    fn begin_at(&mut self, index: usize) {
-        self.index = index;
+impl DocumentIds for Texts {
+    ghost texts = { λ all. map (λ text. text.1.items) all.texts.items };
+
+    fn push(&mut self, text: &[u8]) -> Result<(), AllocError> {
+        self.texts.push((0, Vec::from_slice(self.alloc, text)?))?;
+        Ok(())
     }
 }
 
@@ -204,7 +207,12 @@ fn documents_and_their_styles(rt: HostRuntime) {
 
 fn has_sheet(alloc: Global, sheet: &str, begin: usize, links: &[(usize, &str)]) -> bool {
     let mut found = Texts::new(alloc);
-    match read_style(alloc, sheet.as_bytes(), begin, &mut found) {
+    match read_style(
+        alloc,
+        sheet.as_bytes(),
+        begin.saturating_add(sheet.len()),
+        &mut found,
+    ) {
         Ok(()) => are_links(&found, begin, links),
         Err(_) => false,
     }
