@@ -266,7 +266,7 @@ class TheShippedSite(Converting):
         with open(os.path.join(ROOT, "examples", "site.web"), "rb") as stored:
             self.assertEqual(run(SITE, "http://site.test/").out, stored.read())
 
-    def test_a_server_answers_as_the_web_says(self) -> None:
+    def test_a_server_returns_what_the_web_has(self) -> None:
         """Request each page, and each target of a link in the site, from a server of the same folder."""
         pages = pages_of(self.web(SITE, "http://site.test/"))
         requested = set(pages)

@@ -160,8 +160,8 @@ class Model:
             self.events += [(f"enter {hand.sender}", f"refused {word}")]
             return
         self.events += [(f"enter {hand.sender}", "entered *")]
-        said = f"accepted {first} {second}" if word == "accepted" else word
-        self.events += [(f"admit {hand.sender} {url}", said)]
+        reply = f"accepted {first} {second}" if word == "accepted" else word
+        self.events += [(f"admit {hand.sender} {url}", reply)]
         if word == "seen":
             self.events += [(f"back {hand.sender}", "count *")]
         if word == "accepted":
@@ -398,10 +398,10 @@ def joined(traces: list[list[Note]], order: dict[int, int], waited: dict[int, in
 def events_of(workers: int, steps: list[tuple[int, Note]], seed: int) -> list[tuple[str, str]]:
     """Return the machine's events and the expected replies. Numbers of units are not compared."""
 
-    def offer(sender: int, number: int, said: str) -> list[tuple[str, str]]:
+    def offer(sender: int, number: int, reply: str) -> list[tuple[str, str]]:
         events = [(f"look {sender}", "word * open"), (f"enter {sender}", "entered *")]
-        events += [(f"admit {sender} {page(number)}", said)]
-        return events + ([(f"back {sender}", "count *")] if said == "seen" else [])
+        events += [(f"admit {sender} {page(number)}", reply)]
+        return events + ([(f"back {sender}", "count *")] if reply == "seen" else [])
 
     events = offer(workers, 0, f"accepted {seed} 0") + [("endseeds", "count *")]
     for place, note in steps:
@@ -483,32 +483,32 @@ def main() -> None:
     parser.add_argument("--seed", default="1", help="seed of the random calls (default: 1)")
     parser.add_argument("--jobs", type=int, default=1, metavar="N", help="number of checks at a time (default: 1)")
     parser.add_argument("--only", metavar="NAME", help="make only the check with this name, which a failure prints")
-    given = parser.parse_args()
+    options = parser.parse_args()
     for program, crate in ((CALLS[0], "library_calls"), (PROGRAM, "mercator_cli")):
         if shutil.which(program) is None:
             sys.exit(f"frontier.py: no program {program} (run `rt run` in crates/{crate} to build it)")
     checks: list[tuple[str, Callable[..., None], tuple[object, ...]]] = []
-    for number in range(given.count):
+    for number in range(options.count):
         for row in ROWS:
-            checks.append((f"{row.name}, run {number}", check_row, (row, Random(f"{given.seed} {number} {row.name}"))))
+            checks.append((f"{row.name}, run {number}", check_row, (row, Random(f"{options.seed} {number} {row.name}"))))
     checks += [(plan.name, check_ends, (plan,)) for plan in PLANS]
     checks += [(f"leaving {number}", check_left, (leaves,)) for number, leaves in enumerate(LEAVING)]
-    checks += [("steps of four threads", check_steps, (2_000, 4))] * given.count
-    checks = [check for check in checks if given.only in (None, check[0])]
+    checks += [("steps of four threads", check_steps, (2_000, 4))] * options.count
+    checks = [check for check in checks if options.only in (None, check[0])]
     if not checks:
-        sys.exit(f"frontier.py: no check has the name {given.only}")
+        sys.exit(f"frontier.py: no check has the name {options.only}")
 
     def error_of(name: str, check: Callable[..., None], arguments: tuple[object, ...]) -> str:
         """Return what a check finds wrong, or an empty text."""
         try:
             check(*arguments)
         except (Differs, subprocess.TimeoutExpired, IndexError, KeyError, ValueError) as error:
-            words = [sys.argv[0], "--seed", given.seed, "--count", str(given.count), "--only", name]
+            words = [sys.argv[0], "--seed", options.seed, "--count", str(options.count), "--only", name]
             named = "".join(f"{it}={shlex.quote(os.environ[it])} " for it in ("CALLS", "PROGRAM") if it in os.environ)
             return f"{name}: {type(error).__name__}: {error}\nto run only this: {named}{shlex.join(words)}"
         return ""
 
-    with ThreadPoolExecutor(given.jobs) as pool:
+    with ThreadPoolExecutor(options.jobs) as pool:
         errors = [error for error in pool.map(error_of, *zip(*checks)) if error]
     for error in errors:
         print(error)

@@ -88,25 +88,23 @@ PROGRAM = """//! Prints the links of the documents in a file.
 
 ghost use Rattle.std.specs.Prelude.{map};
 
-use html_links::{CountedLinks, Links, PlacedLinks, Syntax, read_places};
+use html_links::{CountedLinks, Links, Syntax, read_places};
 use std::alloc::{AllocError, Global};
 use std::io::Write;
 use std::{fs, io};
 
 #[derive(Drop)]
-struct Texts(Global, Vec<Vec<u8>>);
+struct Texts(Global, Vec<(usize, Vec<u8>)>);
 
 impl Links for Texts {
-    ghost texts = { λ all. map (λ text. text.items) all.1.items };
+    ghost texts = { λ all. map (λ link. link.1.items) all.1.items };
 
-    fn push(&mut self, text: &[u8]) -> Result<(), AllocError> {
-        self.1.push(Vec::from_slice(self.0, text)?)?;
+    ghost positions = { λ all. map (λ link. link.0) all.1.items };
+
+    fn push(&mut self, position: usize, text: &[u8]) -> Result<(), AllocError> {
+        self.1.push((position, Vec::from_slice(self.0, text)?))?;
         Ok(())
     }
-}
-
-impl PlacedLinks for Texts {
-    fn begin_at(&mut self, _: usize) {}
 }
 
 impl CountedLinks for Texts {
@@ -118,7 +116,7 @@ impl CountedLinks for Texts {
 /// Whether the first `count` texts are the same.
 fn begin_same(some: &Texts, all: &Texts, count: usize) -> bool {
     for (a, b) in some.1.iter().zip(&all.1).take(count) {
-        if a.as_slice() != b.as_slice() {
+        if a.0 != b.0 || a.1.as_slice() != b.1.as_slice() {
             return false;
         }
     }
@@ -139,8 +137,8 @@ fn main(rt: HostRuntime) -> io::Result<()> {
         if !begin_same(&first, &texts, half) {
             all.extend_from_slice(b"other first links\\x1e")?;
         }
-        for text in &texts.1 {
-            all.extend_from_slice(text.as_slice())?;
+        for link in &texts.1 {
+            all.extend_from_slice(link.1.as_slice())?;
             all.extend_from_slice(b"\\x1e")?;
         }
         all.extend_from_slice(b"\\x1d")?;

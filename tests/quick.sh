@@ -31,7 +31,7 @@ command_of() {
     manual_page) words=(tests/manual_page.py) ;;
     drawn) words=(tests/drawn.py --count 500) ;;
     check) words=(tests/check.py --drawn 20 --changed 2 --jobs 2) ;;
-    serve) words=(tests/serve.py --lines 2000 --part drawn_sessions --part drawn_parts --part all_at_once --part byte_by_byte --part compacted_logs --part lists --part stopped_compactions) ;;
+    serve) words=(tests/serve.py --lines 2000 --part random_sessions --part random_parts --part all_at_once --part byte_by_byte --part compacted_logs --part lists --part stopped_compactions) ;;
     service) words=(tests/service.py --part owners --part waits --part metrics --part killed_crawlers) ;;
     bell_model) words=(tests/bell_model.py) ;;
     converter) words=(tests/converter.py) ;;

@@ -34,7 +34,7 @@ part tests/cases.py
 part tests/drawn.py
 part tests/check.py --drawn 300 --changed 20
 part tests/frontier.py
-part tests/serve.py --program crates/mercator_cli/out/mercator_cli --lines 2000 --part drawn_sessions --part drawn_parts --part all_at_once --part byte_by_byte --part compacted_logs --part lists --part stopped_compactions
+part tests/serve.py --program crates/mercator_cli/out/mercator_cli --lines 2000 --part random_sessions --part random_parts --part all_at_once --part byte_by_byte --part compacted_logs --part lists --part stopped_compactions
 part tests/bell_model.py
 part tests/command-line.sh
 part tests/manual_page.py

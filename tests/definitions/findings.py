@@ -217,12 +217,14 @@ class Check:
     def reported_error(self) -> Optional[str]:
         """A part of the statement about all rows that does not hold."""
         crawled = self.crawled
-        links = self.call("site_check.Invalid.texts_if", self.settings.invalid, crawled.places, crawled.own)
+        scope = Record(invalid=self.settings.invalid)
+        links = self.call("site_check.Invalid.texts_if", scope.invalid, crawled.places, crawled.own)
         texts = sorted(set(map(unlisted, items(links))))
         names = self.call("mercator_site.Maps.names_of", self.folders)
         whole = self.whole()
         arguments = [
-            self.front, self.entries, links, self.settings.is_rooted(), names, self.files.value, crawled.own, crawled.found, self.report.broken, self.report.unused,
+            self.front, self.entries, scope, crawled.places, self.settings.is_rooted(), names, self.files.value, crawled.own, crawled.found,
+            self.report.broken, self.report.unused,
         ]
         failures = self.library.record_failures("site_check.Reported.AreReported", arguments, {
             "whole": whole,

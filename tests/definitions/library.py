@@ -45,12 +45,23 @@ def drop(count: int, values: Value) -> Value:
     return values
 
 
+# By the id of a list its rest and their number: a reader that asks for the number after each byte need not count all of them
+LENGTHS: Dict[int, Tuple[Value, int]] = {}
+MOST_LENGTHS = 1 << 10
+
+
 def length(values: Value) -> int:
     """The number of elements."""
-    count = 0
-    while values:
-        values = values[1]
+    count, rest = 0, values
+    while rest and id(rest) not in LENGTHS:
+        rest = rest[1]
         count += 1
+    if rest:
+        count += LENGTHS[id(rest)][1]
+    if values:
+        if len(LENGTHS) > MOST_LENGTHS:
+            LENGTHS.clear()
+        LENGTHS[id(values[1])] = values[1], count - 1
     return count
 
 
@@ -441,6 +452,8 @@ NATIVES: Dict[str, Native] = {
     "utf8_lossy": (utf8_lossy, 1), "is_utf8": (is_utf8, 1), "chars": (chars, 1), "trim": (trim, 1), "lines": (lines, 1),
     "str_eq_ignore_ascii_case": (str_eq_ignore_ascii_case, 2), "encode_utf8": (lambda c: text(chr(c).encode()), 1),
     "to_ascii_lowercase": (to_ascii_lowercase, 1), "str_to_ascii_lowercase": (lambda xs: text(unlisted(xs).lower()), 1), "digit_value": (digit_value, 1), "is_digit": (is_digit, 2), "is_control": (is_control, 1),
+    "is_ascii": (lambda b: b < 128, 1),
+    "is_c0_control_or_space": (lambda b: b <= 32, 1), "trim_start": (lambda f, xs: drop(prefix_len(f, xs), xs), 2),
     "is_ascii_alphanumeric": (lambda b: 48 <= b < 58 or 65 <= b < 91 or 97 <= b < 123, 1), "IsAscii": (lambda xs: all(b < 128 for b in items(xs)), 1),
     "percent_encode": (percent_encode, 2), "percent_decode": (percent_decode, 1), "rsplit_once": (rsplit_once, 2), "url.specs.Input.trim_end": (trim_end, 2),
     "strip_tabs_and_new_lines": (lambda xs: listed(b for b in items(xs) if b not in b"\t\n\r"), 1),

@@ -75,7 +75,7 @@ class Pages:
 
     def own(self, url: bytes, document: Value) -> Page:
         """The page at the own URL of a file."""
-        name = from_option(document, lambda found: unlisted(found.name))
+        name = from_option(document, lambda found: self.files.names[found.index])
         read = None if name is None else self.found.get(name)
         if name is None or self.model.site.document(name) is None:
             return self.page(text(url), ("Links", NIL))

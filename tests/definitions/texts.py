@@ -22,6 +22,7 @@ class Read(NamedTuple):
     """What the definitions find in a file."""
 
     links: Value  # the texts of its links as they are in the file
+    positions: Optional[List[int]]  # and their positions, if a definition has them
     written: Value  # as they are in a saved web
     fits: bool  # whether each can be in a line; otherwise the definitions say nothing of the links in a saved web
     base: Optional[str]
@@ -52,6 +53,7 @@ def options_of(files: Files, form: str) -> Record:
 def read(library: Library, files: Files, form: str, given: Value) -> Read:
     """What the definitions find in a file of a form with this text."""
     options = options_of(files, form)
+    positions = library.function("document_links.Places.positions_in")(KINDS.get(form, ("Document", options.syntax, options.styles)), given)
     if form in KINDS:
         links = library.function("document_links.Encoding.links_in")(KINDS[form], given)
         base, ids = NONE, NIL
@@ -61,8 +63,9 @@ def read(library: Library, files: Files, form: str, given: Value) -> Read:
         base, ids = library.function("html_links.Links.base_of")(syntax, given), library.function("html_links.Links.ids_of")(syntax, given)
     rooted = library.function("document_links.Rooted.all_rooted")(options.root, links)
     can_write, written = library.function("document_links.Written.can_write"), library.function("document_links.Written.written")
-    fits = all(map(can_write, items(rooted)))
-    return Read(links, listed(map(written, items(rooted))), fits, None if base[0] == "None" else unlisted(base[1]).decode(), ids)
+    fits = all(can_write(("Utf8",), link) for link in items(rooted))
+    placed = None if positions[0] == "None" else list(items(positions[1]))
+    return Read(links, placed, listed(map(written, items(rooted))), fits, None if base[0] == "None" else unlisted(base[1]).decode(), ids)
 
 
 def link_texts(library: Library, read_links: Value) -> List[str]:
@@ -87,8 +90,12 @@ def errors(library: Library, model: Model, files: Files, found: Dict[bytes, Read
             without_mark = library.function("document_links.Encoding.without_mark")
             if unlisted(utf8_lossy(without_mark(text(body)))) != utf8(given):
                 yield f"{name!r}: IsTextIn Utf8: another text than in the model"
+        if charset == "windows-1252" and unlisted(library.function("document_links.Encoding.windows_text")(text(body))) != utf8(given):
+            yield f"{name!r}: windows_text: another text than in the model"
         found[name] = read(library, files, form, value)
         yield from document_errors(library, name, document, found[name])
+        if found[name].positions is not None and found[name].positions != [len(utf8(given[:link.at])) for link in document.links]:
+            yield f"{name!r}: positions_in: {found[name].positions}, the model has {[link.at for link in document.links]}"
         if len(given) < SHORT:
             yield from point_errors(library, name, document, given)
     yield from anchor_errors(library, model, found)
