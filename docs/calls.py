@@ -26,7 +26,7 @@ CLAUSE = re.compile(r"^\s*(ensures|requires) ?(\w*) ?\{", re.M)
 class Call(NamedTuple):
     name: str
     signature: str
-    says: str
+    comment: str
     clauses: list[tuple[str, str, str]]
 
 
@@ -57,12 +57,12 @@ def exported(crate: Path) -> set[str]:
 
 def doc_above(lines: list[str], start: int) -> str:
     """The doc comment above a line, as one text."""
-    said: list[str] = []
+    lines_above: list[str] = []
     for line in map(str.strip, reversed(lines[:start])):
         if not line.startswith(("///", "#[")):
             break
-        said += [line[3:].strip()] if line.startswith("///") else []
-    return " ".join(reversed(said))
+        lines_above += [line[3:].strip()] if line.startswith("///") else []
+    return " ".join(reversed(lines_above))
 
 
 def head_of(lines: list[str], start: int) -> list[str]:
@@ -109,9 +109,9 @@ def lines_of(call: Call, errors: dict[str, list[str]]) -> Iterator[str]:
     memory = "NoMemory" in variants or bool(error and error[1] in ("AllocError", "NoMemory"))
     yield f"### `{call.name}`\n"
     yield f"```rust\nfn {call.name.split('::')[-1]}{call.signature}\n```\n"
-    says = call.says or "(no comment)"
+    comment = call.comment or "(no comment)"
     waiting = "May wait" if waits else "Does not wait"
-    yield f"{says} {waiting}; {'may' if memory else 'does not'} run out of memory.\n"
+    yield f"{comment} {waiting}; {'may' if memory else 'does not'} run out of memory.\n"
     if error:
         yield f"Errors: {', '.join(f'`{it}`' for it in variants) or f'`{error[1]}`'}.\n"
     for kind, label, clause in call.clauses:

@@ -175,23 +175,23 @@ def units_of_manual_page(text: str) -> Iterator[Unit]:
                 yield Unit(first, " ".join(pieces))
             pieces = []
             continue
-        said = macro[1].replace('"', "") if macro else line
+        content = macro[1].replace('"', "") if macro else line
         first = first if pieces else number
-        pieces.append(re.sub(r"\\f.", "", said).replace("\\-", "-").replace("\\|", ""))
+        pieces.append(re.sub(r"\\f.", "", content).replace("\\-", "-").replace("\\|", ""))
 
 
 def units_of_rattle(text: str) -> Iterator[Unit]:
     """The string literals of a Rattle file, but for the script of a page, cut at empty lines."""
     for token in RATTLE_TOKEN.finditer(text):
-        said = next((it for it in (token[1], token[3], token[4]) if it is not None), "")
-        if SCRIPT_OF_PAGE in said:
+        content = next((it for it in (token[1], token[3], token[4]) if it is not None), "")
+        if SCRIPT_OF_PAGE in content:
             continue
         if token[4] is not None:
-            said = re.sub(r"\\\n\s*", "", said)
-            said = re.sub(r"\\(.)", lambda it: RATTLE_ESCAPES.get(it[1], " "), said)
-        said = PLACEHOLDER.sub("X", said)
+            content = re.sub(r"\\\n\s*", "", content)
+            content = re.sub(r"\\(.)", lambda it: RATTLE_ESCAPES.get(it[1], " "), content)
+        content = PLACEHOLDER.sub("X", content)
         line = text.count("\n", 0, token.start()) + 1
-        yield from (Unit(line, paragraph) for paragraph in said.split("\n\n") if paragraph.strip())
+        yield from (Unit(line, paragraph) for paragraph in content.split("\n\n") if paragraph.strip())
 
 
 def units_of_comments(text: str) -> Iterator[Unit]:
@@ -201,14 +201,14 @@ def units_of_comments(text: str) -> Iterator[Unit]:
     is_fenced = False
     for number, line in enumerate((text + "\n\n").splitlines(), 1):
         comment = COMMENT.match(line)
-        said = (comment[2] or "") if comment else ""
-        if pieces and (not said or comment and comment[1]):
+        content = (comment[2] or "") if comment else ""
+        if pieces and (not content or comment and comment[1]):
             yield Unit(first, " ".join(pieces))
             pieces = []
-        is_fenced = comment is not None and is_fenced != said.startswith("```")
-        if said and not is_fenced and not said.startswith("```"):
+        is_fenced = comment is not None and is_fenced != content.startswith("```")
+        if content and not is_fenced and not content.startswith("```"):
             first = first if pieces else number
-            pieces.append(TICKED.sub("code", said))
+            pieces.append(TICKED.sub("code", content))
 
 
 def units_of_names(text: str) -> Iterator[Unit]:
@@ -217,8 +217,8 @@ def units_of_names(text: str) -> Iterator[Unit]:
     code = RATTLE_TOKEN.sub(lambda it: "\n" * it[0].count("\n"), text)
     known = {"where"}  # a keyword
     for number, line in enumerate(code.splitlines(), 1):
-        said = line.partition(" -- ")[0]
-        names = [] if IMPORT.match(said) or said.startswith("--") else NAME_IN_CODE.findall(said)
+        content = line.partition(" -- ")[0]
+        names = [] if IMPORT.match(content) or content.startswith("--") else NAME_IN_CODE.findall(content)
         added = [name for name in dict.fromkeys(names) if name not in known]
         known.update(added)
         if added:
@@ -229,14 +229,14 @@ def units_of_names(text: str) -> Iterator[Unit]:
 def functions_without_comment(text: str) -> Iterator[tuple[int, str]]:
     """The functions that no comment is written above, with their lines, but for a trait's methods
     in an implementation: the trait has the comment."""
-    is_said = is_of_trait = False
+    has_comment = is_of_trait = False
     for number, line in enumerate(text.splitlines(), 1):
         if re.match(r"\S", line):
             is_of_trait = re.match(r"(?:unsafe )?impl\b.* for ", line) is not None
         function = FUNCTION.match(line)
-        if function is not None and not is_said and not is_of_trait:
+        if function is not None and not has_comment and not is_of_trait:
             yield number, function[1]
-        is_said = line.lstrip().startswith("//") or is_said and line.lstrip().startswith("#[")
+        has_comment = line.lstrip().startswith("//") or has_comment and line.lstrip().startswith("#[")
 
 
 def units_of_python(text: str) -> Iterator[Unit]:
@@ -276,8 +276,8 @@ def units_of_shell(text: str) -> Iterator[Unit]:
         if is_top:
             yield Unit(number, line)
         elif re.match(r".*\b(?:echo|printf|fail|die) ", line):
-            for said in re.findall(r"\"[^\"]*\"|'[^']*'", line):
-                yield Unit(number, re.sub(r"\$\w+", "X", said.strip("\"'")))
+            for content in re.findall(r"\"[^\"]*\"|'[^']*'", line):
+                yield Unit(number, re.sub(r"\$\w+", "X", content.strip("\"'")))
 
 
 READERS: tuple[tuple[str, Callable[[str], Iterator[Unit]]], ...] = (
@@ -430,9 +430,9 @@ def is_meant(it: Phrase, file: str, unit: Unit) -> bool:
 
 def phrases_in(group: Group, file: str, text: str) -> Iterator[Found]:
     for unit in group.units_of(file, text):
-        said = re.sub(r"\s+", " ", unit.text)
+        content = re.sub(r"\s+", " ", unit.text)
         is_quoting = file.endswith(".md") or group.reader is not None
-        searched = QUOTATION.sub('""', said) if is_quoting else said
+        searched = QUOTATION.sub('""', content) if is_quoting else content
         for it in PHRASES:
             if it.name in group.without:
                 continue
@@ -441,19 +441,19 @@ def phrases_in(group: Group, file: str, text: str) -> Iterator[Found]:
                     around = searched[max(0, match.start() - 40):match.end() + 40]
                     yield Found(file, unit.line, it.name, around.strip())
         if file.endswith((".md", ".1")):
-            yield from too_long(file, unit, said)
+            yield from too_long(file, unit, content)
     if group.reader is units_of_comments and file.endswith(".rt") and not TESTS.search(file):
         for line, function in functions_without_comment(text):
             yield Found(file, line, NO_COMMENT, function)
 
 
-def too_long(file: str, unit: Unit, said: str) -> Iterator[Found]:
+def too_long(file: str, unit: Unit, content: str) -> Iterator[Found]:
     if unit.is_cell:
-        count = len(said.split())
+        count = len(content.split())
         if count > CELL_WORDS:
-            yield Found(file, unit.line, CELLS, f"{count} words: {said[:60]} ..")
+            yield Found(file, unit.line, CELLS, f"{count} words: {content[:60]} ..")
         return
-    for sentence in SENTENCE_END.split(said):
+    for sentence in SENTENCE_END.split(content):
         count = len(sentence.split())
         if count > SENTENCE_WORDS:
             yield Found(file, unit.line, SENTENCES, f"{count} words: {sentence[:60]} ..")
@@ -718,13 +718,13 @@ def main() -> int:
                        help="print the table CEILINGS with the counts as they are now")
     parser.add_argument("--root", type=Path, default=HERE, metavar="FOLDER",
                         help="the repository to check (default: the one with this script)")
-    given = parser.parse_args()
-    root = given.root.resolve()
-    if given.words is not None:
-        print_words(root, given.words)
-    elif given.counts is not None:
-        print_counts(root, given.counts or None)
-    elif given.ceilings:
+    options = parser.parse_args()
+    root = options.root.resolve()
+    if options.words is not None:
+        print_words(root, options.words)
+    elif options.counts is not None:
+        print_counts(root, options.counts or None)
+    elif options.ceilings:
         print_ceilings(root)
     else:
         return check(root)

@@ -64,7 +64,7 @@ THEOREMS = (
         Calls("crawl_session", "laws.rt"),
     )),
     ("An HTML document", (
-        Calls("html_links", "document.rt", ("tags",)), Calls("html_links", "reader.rt", ("read_links", "read_page")),
+        Calls("html_links", "document.rt", ("tags",)), Calls("html_links", "reader.rt", ("read_page",)), Calls("html_links", "placed.rt", ("read_places",)),
         Calls("html_links", "style.rt", ("read_style",)), Calls("document_links", "document.rt", ("read_document",)),
         Calls("document_links", "laws.rt"),
     )),
@@ -305,16 +305,16 @@ def table_of(path: str) -> Iterator[str]:
     for number, line in enumerate(lines):
         match = ROW.match(line)
         if match:
-            said = comment_above(lines, number)
-            if said or not rows:
-                rows.append(([match[1]], said))
+            comment = comment_above(lines, number)
+            if comment or not rows:
+                rows.append(([match[1]], comment))
             else:
                 rows[-1][0].append(match[1])
     if rows:
         yield "| Definition | In plain words |\n|---|---|"
-        for names, said in rows:
-            said = said.replace("|", "\\|")
-            yield f"| {', '.join(f'`{name}`' for name in names)} | {said} |"
+        for names, comment in rows:
+            comment = comment.replace("|", "\\|")
+            yield f"| {', '.join(f'`{name}`' for name in names)} | {comment} |"
         yield ""
 
 
