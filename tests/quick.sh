@@ -12,7 +12,7 @@ cd "$(dirname "$0")/.." || exit 1
 # shellcheck source=tests/parts.sh
 . tests/parts.sh
 
-parts=(format documents definitions character_names mercator_tests crawl_run_tests crawl_gate_tests crawl_text_tests frontier cases command_line manual_page drawn check serve service bell_model converter warc)
+parts=(format scripts documents definitions character_names mercator_tests crawl_run_tests crawl_gate_tests crawl_text_tests frontier cases command_line manual_page drawn check serve service bell_model converter warc)
 kept=tests/out/quick
 # A test of crawl_text_tests that no time limit fits. tests/run.sh runs it.
 too_long=tests::indices::finds_what_a_plain_search_finds
@@ -21,6 +21,7 @@ too_long=tests::indices::finds_what_a_plain_search_finds
 command_of() {
     case $1 in
     format) words=(format) ;;
+    scripts) words=(tests/scripts.py) ;;
     documents) words=(docs/check.py) ;;
     definitions) words=(docs/definitions.py --check) ;;
     character_names) words=(tools/character_names.py --check) ;;
@@ -57,7 +58,7 @@ reads() {
     local crates
     read -ra crates < <(programs "$1")
     case $1 in
-    format | documents | definitions | character_names) return ;;
+    format | scripts | documents | definitions | character_names) return ;;
     *_tests)
         crates+=("$1")
         echo tests/quick.sh

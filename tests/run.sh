@@ -1,5 +1,6 @@
 #!/bin/bash
-# Runs every test that a change must pass: the proofs, and then the tests of the program that they build. This is what CI runs.
+# Runs every test that a change must pass: first that the scripts name only what exists, then the proofs, and then the tests of the
+# program that they build. This is what CI runs.
 # It prints the output of each part, then what time it took, one line for each part, and on the last line `N passed, M failed` over
 # all. The exit status is 1 if anything failed.
 #
@@ -29,6 +30,7 @@ took() {
     echo "elapsed $((SECONDS / 60)) min $((SECONDS % 60)) s, CPU time $user in user mode and $system in system mode"
 }
 
+part tests/scripts.py
 part rt ci
 part tests/cases.py
 part tests/drawn.py
