@@ -308,8 +308,8 @@ def check_parts(results: Results) -> None:
 def check_crates(results: Results) -> None:
     lines = [line.partition("#")[0] for line in text_of("crates.txt").splitlines()]
     listed: Dict[str, List[str]] = {}
-    for head, _, libraries in (line.partition(":") for line in lines if line.strip()):
-        listed[head.split()[0]] = libraries.split()
+    for head, _, after in (line.partition(":") for line in lines if line.strip()):
+        listed[head.split()[0]] = after.split()
     folders = {it.name for it in (ROOT / "crates").iterdir() if (it / "src").is_dir()}
     for name in sorted(folders | set(listed)):
         error = None if name in folders and name in listed else "crates.txt and the folders of crates differ"

@@ -13,7 +13,6 @@ crawl of the saved web, which is kept.
 from __future__ import annotations
 
 import itertools
-import os
 import random
 import shlex
 import subprocess

@@ -7,7 +7,6 @@ from __future__ import annotations
 
 from typing import Dict, Iterator, List, Optional, Tuple
 
-from checking import feeds
 from checking.documents import TOOL, marked_text
 from checking.model import Site
 

@@ -7,7 +7,7 @@ from typing import Iterator, NamedTuple, Optional
 
 NEWLINE = r"(?:\r\n|[\n\r\f])"
 SPACES = re.compile(r"[ \t\n\r\f]*")
-ESCAPE = rf"\\(?:[0-9A-Fa-f]{{1,6}}(?:\r\n|[ \t\n\r\f])?|[^\n\r\f0-9A-Fa-f])"
+ESCAPE = r"\\(?:[0-9A-Fa-f]{1,6}(?:\r\n|[ \t\n\r\f])?|[^\n\r\f0-9A-Fa-f])"
 ESCAPED = re.compile(rf"\\(?:([0-9A-Fa-f]{{1,6}})(?:\r\n|[ \t\n\r\f])?|({NEWLINE})|(.)|\Z)", re.S)
 COMMENT = re.compile(r"/\*.*?(?:\*/|\Z)", re.S)
 # A name, also that of a rule after `@` or of a colour after `#`, or a number with its unit

@@ -14,8 +14,7 @@ from typing import Any, Callable, Dict, List, NamedTuple, Optional, Sequence, Tu
 
 from definitions import library, sources
 from definitions.antt import (
-    Apply, Clause, DataType, Definition, Elim, ForAll, Function, If, Infix, Let, Module, Name, Number, Project, Record, RecordType, Term, Text, Tuples, Unknown,
-    Use, module_of,
+    Apply, Clause, Elim, ForAll, Function, If, Infix, Let, Module, Name, Number, Project, Record, Term, Text, Tuples, Unknown, module_of,
 )
 from definitions.values import Decided, Value
 
