@@ -38,8 +38,8 @@ class Bug(NamedTuple):
 
 
 def bugs_in(text: str) -> List[Bug]:
-    """Return the bugs of a list."""
-    lines = [line for line in text.split("\n") if line and not line.startswith("#")]
+    """Return the bugs of a list. A comment begins with `#`."""
+    lines = [line for line in (line.partition("#")[0].strip() for line in text.split("\n")) if line]
     return [Bug(name, command.strip()) for name, _, command in (line.partition(":") for line in lines)]
 
 
