@@ -208,7 +208,8 @@ def main() -> None:
     parser.add_argument("--number", type=int, help="compare only the random folder with this number")
     parser.add_argument("--seed", type=int, default=1, help="the seed of the random folders (default: 1)")
     parser.add_argument("--package", action="append", default=[], metavar="NAME", help="compare a package of tests/real_sites.txt, too")
-    parser.add_argument("--cache", default=os.path.expanduser("~/.cache/mercator-sites"), help="the folder of unpacked packages")
+    parser.add_argument("--cache", type=Path, default=real_sites.CACHE, metavar="FOLDER",
+                        help=f"the folder of unpacked packages (default: {real_sites.CACHE})")
     parser.add_argument("--jobs", type=int, default=os.cpu_count() or 1, metavar="N", help="the number of processes (default: that of the processors)")
     parser.add_argument("--edits", action="store_true", help="check that each change of a definition makes a difference")
     parser.add_argument("--coverage", action="store_true", help="print which definitions were called")
@@ -228,8 +229,8 @@ def main() -> None:
         for compared, number in zip(pool.map(partial(compare_number, program, arguments.seed, arguments.coverage), numbers), numbers):
             totals.add(compared, ["--seed", str(arguments.seed), "--number", str(number)])
         if arguments.package:
-            os.makedirs(arguments.cache, exist_ok=True)
-            found = list(real_sites.packages(Path(arguments.cache), arguments.package))
+            arguments.cache.mkdir(parents=True, exist_ok=True)
+            found = list(real_sites.packages(arguments.cache, arguments.package))
             for compared in pool.map(partial(compare_package, program, arguments.coverage), found):
                 totals.add(compared, ["--drawn", "0", "--package", compared.name])
     if arguments.coverage:

@@ -43,6 +43,8 @@ from checking.sites import Site
 BASE = "http://docs.test/"  # of the saved web of a site that is checked without BASE
 SHOWN = 5  # the most differences of a site that are printed
 SECONDS = 600  # the time limit of a command
+# The folder of the packages.
+CACHE = Path(os.environ.get("XDG_CACHE_HOME") or os.path.expanduser("~/.cache"), "mercator-real-sites")
 
 
 class Options(NamedTuple):
@@ -253,9 +255,8 @@ def main() -> int:
     """Runs the comparisons."""
     parser = argparse.ArgumentParser(description=__doc__, formatter_class=argparse.RawDescriptionHelpFormatter)
     option = parser.add_argument
-    default = os.path.join(os.environ.get("XDG_CACHE_HOME") or os.path.expanduser("~/.cache"), "mercator-real-sites")
     option("names", nargs="*", metavar="NAME", help="package, generator, or `shipped`")
-    option("--cache", type=Path, default=Path(default), metavar="FOLDER", help=f"folder of the packages (default: {default})")
+    option("--cache", type=Path, default=CACHE, metavar="FOLDER", help=f"folder of the packages (default: {CACHE})")
     option("--sample", type=int, default=0, metavar="COUNT", help="number of random findings of each site that are printed (default: 0)")
     option("--seed", type=int, default=1, help="seed of the sample (default: 1)")
     option("--jobs", type=int, default=os.cpu_count() or 1, help="number of processes (default: that of the processors)")

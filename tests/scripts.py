@@ -5,7 +5,7 @@
 - Commands: a script that a command of a shell script or document runs accepts its arguments. A Python script reads them with its
   own parser, which ends the script before it does anything else; so each option exists, and each test that `--part` names. The
   text of any other script has each option and each plain name among its arguments.
-- Texts: a test, mistake or crate that another file names by its text is in the file that defines it (see TEXTS), and each part of
+- Texts: a test, mistake, package or crate that another file names by its text is in the file that defines it (see TEXTS), and each part of
   quick.sh has a command.
 - Crates: crates.txt has a line for each folder of `crates/`, and names no library that `rt ci` refuses, nor one that is neither in
   `crates/` nor in the toolchain. The toolchain's libraries are compared only if the command `rt` is found.
@@ -95,6 +95,7 @@ TEXTS = (
     Text("tests/clients.sh", r"\bnotices ([a-z]\w*)", MISTAKES, r"[\"']{}[\"']"),
     Text("clients/conformance/traps/*.txt", r"(?m)^mistakes (.*)$", MISTAKES, r"[\"']{}[\"']"),
     Text("tests/quick.sh", r"\btests::\w+::(\w+)", "crates/crawl_text_tests/src/tests/*.rt", r"\bfn {}\b"),
+    Text("tests/all.sh", r"--package (\S+)", "tests/real_sites.txt", r"(?m)^{} "),
     Text("tests/quick.sh", r"(?m)^parts=\(.*? ((?:\w+_tests )+)", "crates.txt", r"(?m)^{}\b"),
 )
 
