@@ -26,6 +26,11 @@ usage() {
     exit 3
 }
 
+# require COMMAND PACKAGE: exits if a command that --deb needs is missing.
+require() {
+    command -v "$1" > /dev/null || { echo "install.sh: --deb needs the command $1, which is in Debian's package $2" >&2; exit 1; }
+}
+
 built() {
     echo "install.sh: proving and building the program, unless that was done; it takes 80 CPU minutes .." >&2
     (cd "$here/crates/mercator_cli" && rt run -- --help) > "$scratch/told" 2>&1 || { cat "$scratch/told" >&2; exit 1; }
@@ -168,6 +173,11 @@ done
 [ $# -le 1 ] || usage "unexpected argument $2"
 # An empty argument is probably a variable that is not set.
 if [ $# -eq 1 ] && [ -z "$1" ]; then usage "the folder is an empty string"; fi
+if [ -n "$deb" ]; then
+    require dpkg-deb dpkg
+    require dpkg-shlibdeps dpkg-dev
+    require strip binutils
+fi
 scratch=$(mktemp -d)
 trap 'rm -rf "$scratch"' EXIT
 program=${program:-$(built)}

@@ -15,6 +15,7 @@ names in its text that its file imports or defines.
 from __future__ import annotations
 
 import re
+import signal
 import sys
 from pathlib import Path
 from typing import Iterable, Iterator, NamedTuple, Optional
@@ -370,6 +371,7 @@ def main() -> int:
     if missing:
         print(*missing, sep="\n", file=sys.stderr)
         return 1
+    signal.signal(signal.SIGPIPE, signal.SIG_DFL)  # the reader may end first, such as `head`
     print(page_of(Crates()), end="")
     return 0
 

@@ -72,6 +72,7 @@ part tests/cluster.sh
 part tests/clients.sh
 part tests/service.py
 part tests/install.sh
+part tests/new_user.py crates/mercator_cli/out/mercator_cli
 wait "$mutants_job"
 mutants_job=
 read -r status seconds < "$outputs/mutants.ended"

@@ -89,9 +89,25 @@ texts() {
     refused "FOLDER that is empty" "the folder is an empty string" --deb ''
     refused "PREFIX that looks like an option" "unknown option -x" -x
     refused "two prefixes" "unexpected argument b" a b
+    for command in dpkg-shlibdeps strip; do
+        expect "install.sh --deb without $command" is_required "$command"
+    done
     expect "make_wheel.py --help" sh -c 'cd "$1" && python3 "$2" --help | grep -q "^usage: " && [ ! -e ./--help ]' \
         sh "$scratch" "$PWD/clients/python/make_wheel.py"
     expect "one time to prove and build" has_one_build_time
+}
+
+# is_required COMMAND: without this command, install.sh --deb says so, exits with status 1, and makes no package.
+is_required() {
+    local status=0
+    rm -rf "$scratch/few" "$scratch/none"
+    mkdir "$scratch/few" "$scratch/none"
+    ln -s /usr/bin/* "$scratch/few"
+    rm -f "$scratch/few/$1"
+    PATH=$scratch/few ./install.sh --program "$program" --deb "$scratch/none" 2> "$scratch/required" || status=$?
+    cat "$scratch/required"
+    [ "$status" -eq 1 ] && grep -q "^install.sh: --deb needs the command $1, which is in Debian's package " "$scratch/required" \
+        && [ -z "$(find "$scratch/none" -mindepth 1)" ]
 }
 
 # The description of the package names the three main commands.
