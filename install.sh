@@ -26,12 +26,18 @@ usage() {
     exit 3
 }
 
+fail() {
+    echo "install.sh: $1" >&2
+    exit 1
+}
+
 # require COMMAND PACKAGE: exits if a command that --deb needs is missing.
 require() {
-    command -v "$1" > /dev/null || { echo "install.sh: --deb needs the command $1, which is in Debian's package $2" >&2; exit 1; }
+    command -v "$1" > /dev/null || fail "--deb needs the command $1, which is in Debian's package $2"
 }
 
 built() {
+    command -v rt > /dev/null || fail "the Rattle toolchain is required, and its command rt is not in PATH"
     echo "install.sh: proving and building the program, unless that was done; it takes 80 CPU minutes .." >&2
     (cd "$here/crates/mercator_cli" && rt run -- --help) > "$scratch/told" 2>&1 || { cat "$scratch/told" >&2; exit 1; }
     echo "$here/crates/mercator_cli/out/mercator_cli"

@@ -20,6 +20,7 @@ is_new() {
 
 if [ "${1:-}" = --proved ]; then
     shift
+    command -v rt > /dev/null || { echo "try.sh: the Rattle toolchain is required, and its command rt is not in PATH" >&2; exit 1; }
     echo "try.sh: proving and building the program, unless that was done; it takes 80 CPU minutes .." >&2
     (cd "$folder" && rt run -- --version) >&2
 elif ! is_new; then

@@ -90,23 +90,30 @@ texts() {
     refused "PREFIX that looks like an option" "unknown option -x" -x
     refused "two prefixes" "unexpected argument b" a b
     for command in dpkg-shlibdeps strip; do
-        expect "install.sh --deb without $command" is_required "$command"
+        expect "install.sh --deb without $command" lacks "$command" \
+            "install.sh: --deb needs the command $command, which is in Debian's package" ./install.sh --program "$program" --deb "$scratch/none"
     done
+    expect "install.sh without the toolchain" lacks rt \
+        "install.sh: the Rattle toolchain is required, and its command rt is not in PATH" ./install.sh "$scratch/none"
+    expect "try.sh --proved without the toolchain" lacks rt \
+        "try.sh: the Rattle toolchain is required, and its command rt is not in PATH" ./try.sh --proved
     expect "make_wheel.py --help" sh -c 'cd "$1" && python3 "$2" --help | grep -q "^usage: " && [ ! -e ./--help ]' \
         sh "$scratch" "$PWD/clients/python/make_wheel.py"
     expect "one time to prove and build" has_one_build_time
 }
 
-# is_required COMMAND: without this command, install.sh --deb says so, exits with status 1, and makes no package.
-is_required() {
-    local status=0
+# lacks COMMAND MESSAGE SCRIPT ARGUMENT..: without this command, the script only prints the message, and exits with status 1. Nothing
+# is installed in the folder `none`.
+lacks() {
+    local command=$1 message=$2 status=0
+    shift 2
     rm -rf "$scratch/few" "$scratch/none"
     mkdir "$scratch/few" "$scratch/none"
     ln -s /usr/bin/* "$scratch/few"
-    rm -f "$scratch/few/$1"
-    PATH=$scratch/few ./install.sh --program "$program" --deb "$scratch/none" 2> "$scratch/required" || status=$?
-    cat "$scratch/required"
-    [ "$status" -eq 1 ] && grep -q "^install.sh: --deb needs the command $1, which is in Debian's package " "$scratch/required" \
+    rm -f "$scratch/few/$command"
+    PATH=$scratch/few "$@" > "$scratch/printed" 2>&1 || status=$?
+    cat "$scratch/printed"
+    [ "$status" -eq 1 ] && [ "$(wc -l < "$scratch/printed")" -eq 1 ] && grep -qF "$message" "$scratch/printed" \
         && [ -z "$(find "$scratch/none" -mindepth 1)" ]
 }
 
