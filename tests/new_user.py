@@ -38,7 +38,7 @@ PIECE = re.compile(r"^#+ (?P<heading>[^\n]*)$|^```(?P<tag>\S+)\n(?P<body>.*?)^``
 PREPARED = r"mkdir -p ~/my-site; printf '<a href=gone.html>x</a>\n' > ~/my-site/index.html"
 # Lines in the output of a document's commands that no block `text` shows.
 EXPECTED: Dict[str, Tuple[str, ...]] = {
-    "README.md": ("broken links 1, missing pages 1, missing anchors 0", "index.html:1:4: gone.html: no such page", "installed below"),
+    "README.md": ("broken links 1, missing pages 1, missing anchors 0", "index.html:1:9: gone.html: no such page", "installed below"),
     "docs/GUIDE.md": (),
 }
 COUNTED = re.compile(r"^ +(\d+) (http://\S+)$", re.M)
