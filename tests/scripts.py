@@ -1,6 +1,7 @@
 #!/usr/bin/env python3
 """Check that scripts, and the commands in documents, name only what exists. This takes seconds and needs no program.
 
+- Syntax: bash reads each shell script, and Python each Python file.
 - Paths: a path of a script or document in a script leads to a file. A file that begins with `#!` is executable.
 - Commands: a script that a command of a shell script or document runs accepts its arguments. A Python script reads them with its
   own parser, which ends the script before it does anything else; so each option exists, and each test that `--part` names. The
@@ -19,6 +20,7 @@ The last line is `N passed, M failed`, and the exit status is 1 if anything fail
 
 from __future__ import annotations
 
+import ast
 import json
 import os
 import re
@@ -144,6 +146,27 @@ def tracked() -> List[str]:
 
 def text_of(name: str) -> str:
     return (ROOT / name).read_text("utf-8", "replace")
+
+
+# ---------------------------------------------------------------- syntax
+
+def syntax_error(name: str) -> Optional[str]:
+    """Return why bash or Python cannot read a script, or None."""
+    if name.endswith(".py"):
+        try:
+            ast.parse(text_of(name))
+        except SyntaxError as error:
+            return str(error)
+        return None
+    done = subprocess.run(["bash", "-n", ROOT / name], stdout=subprocess.PIPE, stderr=subprocess.STDOUT, encoding="utf-8", errors="replace")
+    return done.stdout.strip() or f"status {done.returncode}" if done.returncode else None
+
+
+def check_syntax(names: List[str], results: Results) -> None:
+    scripts = [it for it in names if PROGRAM.fullmatch(it)]
+    with ThreadPoolExecutor(os.cpu_count()) as pool:
+        for name, error in zip(scripts, pool.map(syntax_error, scripts)):
+            results.add(f"{name}: syntax", error)
 
 
 # ---------------------------------------------------------------- paths
@@ -366,6 +389,7 @@ def main() -> int:
         return 3
     results = Results()
     names = tracked()
+    check_syntax(names, results)
     check_paths(names, results)
     check_commands(names, results)
     check_texts(results)
