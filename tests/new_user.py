@@ -171,12 +171,16 @@ def remove_mounts(root: Path, toolchain: Path) -> None:
 
 
 def clone_to(machine: Machine, program: Optional[Path]) -> None:
-    """Make the clone, with the program if there is one, and give it to the user."""
+    """Make the clone, or renew the one of an earlier run, with the program if there is one, and give it to the user."""
     clone = machine.clone()
-    shutil.rmtree(clone, ignore_errors=True)
-    subprocess.run(["git", "clone", "-q", TOP, clone], check=True)
+    if clone.is_dir():
+        # What was built there is built again only if a source has changed.
+        for words in (["fetch", "-q", str(TOP), "HEAD"], ["reset", "-q", "--hard", "FETCH_HEAD"], ["clean", "-fdq"]):
+            subprocess.run(["git", "-c", "safe.directory=*", "-C", clone, *words], check=True)
+    else:
+        subprocess.run(["git", "clone", "-q", TOP, clone], check=True)
     if program is not None:
-        (clone / PROGRAM).parent.mkdir(parents=True)
+        (clone / PROGRAM).parent.mkdir(parents=True, exist_ok=True)
         shutil.copy(program, clone / PROGRAM)  # it is newer than the sources of the clone
     if machine.root is not None:
         subprocess.run(["chroot", machine.root, "chown", "-R", "user:", machine.home], check=True)
