@@ -4,7 +4,6 @@ mod findings;
 mod indices;
 mod keys;
 mod machine;
-mod rebuilding;
 mod sessions;
 mod shown_texts;
 mod start_tags;

@@ -4,47 +4,6 @@ use std::alloc::Global;
 use std::cmp::Ordering;
 use std::collections::HashSet;
 
-/// A text, and the text and the host key of its canonical URL.
-type Host = (&'static str, &'static str, &'static str);
-
-// The last two have 64 bytes, the most that lie in what copies share, and 65.
-const HOSTS: &[Host] = &[
-    ("http://a.test?q#f", "http://a.test/?q", "a.test"),
-    ("http://u:p@a.test./", "http://u:p@a.test./", "a.test."),
-    ("http://[::1]:80/", "http://[::1]/", "[::1]"),
-    ("HTTPS://A.Test:443", "https://a.test/", "a.test"),
-    ("http://A.test:443/", "http://a.test:443/", "a.test"),
-    (
-        "http://a.test/12345678901234567890123456789012345678901234567890",
-        "http://a.test/12345678901234567890123456789012345678901234567890",
-        "a.test",
-    ),
-    (
-        "http://a.test/123456789012345678901234567890123456789012345678901",
-        "http://a.test/123456789012345678901234567890123456789012345678901",
-        "a.test",
-    ),
-];
-
-#[test]
-fn canonical_hosts(rt: HostRuntime) {
-    for row in HOSTS {
-        assert!(rt; is_host(rt.alloc(), row), "{}", row.0);
-    }
-}
-
-// Whether the text has this URL, and a copy of it is equal, also as a key of maps.
-fn is_host(alloc: Global, row: &Host) -> bool {
-    let Ok(url) = canonical(alloc, row.0) else {
-        return false;
-    };
-    let is_copied = match url.copy() {
-        Ok(copy) => copy == url && copy.hashed() == url.hashed(),
-        Err(_) => false,
-    };
-    url.as_str() == row.1 && url.host_key() == row.2 && is_copied
-}
-
 /// A host key and its hash.
 const HASHES: &[(&str, u32)] = &[
     ("a.test", 2_823_066_111),
@@ -141,32 +100,6 @@ fn is_expected(found: Result<CanonUrl, KeyError>, text: &str) -> bool {
     }
 }
 
-const BASES: &[Row] = &[
-    ("http://A.test:80/x/../y#f", "http://a.test/y"),
-    ("http://a.test?q#f?g#h", "http://a.test/?q"),
-    ("https://a.test/x#", "https://a.test/x"),
-    ("http://a.test/%20?%41' #f", "http://a.test/%20?%41%27%20"),
-    ("http://u:p@[::1]:81/x", "http://u:p@[::1]:81/x"),
-    ("ftp://a.test/#f", "not http or https"),
-    ("ftp://a.test/", "not http or https"),
-    ("/x", "not a URL"),
-];
-
-#[test]
-fn bases_of_texts(rt: HostRuntime) {
-    for row in BASES {
-        assert!(rt; is_base(rt.alloc(), row), "{}", row.0);
-    }
-}
-
-// Whether the base of the text has this URL, to which a link to an anchor of the page leads.
-fn is_base(alloc: Global, row: &Row) -> bool {
-    match Base::canonical(alloc, row.0) {
-        Ok(base) => base.as_str() == row.1 && is_expected(base.resolve(alloc, "#g"), row.1),
-        Err(error) => is_expected(Err(error), row.1),
-    }
-}
-
 /// Two pages, and whether both lie in one folder.
 type Pair = (&'static str, &'static str, bool);
 
@@ -237,39 +170,6 @@ fn compares(alloc: Global, input: &str) -> Option<Ordering> {
     let is_same = order == Ordering::Equal;
     if is_equal == is_same && is_key == is_same {
         Some(order)
-    } else {
-        None
-    }
-}
-
-const ALLOWED: &[(&str, bool)] = &[
-    ("http://a.test:8080/", true),
-    ("http://x.a.test/", true),
-    ("http://xa.test/", false),
-    ("http://a.test./", false),
-];
-
-// A filter and its copy allow the same URLs. An error has the index of a bad suffix.
-#[test]
-fn filter_suffixes(rt: HostRuntime) {
-    let second = Filter::new(rt.alloc(), &["a.test", ""]).err();
-    assert!(rt;
-        second == Some(FilterError::BadSuffix(1)),
-        "the second suffix is bad"
-    );
-    for (text, is_within) in ALLOWED {
-        assert!(rt; is_allowed(rt.alloc(), text) == Some(*is_within), "{text}");
-    }
-}
-
-// Whether the filter of one suffix allows the URL. None if its copy does not agree.
-fn is_allowed(alloc: Global, text: &str) -> Option<bool> {
-    let url = canonical(alloc, text).ok()?;
-    let filter = Filter::new(alloc, &["a.test"]).ok()?;
-    let copy = filter.copy().ok()?;
-    let is_allowed = filter.allows(&url);
-    if copy.allows(&url) == is_allowed {
-        Some(is_allowed)
     } else {
         None
     }

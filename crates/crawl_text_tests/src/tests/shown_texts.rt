@@ -25,6 +25,18 @@ const ROWS: &[Row] = &[
         "~\\u{80}\\u{9b}\\u{9f}\u{a0}\u{bf}\u{c0}é",
         "~\\u{80}\\u{9b}\\u{9f}\u{a0}\u{bf}\u{c0}é",
     ),
+    // a next line, and characters whose numbers are bytes of the first character
+    ("\u{85}", "\\u{85}", "\\u{85}"),
+    (
+        "\u{c2}\u{9b}\u{84} z",
+        "\u{c2}\\u{9b}\\u{84} z",
+        "\u{c2}\\u{9b}\\u{84} z",
+    ),
+    (
+        "\u{201b}\u{202e}x\u{2066}y\u{2069}",
+        "\u{201b}\\u{202e}x\\u{2066}y\\u{2069}",
+        "\u{201b}\\u{202e}x\\u{2066}y\\u{2069}",
+    ),
     // the separators and bidirectional controls, and the characters before and after them
     (
         "\u{2027}\u{2028}\u{2029}\u{202a}\u{202e}\u{202f}",
