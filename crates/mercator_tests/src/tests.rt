@@ -3,5 +3,4 @@ mod errors;
 mod failing;
 mod folders;
 mod inputs;
-mod reports;
 mod runs;

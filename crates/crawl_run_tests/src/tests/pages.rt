@@ -1,8 +1,7 @@
 //! Pages as values: the order of their links, and their redirects.
-use crate::tests::results::{are_urls, result_of};
+use crate::tests::results::{are_urls, result_at};
 use crate::tests::webs::MOVED;
 use crawl_pages::{Page, links_of};
-use saved_web::SavedWeb;
 use std::alloc::Global;
 
 /// The page of a saved web at a URL: its kind, the number of skipped links, and the URLs that it leads to.
@@ -96,16 +95,8 @@ fn pages_of_saved_webs(rt: HostRuntime) {
     }
 }
 
-// A second fetch returns the same page.
 fn has_page(alloc: Global, row: &Row) -> bool {
-    match SavedWeb::read(alloc, row.web.as_bytes()) {
-        Ok(web) => gives_page(alloc, &web, row) && gives_page(alloc, &web, row),
-        Err(_) => false,
-    }
-}
-
-fn gives_page(alloc: Global, web: &SavedWeb, row: &Row) -> bool {
-    let Some(result) = result_of(alloc, web, row.url) else {
+    let Some(result) = result_at(alloc, &(row.web, row.url)) else {
         return false;
     };
     let is_kind = match &result.page {

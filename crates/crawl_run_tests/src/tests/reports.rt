@@ -2,16 +2,21 @@
 use crate::tests::results::{Target, is_report, result_at};
 use crate::tests::webs::{MOVED, RING, RING_REPORT};
 use crawl_pages::{Page, PageResult};
-use crawl_report::{Report, Sections, Sources, print_in_chunks};
+use crawl_report::{Report, Sections, Sources, print_in_chunks, queue_text};
 use std::alloc::Global;
 use std::thread::Threads;
 
-/// Results in their order of arrival, their report, and where its missing URLs are linked from.
+/// Results in their order of arrival, and their report. If they arrive in the order of their URLs, also the sources of its missing URLs.
 struct Row {
     results: &'static [Target],
     report: &'static str,
-    sources: &'static str,
+    sources: Option<&'static str>,
 }
+
+/// The queues of each report.
+const QUEUES: &[u64] = &[3, 0];
+
+const QUEUE_LINES: &str = "queue 0 3\nqueue 1 0\n";
 
 const RING_A: Target = (RING, "http://a.test/");
 
@@ -54,33 +59,43 @@ const ROWS: &[Row] = &[
     Row {
         results: &[],
         report: "total 0 ok 0 missing 0\n",
-        sources: "",
+        sources: Some(""),
     },
     Row {
         results: &[RING_A, RING_B, RING_C, RING_GONE],
         report: RING_REPORT,
-        sources: RING_SOURCES,
+        sources: Some(RING_SOURCES),
     },
     Row {
         results: &[RING_GONE, RING_C, RING_B, RING_A],
         report: RING_REPORT,
-        sources: RING_SOURCES,
+        sources: None,
     },
     Row {
         results: &[RING_C, RING_A, RING_GONE, RING_B],
         report: RING_REPORT,
-        sources: RING_SOURCES,
+        sources: None,
     },
     // Results with one URL keep their order.
     Row {
         results: &[OTHER, FIRST, SECOND, THIRD],
         report: "ok 1 0 http://a.test/\nok 2 1 http://a.test/\nmissing http://a.test/\nmissing http://a.test/2\ntotal 4 ok 2 missing 2\n",
-        sources: "from 0 - http://a.test/\nfrom 0 - http://a.test/2\n",
+        sources: None,
+    },
+    Row {
+        results: &[FIRST, SECOND, THIRD, OTHER],
+        report: "ok 1 0 http://a.test/\nok 2 1 http://a.test/\nmissing http://a.test/\nmissing http://a.test/2\ntotal 4 ok 2 missing 2\n",
+        sources: Some("from 0 - http://a.test/\nfrom 0 - http://a.test/2\n"),
     },
     Row {
         results: &[THIRD, SECOND, OTHER, FIRST],
         report: "missing http://a.test/\nok 2 1 http://a.test/\nok 1 0 http://a.test/\nmissing http://a.test/2\ntotal 4 ok 2 missing 2\n",
-        sources: "from 0 - http://a.test/\nfrom 0 - http://a.test/2\n",
+        sources: None,
+    },
+    Row {
+        results: &[THIRD, SECOND, FIRST, OTHER],
+        report: "missing http://a.test/\nok 2 1 http://a.test/\nok 1 0 http://a.test/\nmissing http://a.test/2\ntotal 4 ok 2 missing 2\n",
+        sources: Some("from 0 - http://a.test/\nfrom 0 - http://a.test/2\n"),
     },
     Row {
         results: &[
@@ -89,7 +104,16 @@ const ROWS: &[Row] = &[
             (MOVED, "http://b.test/"),
         ],
         report: "moved http://a.test/\nmoved http://b.test/\nok 1 0 http://c.test/\ntotal 3 ok 1 missing 0 moved 2\n",
-        sources: "",
+        sources: None,
+    },
+    Row {
+        results: &[
+            (MOVED, "http://a.test/"),
+            (MOVED, "http://b.test/"),
+            (MOVED, "http://c.test/"),
+        ],
+        report: "moved http://a.test/\nmoved http://b.test/\nok 1 0 http://c.test/\ntotal 3 ok 1 missing 0 moved 2\n",
+        sources: Some(""),
     },
     Row {
         results: &[
@@ -101,7 +125,7 @@ const ROWS: &[Row] = &[
             (BROKEN, "http://z.test/"),
         ],
         report: BROKEN_REPORT,
-        sources: BROKEN_SOURCES,
+        sources: Some(BROKEN_SOURCES),
     },
     Row {
         results: &[
@@ -113,18 +137,18 @@ const ROWS: &[Row] = &[
             (BROKEN, "http://a.test/"),
         ],
         report: BROKEN_REPORT,
-        sources: BROKEN_SOURCES,
+        sources: None,
     },
     // `gone` is linked from both, and is not a result.
     Row {
         results: &[(BROKEN, "http://a.test/"), (BROKEN, "http://a.test/b")],
         report: "ok 3 0 http://a.test/\nok 2 0 http://a.test/b\ntotal 2 ok 2 missing 0\n",
-        sources: "",
+        sources: Some(""),
     },
     Row {
         results: &[(BROKEN, "http://a.test/gone")],
         report: "missing http://a.test/gone\ntotal 1 ok 0 missing 1\n",
-        sources: "from 0 - http://a.test/gone\n",
+        sources: Some("from 0 - http://a.test/gone\n"),
     },
     // The order is by bytes, not by number or letter. A duplicate result counts twice, and has two lines.
     Row {
@@ -137,7 +161,21 @@ const ROWS: &[Row] = &[
             (LETTERS, "http://a.test/9"),
         ],
         report: "ok 1 0 http://a.test/10\nok 2 0 http://a.test/9\nok 2 0 http://a.test/9\nmissing http://a.test/X\nmissing http://a.test/x\nmissing http://a.test/x\ntotal 6 ok 3 missing 3\n",
-        sources: "from 2 http://a.test/9 http://a.test/X\nfrom 3 http://a.test/10 http://a.test/x\nfrom 3 http://a.test/10 http://a.test/x\n",
+        sources: None,
+    },
+    Row {
+        results: &[
+            (LETTERS, "http://a.test/10"),
+            (LETTERS, "http://a.test/9"),
+            (LETTERS, "http://a.test/9"),
+            (LETTERS, "http://a.test/X"),
+            (LETTERS, "http://a.test/x"),
+            (LETTERS, "http://a.test/x"),
+        ],
+        report: "ok 1 0 http://a.test/10\nok 2 0 http://a.test/9\nok 2 0 http://a.test/9\nmissing http://a.test/X\nmissing http://a.test/x\nmissing http://a.test/x\ntotal 6 ok 3 missing 3\n",
+        sources: Some(
+            "from 2 http://a.test/9 http://a.test/X\nfrom 3 http://a.test/10 http://a.test/x\nfrom 3 http://a.test/10 http://a.test/x\n",
+        ),
     },
 ];
 
@@ -145,91 +183,77 @@ const ROWS: &[Row] = &[
 fn reports_and_sources(rt: HostRuntime) {
     let wrong = first_wrong(&rt, rt.alloc(), ROWS);
     assert!(rt; wrong.is_none(), "{}", wrong.unwrap_or(""));
+    let queues = queue_text(rt.alloc(), QUEUES);
+    assert!(rt; queues.is_ok_and(|text| text.as_slice() == QUEUE_LINES.as_bytes()));
 }
 
-// The first text that is printed otherwise.
+// The first report of another text.
 fn first_wrong<R: Threads + Sync>(rt: &R, alloc: Global, rows: &[Row]) -> Option<&'static str> {
     for row in rows {
-        if !is_reported(alloc, row) {
+        if !is_row(rt, alloc, row) {
             return Some(row.report);
-        }
-        if !is_printed(rt, alloc, row) {
-            return Some(row.sources);
         }
     }
     None
 }
 
-fn is_reported(alloc: Global, row: &Row) -> bool {
-    let mut results = Vec::new(alloc);
-    push_results(alloc, &mut results, row.results)
-        && is_report(alloc, &results, row.report)
-        && are_copied(&results)
-}
-
-fn push_results(alloc: Global, results: &mut Vec<PageResult>, targets: &[Target]) -> bool {
-    for target in targets {
-        let Some(result) = result_at(alloc, target) else {
-            return false;
-        };
-        if results.push(result).is_err() {
-            return false;
-        }
-    }
-    true
-}
-
-// Whether the results, in the order of their URLs, are printed as their report and then its sources.
-fn is_printed<R: Threads + Sync>(rt: &R, alloc: Global, row: &Row) -> bool {
-    let Ok(mut targets) = Vec::from_slice(alloc, row.results) else {
+fn is_row<R: Threads + Sync>(rt: &R, alloc: Global, row: &Row) -> bool {
+    let Some(results) = results_of(alloc, row.results) else {
         return false;
     };
-    let mut results = Vec::new(alloc);
-    targets.sort_by(|a, b| a.1.cmp(b.1)).is_ok()
-        && push_results(alloc, &mut results, &targets)
-        && is_text(rt, alloc, &results, row)
+    let is_printed = match row.sources {
+        Some(sources) => is_printed(rt, alloc, &results, row.report, sources),
+        None => true,
+    };
+    is_printed && is_report(alloc, &results, row.report)
 }
 
-fn is_text<R: Threads + Sync>(rt: &R, alloc: Global, results: &[PageResult], row: &Row) -> bool {
+fn results_of(alloc: Global, targets: &[Target]) -> Option<Vec<PageResult>> {
+    let mut results = Vec::new(alloc);
+    for target in targets {
+        results.push(result_at(alloc, target)?).ok()?;
+    }
+    Some(results)
+}
+
+// Whether the results are printed as their report, then the queues, and then the sources.
+fn is_printed<R: Threads + Sync>(
+    rt: &R,
+    alloc: Global,
+    results: &[PageResult],
+    report: &str,
+    sources: &str,
+) -> bool {
+    match printed(rt, alloc, results) {
+        Some(text) => is_text(text.as_slice(), report, sources),
+        None => false,
+    }
+}
+
+fn is_text(text: &[u8], report: &str, sources: &str) -> bool {
+    let Some(rest) = text.strip_prefix(report.as_bytes()) else {
+        return false;
+    };
+    rest.strip_prefix(QUEUE_LINES.as_bytes()) == Some(sources.as_bytes())
+}
+
+// The report of results in the order of their URLs.
+fn printed<R: Threads + Sync>(rt: &R, alloc: Global, results: &[PageResult]) -> Option<Vec<u8>> {
     let report = Report {
         pages: results,
-        queues: &[],
+        queues: QUEUES,
         unreached: &[],
         sections: Sections {
             sources: Sources::First,
             ..Sections::none()
         },
     };
-    match print_in_chunks(rt, alloc, &report, false, false) {
-        Ok(chunks) => are_chunks(alloc, &chunks, row),
-        Err(_) => false,
-    }
-}
-
-fn are_chunks(alloc: Global, chunks: &[Vec<u8>], row: &Row) -> bool {
+    let chunks = print_in_chunks(rt, alloc, &report, false, true).ok()?;
     let mut text = Vec::new(alloc);
-    for chunk in chunks {
-        if text.extend_from_slice(chunk).is_err() {
-            return false;
-        }
+    for chunk in &chunks {
+        text.extend_from_slice(chunk).ok()?;
     }
-    match text.as_slice().strip_prefix(row.report.as_bytes()) {
-        Some(rest) => rest == row.sources.as_bytes(),
-        None => false,
-    }
-}
-
-// Whether a copy of each is equal.
-fn are_copied(results: &[PageResult]) -> bool {
-    for one in results {
-        let Ok(copy) = one.copy() else {
-            return false;
-        };
-        if copy != *one {
-            return false;
-        }
-    }
-    true
+    Some(text)
 }
 
 /// A saved web, and the report of its page as if it had more links by the most that a `u64` can count.

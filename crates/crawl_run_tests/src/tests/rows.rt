@@ -1,9 +1,8 @@
 //! Test vectors: what workers lose, and what they find, in order.
 use crate::tests::results::have_urls;
 use crate::tests::runs::{How, Left, Run};
-use crate::tests::sources::{Counting, Fails, OneMoved};
+use crate::tests::sources::{Counting, Fails};
 use crate::tests::webs::TWO_LINKS;
-use crawl_keys::canonical;
 use std::alloc::Global;
 use std::sync::Wait;
 use std::thread::Threads;
@@ -172,25 +171,4 @@ fn rows_of_workers(rt: HostRuntime) {
     for row in ROWS.iter() {
         assert!(rt; row.holds(&rt, rt.alloc()), "{}", row.name);
     }
-}
-
-// What a run of one worker leaves whose source has one page, which has moved.
-fn left_of_moved<R: Threads + Wait + Sync>(rt: &R, alloc: Global) -> Option<Left> {
-    let source = OneMoved {
-        from: canonical(alloc, A).ok()?,
-        to: canonical(alloc, B).ok()?,
-    };
-    let run = Run {
-        workers: 1,
-        max_pending: 9,
-        within: &[],
-        seeds: &[A],
-        how: How::Turns,
-    };
-    run.left(rt, alloc, &source)
-}
-
-#[test]
-fn follows_a_page_that_moved(rt: HostRuntime) {
-    assert!(rt; is_left(&left_of_moved(&rt, rt.alloc()), 0, &[A, B]));
 }

@@ -1,10 +1,10 @@
 //! Sources of pages.
-ghost use Rattle.std.specs.Prelude.{if◌then◌else◌, [], ◌∷◌, Some, bytes_eq};
-ghost use Rattle.crawl_pages.specs.declared.page.Page.TheVariants.{Found, Moved, Missing};
+ghost use Rattle.std.specs.Prelude.{if◌then◌else◌, Some, bytes_eq};
+ghost use Rattle.crawl_pages.specs.declared.page.Page.TheVariants.{Moved, Missing};
 ghost use Rattle.saved_web.specs.KnownPages.{page_at};
 
 use crawl_keys::CanonUrl;
-use crawl_pages::{Fetch, FetchError, Links, Page};
+use crawl_pages::{Fetch, FetchError, Page};
 use saved_web::SavedWeb;
 use std::alloc::Global;
 use std::hint;
@@ -28,32 +28,6 @@ impl Fetch for OneMoved {
             Ok(to) => Ok(Page::Moved { to: Some(to) }),
             Err(_) => Err(FetchError::NoMemory),
         }
-    }
-}
-
-/// One page with one link, and nothing else.
-#[derive(Drop)]
-pub struct OneLink {
-    pub from: CanonUrl,
-    pub to: CanonUrl,
-}
-
-impl Fetch for OneLink {
-    ghost meaning = { λ source url. if bytes_eq source.from url then Found (source.to ∷ []) 0 else Missing };
-
-    fn fetch(&self, alloc: Global, url: &CanonUrl) -> Result<Page, FetchError> {
-        if self.from != *url {
-            return Ok(Page::Missing);
-        }
-        let Ok(to) = self.to.copy() else {
-            return Err(FetchError::NoMemory);
-        };
-        let mut links = Vec::new(alloc);
-        links.push(to)?;
-        Ok(Page::Found {
-            links: Links::from(links),
-            skipped: 0,
-        })
     }
 }
 

@@ -39,18 +39,9 @@ pub type Texts = &'static [&'static str];
 /// The filter and the seeds that are given to the certificate, what is changed in the results, and the expected outcome.
 pub type Case = (Texts, Texts, Change, Expected);
 
-#[derive(Clone, Copy)]
-pub enum Change {
-    Nothing,
-    /// Without the result of this URL.
-    Without(&'static str),
-    /// The result of the first URL is a page with a link to the second.
-    Links(&'static str, &'static str),
-    /// The page of the first URL moved to the second, or to none.
-    Moves(&'static str, Option<&'static str>),
-    /// One more result: this URL is missing.
-    More(&'static str),
-}
+/// A change of results: a URL, the saved web from which its result comes instead, and a URL for one more result, which is missing.
+/// Without a saved web the URL has no result.
+pub type Change = (&'static str, &'static str, &'static str);
 
 #[derive(Clone, Copy)]
 pub enum Expected {
@@ -62,7 +53,6 @@ pub enum Expected {
     Error(CertError, &'static str),
 }
 
-use Change::{Links, More, Moves, Nothing, Without};
 use Expected::{Count, Error, Pages};
 
 const A: &str = "http://a.test/";
@@ -105,31 +95,95 @@ page http://b.test/
 link http://a.test/
 ";
 
+const NOTHING: Change = ("", "", "");
+
+const GONE_TO_D: Change = (
+    GONE,
+    "savedweb 1\npage http://c.test/gone\nlink http://d.test/",
+    "",
+);
+
+const GONE_TO_B: Change = (
+    GONE,
+    "savedweb 1\npage http://c.test/gone\nlink http://b.test/",
+    "",
+);
+
+const C_TO_GONE: Change = (
+    C,
+    "savedweb 1\npage http://c.test/\nlink http://c.test/gone",
+    "",
+);
+
+const C_TO_A: Change = (
+    C,
+    "savedweb 1\npage http://c.test/\nlink http://a.test/",
+    "",
+);
+
+const B_TO_A: Change = (
+    B,
+    "savedweb 1\npage http://b.test/\nlink http://a.test/",
+    "",
+);
+
+const A_TO_B: Change = (
+    A,
+    "savedweb 1\npage http://a.test/\nlink http://b.test/",
+    "",
+);
+
+const A_MOVED: Change = (A, "savedweb 2\npage http://a.test/\nmoved mailto:x", "");
+
+const B_MOVED_TO_D: Change = (
+    B,
+    "savedweb 2\npage http://b.test/\nmoved http://d.test/",
+    "",
+);
+
+const B_MOVED_TO_A: Change = (
+    B,
+    "savedweb 2\npage http://b.test/\nmoved http://a.test/",
+    "",
+);
+
+const MORE_D: Change = ("", "", D);
+
+const MORE_GONE: Change = ("", "", GONE);
+
+const MORE_A: Change = ("", "", A);
+
+const MORE_B: Change = ("", "", B);
+
+const WITHOUT_GONE: Change = (GONE, "", "");
+
+const WITHOUT_B: Change = (B, "", "");
+
 const CERTIFICATE_ERRORS: &[Case] = &[
-    (NONE, &[A], Nothing, Pages(ALL_FOUR)),
-    (NONE, &[A, A], Nothing, Pages(ALL_FOUR)),
-    (NONE, &[A, D], Nothing, Error(SeedMissing, D)),
-    (NONE, &[A], Without(GONE), Error(NotFetched, GONE)),
-    (NONE, &[A], Links(GONE, D), Error(LinkMissing, D)),
-    (NONE, &[A], Links(GONE, B), Pages(ALL_FOUR)),
-    (NONE, NONE, Nothing, Error(Unfounded, A)),
-    (NONE, &[B], Nothing, Error(Unfounded, A)),
-    (NONE, &[A], More(D), Error(Unfounded, D)),
-    (NONE, &[A], More(GONE), Error(Twice, GONE)),
-    (NONE, &[A], More(A), Error(Twice, A)),
-    (NONE, &[A], Links(C, GONE), Pages(ALL_FOUR)),
+    (NONE, &[A], NOTHING, Pages(ALL_FOUR)),
+    (NONE, &[A, A], NOTHING, Pages(ALL_FOUR)),
+    (NONE, &[A, D], NOTHING, Error(SeedMissing, D)),
+    (NONE, &[A], WITHOUT_GONE, Error(NotFetched, GONE)),
+    (NONE, &[A], GONE_TO_D, Error(LinkMissing, D)),
+    (NONE, &[A], GONE_TO_B, Pages(ALL_FOUR)),
+    (NONE, NONE, NOTHING, Error(Unfounded, A)),
+    (NONE, &[B], NOTHING, Error(Unfounded, A)),
+    (NONE, &[A], MORE_D, Error(Unfounded, D)),
+    (NONE, &[A], MORE_GONE, Error(Twice, GONE)),
+    (NONE, &[A], MORE_A, Error(Twice, A)),
+    (NONE, &[A], C_TO_GONE, Pages(ALL_FOUR)),
     // No page links to `gone`, and then none to `c`.
-    (NONE, &[A], Links(C, A), Error(Unfounded, GONE)),
-    (NONE, &[A], Links(B, A), Error(Unfounded, C)),
+    (NONE, &[A], C_TO_A, Error(Unfounded, GONE)),
+    (NONE, &[A], B_TO_A, Error(Unfounded, C)),
     // If there are several errors, the first one is returned.
-    (NONE, &[D], Without(GONE), Error(SeedMissing, D)),
-    (NONE, &[B], Without(GONE), Error(NotFetched, GONE)),
-    (NONE, &[B], Links(GONE, D), Error(LinkMissing, D)),
-    (NONE, &[B], More(GONE), Error(Unfounded, A)),
+    (NONE, &[D], WITHOUT_GONE, Error(SeedMissing, D)),
+    (NONE, &[B], WITHOUT_GONE, Error(NotFetched, GONE)),
+    (NONE, &[B], GONE_TO_D, Error(LinkMissing, D)),
+    (NONE, &[B], MORE_GONE, Error(Unfounded, A)),
     // If several URLs have the error, the least one is named.
-    (NONE, &[E, A, D], Nothing, Error(SeedMissing, D)),
-    (NONE, &[A], Moves(A, None), Error(Unfounded, B)),
-    (NONE, NONE, More(D), Error(Unfounded, A)),
+    (NONE, &[E, A, D], NOTHING, Error(SeedMissing, D)),
+    (NONE, &[A], A_MOVED, Error(Unfounded, B)),
+    (NONE, NONE, MORE_D, Error(Unfounded, A)),
 ];
 
 /// Groups of small webs.
@@ -157,12 +211,12 @@ pub static GROUPS: [Group; 10] = [
         seeds: &[A, C],
         web: MOVED,
         cases: &[
-            (NONE, &[A, C], Nothing, Pages(ALL_FOUR)),
-            (NONE, &[A, C], Without(B), Error(NotFetched, B)),
-            (NONE, &[A, C], Moves(B, Some(D)), Error(LinkMissing, D)),
-            (NONE, &[A, C], Moves(B, Some(A)), Pages(ALL_FOUR)),
-            (NONE, &[A, C], Moves(A, None), Error(Unfounded, B)),
-            (NONE, &[A, C], More(A), Error(Twice, A)),
+            (NONE, &[A, C], NOTHING, Pages(ALL_FOUR)),
+            (NONE, &[A, C], WITHOUT_B, Error(NotFetched, B)),
+            (NONE, &[A, C], B_MOVED_TO_D, Error(LinkMissing, D)),
+            (NONE, &[A, C], B_MOVED_TO_A, Pages(ALL_FOUR)),
+            (NONE, &[A, C], A_MOVED, Error(Unfounded, B)),
+            (NONE, &[A, C], MORE_A, Error(Twice, A)),
         ],
     },
     // After the change only `b` links to `c`, and it has the same number of hops.
@@ -173,8 +227,8 @@ pub static GROUPS: [Group; 10] = [
         seeds: &[A],
         web: TRIANGLE,
         cases: &[
-            (NONE, &[A], Nothing, Pages(ALL_FOUR)),
-            (NONE, &[A], Links(A, B), Error(Unfounded, C)),
+            (NONE, &[A], NOTHING, Pages(ALL_FOUR)),
+            (NONE, &[A], A_TO_B, Error(Unfounded, C)),
         ],
     },
     // Two pages link to each other: without a seed among them they are not reached.
@@ -185,9 +239,9 @@ pub static GROUPS: [Group; 10] = [
         seeds: &[C, A],
         web: CYCLE,
         cases: &[
-            (NONE, &[C, A], Nothing, Pages(&[A, B, C])),
-            (NONE, &[C], Nothing, Error(Unfounded, A)),
-            (NONE, &[C, B], Nothing, Error(Unfounded, A)),
+            (NONE, &[C, A], NOTHING, Pages(&[A, B, C])),
+            (NONE, &[C], NOTHING, Error(Unfounded, A)),
+            (NONE, &[C, B], NOTHING, Error(Unfounded, A)),
         ],
     },
     // Neither a seed nor links to `b.test` are errors.
@@ -198,11 +252,11 @@ pub static GROUPS: [Group; 10] = [
         seeds: &[A, B],
         web: TRIANGLE,
         cases: &[
-            (WITHIN_A_AND_C, &[A, B], Nothing, Pages(&[A, C, GONE])),
-            (NONE, &[A, B], Nothing, Error(SeedMissing, B)),
-            (NONE, &[A], Nothing, Error(LinkMissing, B)),
-            (WITHIN_A, &[A], Nothing, Error(Unfounded, C)),
-            (WITHIN_A_AND_C, &[A, B], More(B), Error(Unfounded, B)),
+            (WITHIN_A_AND_C, &[A, B], NOTHING, Pages(&[A, C, GONE])),
+            (NONE, &[A, B], NOTHING, Error(SeedMissing, B)),
+            (NONE, &[A], NOTHING, Error(LinkMissing, B)),
+            (WITHIN_A, &[A], NOTHING, Error(Unfounded, C)),
+            (WITHIN_A_AND_C, &[A, B], MORE_B, Error(Unfounded, B)),
         ],
     },
     Group {
@@ -211,7 +265,7 @@ pub static GROUPS: [Group; 10] = [
         within: &["b.test"],
         seeds: &[A, B],
         web: RING,
-        cases: &[(&["b.test"], &[A, B], Nothing, Pages(&[B]))],
+        cases: &[(&["b.test"], &[A, B], NOTHING, Pages(&[B]))],
     },
     Group {
         name: "within_suffix, all",
@@ -219,7 +273,7 @@ pub static GROUPS: [Group; 10] = [
         within: &["test"],
         seeds: &[A, B],
         web: RING,
-        cases: &[(&["test"], &[A, B], Nothing, Pages(ALL_FOUR))],
+        cases: &[(&["test"], &[A, B], NOTHING, Pages(ALL_FOUR))],
     },
     Group {
         name: "within_suffix, without its dot",
@@ -227,7 +281,7 @@ pub static GROUPS: [Group; 10] = [
         within: &["est"],
         seeds: &[A, B],
         web: RING,
-        cases: &[(&["est"], &[A, B], Nothing, Pages(NONE))],
+        cases: &[(&["est"], &[A, B], NOTHING, Pages(NONE))],
     },
     Group {
         name: "no_seeds",
@@ -235,7 +289,7 @@ pub static GROUPS: [Group; 10] = [
         within: NONE,
         seeds: NONE,
         web: RING,
-        cases: &[(NONE, NONE, Nothing, Pages(NONE))],
+        cases: &[(NONE, NONE, NOTHING, Pages(NONE))],
     },
 ];
 
@@ -271,6 +325,62 @@ const C3: &str = "http://a.test/c3";
 
 const C4: &str = "http://a.test/c4";
 
+const IN_CHUNK_1_TO_D: Change = (
+    IN_CHUNK_1,
+    "savedweb 1\npage http://a.test/p10007\nlink http://d.test/",
+    "",
+);
+
+const IN_CHUNK_2_TO_D: Change = (
+    IN_CHUNK_2,
+    "savedweb 1\npage http://a.test/p12000\nlink http://d.test/",
+    "",
+);
+
+const IN_CHUNK_3_TO_D: Change = (
+    IN_CHUNK_3,
+    "savedweb 1\npage http://a.test/p13000\nlink http://d.test/",
+    "",
+);
+
+const IN_CHUNK_4_TO_D: Change = (
+    IN_CHUNK_4,
+    "savedweb 1\npage http://a.test/p14000\nlink http://d.test/",
+    "",
+);
+
+const IN_CHUNK_1_TO_ITSELF: Change = (
+    IN_CHUNK_1,
+    "savedweb 1\npage http://a.test/p10007\nlink http://a.test/p10007",
+    "",
+);
+
+const IN_CHUNK_2_TO_ITSELF: Change = (
+    IN_CHUNK_2,
+    "savedweb 1\npage http://a.test/p12000\nlink http://a.test/p12000",
+    "",
+);
+
+const IN_CHUNK_3_TO_ITSELF: Change = (
+    IN_CHUNK_3,
+    "savedweb 1\npage http://a.test/p13000\nlink http://a.test/p13000",
+    "",
+);
+
+const IN_CHUNK_4_TO_ITSELF: Change = (
+    IN_CHUNK_4,
+    "savedweb 1\npage http://a.test/p14000\nlink http://a.test/p14000",
+    "",
+);
+
+const MORE_IN_CHUNK_1: Change = ("", "", IN_CHUNK_1);
+
+const MORE_IN_CHUNK_2: Change = ("", "", IN_CHUNK_2);
+
+const MORE_IN_CHUNK_3: Change = ("", "", IN_CHUNK_3);
+
+const MORE_IN_CHUNK_4: Change = ("", "", IN_CHUNK_4);
+
 /// A run with enough results that four threads look at a chunk each. An error in any chunk is an error of the run. A page in
 /// each chunk links to no entry, or to itself; or it is fetched once more, at the end of the last chunk.
 pub static ERRORS_IN_EACH_CHUNK: Group = Group {
@@ -280,39 +390,19 @@ pub static ERRORS_IN_EACH_CHUNK: Group = Group {
     seeds: &[A],
     web: LONG_WEB,
     cases: &[
-        (NONE, &[A], Nothing, Count(5_001)),
-        (NONE, &[A], Links(IN_CHUNK_1, D), Error(LinkMissing, D)),
-        (NONE, &[A], Links(IN_CHUNK_2, D), Error(LinkMissing, D)),
-        (NONE, &[A], Links(IN_CHUNK_3, D), Error(LinkMissing, D)),
-        (NONE, &[A], Links(IN_CHUNK_4, D), Error(LinkMissing, D)),
-        (
-            NONE,
-            &[A],
-            Links(IN_CHUNK_1, IN_CHUNK_1),
-            Error(Unfounded, C1),
-        ),
-        (
-            NONE,
-            &[A],
-            Links(IN_CHUNK_2, IN_CHUNK_2),
-            Error(Unfounded, C2),
-        ),
-        (
-            NONE,
-            &[A],
-            Links(IN_CHUNK_3, IN_CHUNK_3),
-            Error(Unfounded, C3),
-        ),
-        (
-            NONE,
-            &[A],
-            Links(IN_CHUNK_4, IN_CHUNK_4),
-            Error(Unfounded, C4),
-        ),
-        (NONE, &[A], More(IN_CHUNK_1), Error(Twice, IN_CHUNK_1)),
-        (NONE, &[A], More(IN_CHUNK_2), Error(Twice, IN_CHUNK_2)),
-        (NONE, &[A], More(IN_CHUNK_3), Error(Twice, IN_CHUNK_3)),
-        (NONE, &[A], More(IN_CHUNK_4), Error(Twice, IN_CHUNK_4)),
+        (NONE, &[A], NOTHING, Count(5_001)),
+        (NONE, &[A], IN_CHUNK_1_TO_D, Error(LinkMissing, D)),
+        (NONE, &[A], IN_CHUNK_2_TO_D, Error(LinkMissing, D)),
+        (NONE, &[A], IN_CHUNK_3_TO_D, Error(LinkMissing, D)),
+        (NONE, &[A], IN_CHUNK_4_TO_D, Error(LinkMissing, D)),
+        (NONE, &[A], IN_CHUNK_1_TO_ITSELF, Error(Unfounded, C1)),
+        (NONE, &[A], IN_CHUNK_2_TO_ITSELF, Error(Unfounded, C2)),
+        (NONE, &[A], IN_CHUNK_3_TO_ITSELF, Error(Unfounded, C3)),
+        (NONE, &[A], IN_CHUNK_4_TO_ITSELF, Error(Unfounded, C4)),
+        (NONE, &[A], MORE_IN_CHUNK_1, Error(Twice, IN_CHUNK_1)),
+        (NONE, &[A], MORE_IN_CHUNK_2, Error(Twice, IN_CHUNK_2)),
+        (NONE, &[A], MORE_IN_CHUNK_3, Error(Twice, IN_CHUNK_3)),
+        (NONE, &[A], MORE_IN_CHUNK_4, Error(Twice, IN_CHUNK_4)),
     ],
 };
 

@@ -2,39 +2,28 @@
 use crate::tests::certificate::tables::{PAGES, WORKERS, many_hosts};
 use crate::tests::runs::Left;
 use crawl_certificate::testing::seen_linked;
-use std::alloc::Global;
-use std::test::Fail;
+use std::alloc::{AllocError, Global};
+use std::sync::Wait;
 use std::thread::Threads;
 
 // Page n links to pages 2n + 1 and 2n + 2, to itself and to the page before, in twenty hosts.
-fn web_of_many_hosts(alloc: Global) -> Result<String, Fail> {
+fn web_of_many_hosts(alloc: Global) -> Result<String, AllocError> {
     let mut text = String::from_str(alloc, "savedweb 1\n")?;
     for page in 0..PAGES {
-        push_line(alloc, &mut text, "page", page)?;
-        push_links(alloc, &mut text, page)?;
+        push_page(&mut text, page)?;
     }
     Ok(text)
 }
 
-fn push_links(alloc: Global, text: &mut String, page: u32) -> Result<(), Fail> {
+fn push_page(text: &mut String, page: u32) -> Result<(), AllocError> {
+    writeln!(text, "page http://h{}.test/p{page}", page % 20)?;
     let first = page.saturating_mul(2).saturating_add(1);
     for to in [first, first.saturating_add(1), page, page.saturating_sub(1)] {
         if to < PAGES {
-            push_line(alloc, text, "link", to)?;
+            writeln!(text, "link http://h{}.test/p{to}", to % 20)?;
         }
     }
     Ok(())
-}
-
-fn push_line(alloc: Global, text: &mut String, word: &str, page: u32) -> Result<(), Fail> {
-    let url = url_of(alloc, page)?;
-    let line = format!(in alloc; "{word} {url}\n")?;
-    text.push_str(&line)?;
-    Ok(())
-}
-
-fn url_of(alloc: Global, page: u32) -> Result<String, Fail> {
-    Ok(format!(in alloc; "http://h{}.test/p{page}", page % 20)?)
 }
 
 // Whether there is this number of pages, and every entry with hops is seen to be linked.
@@ -54,16 +43,29 @@ fn is_all_seen<R: Threads + Sync>(rt: &R, alloc: Global, run: &Left) -> bool {
     index == PAGES as usize
 }
 
-#[test]
-fn links_seen_by_threads(rt: HostRuntime) -> Result<(), Fail> {
-    let text = web_of_many_hosts(rt.alloc())?;
-    for workers in WORKERS {
-        let group = many_hosts(workers);
-        let seen = match group.left(&rt, rt.alloc(), &text) {
-            Some(run) => is_all_seen(&rt, rt.alloc(), &run),
+// The first of these numbers of workers whose crawl leaves an entry that is not seen to be linked.
+fn first_unseen<R: Threads + Wait + Sync>(
+    rt: &R,
+    alloc: Global,
+    text: &str,
+    numbers: &[u32],
+) -> Option<u32> {
+    for &workers in numbers {
+        let is_seen = match many_hosts(workers).left(rt, alloc, text) {
+            Some(run) => is_all_seen(rt, alloc, &run),
             None => false,
         };
-        assert!(rt; seen, "{workers} workers");
+        if !is_seen {
+            return Some(workers);
+        }
     }
-    Ok(())
+    None
+}
+
+#[test]
+fn links_seen_by_threads(rt: HostRuntime) {
+    match web_of_many_hosts(rt.alloc()) {
+        Ok(text) => assert_eq!(rt; first_unseen(&rt, rt.alloc(), &text, &WORKERS), None),
+        Err(_) => assert!(rt; false, "out of memory"),
+    }
 }

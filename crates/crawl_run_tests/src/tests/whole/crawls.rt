@@ -3,10 +3,9 @@ use crate::tests::results::{is_report, urls_of};
 use crate::tests::webs::{NOTHING, RING, RING_REPORT, TWO_LINKS, TWO_LINKS_REPORT};
 use crawl_certificate::CertError;
 use crawl_frontier::FrontierError;
-use crawl_keys::{CanonUrl, Filter};
+use crawl_keys::Filter;
 use crawl_pages::SessionFetch;
 use crawl_run::{CrawlError, Crawled, Mode, crawl};
-use crawl_sources::read_seeds;
 use saved_web::SavedWeb;
 use std::alloc::Global;
 use std::sync::Wait;
@@ -33,27 +32,15 @@ impl Plan {
         alloc: Global,
         source: &F,
     ) -> Option<Result<Crawled, CrawlError>> {
-        self.result_from(rt, alloc, source, &urls_of(alloc, self.seeds))
-    }
-
-    // The result of the crawl from these seeds.
-    fn result_from<F: SessionFetch + Sync, R: Threads + Wait + Sync>(
-        self,
-        rt: &R,
-        alloc: Global,
-        source: &F,
-        seeds: &[CanonUrl],
-    ) -> Option<Result<Crawled, CrawlError>> {
         let every = Filter::new(alloc, &[]).ok()?;
-        let (workers, max_pending) = (self.workers, self.max_pending);
         Some(crawl(
             rt,
             alloc,
             source,
             &every,
-            seeds,
-            workers,
-            max_pending,
+            &urls_of(alloc, self.seeds),
+            self.workers,
+            self.max_pending,
             self.mode,
         ))
     }
@@ -235,39 +222,4 @@ fn first_wrong<R: Threads + Wait + Sync>(
 fn saved_webs_in_turn_and_in_threads(rt: HostRuntime) {
     assert_eq!(rt; first_wrong(&rt, rt.alloc(), ROWS, Mode::Turns), None);
     assert_eq!(rt; first_wrong(&rt, rt.alloc(), ROWS, Mode::Threads), None);
-}
-
-const LISTED: &str = "\nhttp://c.test\r\n\n";
-
-const REPORT_OF_BOTH: &str = "ok 3 1 http://a.test/\n\
-    ok 2 0 http://b.test/\n\
-    ok 2 0 http://c.test/\n\
-    missing http://c.test/gone\n\
-    missing http://x.test/\n\
-    total 5 ok 3 missing 2\n";
-
-/// The pages of a crawl of the ring from a file of seeds and those given.
-fn crawled_from<R: Threads + Wait + Sync>(
-    rt: &R,
-    alloc: Global,
-    given: &[&str],
-) -> Option<Crawled> {
-    let web = SavedWeb::read(alloc, RING.as_bytes()).ok()?;
-    let mut seeds = read_seeds(alloc, LISTED.as_bytes()).ok()?;
-    seeds.append(&mut urls_of(alloc, given)).ok()?;
-    let plan = Plan {
-        seeds: &[],
-        workers: 2,
-        max_pending: 100,
-        mode: Mode::Turns,
-    };
-    plan.result_from(rt, alloc, &web, &seeds)?.ok()
-}
-
-#[test]
-fn seeds_of_a_file_before_those_given(rt: HostRuntime) {
-    let found = crawled_from(&rt, rt.alloc(), &["http://x.test/"]);
-    assert!(rt;
-        found.is_some_and(|found| is_report(rt.alloc(), found.result.pages(), REPORT_OF_BOTH))
-    );
 }

@@ -1,6 +1,6 @@
 //! Calls of `crawl` with sources that fail, wait, or are defined here.
 use crate::tests::results::is_report;
-use crate::tests::sources::{Counting, Fails, OneLink};
+use crate::tests::sources::{Counting, Fails, OneMoved};
 use crate::tests::webs::{RING, RING_REPORT};
 use crate::tests::whole::crawls::{A, B, Plan};
 use crawl_certificate::CertError;
@@ -64,24 +64,25 @@ fn plan(seeds: &'static [&'static str], workers: u32, mode: Mode) -> Plan {
     }
 }
 
-/// The outcome of a crawl of a page with one link.
-fn one_link<R: Threads + Wait + Sync>(rt: &R, alloc: Global, mode: Mode) -> Option<Outcome> {
+/// The outcome of a crawl of a page that has moved.
+fn one_moved<R: Threads + Wait + Sync>(rt: &R, alloc: Global, mode: Mode) -> Option<Outcome> {
     let expected = Expected {
-        report: "ok 1 0 http://a.test/\nmissing http://b.test/\ntotal 2 ok 1 missing 1\n",
+        report: "moved http://a.test/\nmissing http://b.test/\ntotal 2 ok 0 missing 1 moved 1\n",
         counts: &[1, 1, 0],
     };
-    let source = OneLink {
+    let source = OneMoved {
         from: canonical(alloc, A).ok()?,
         to: canonical(alloc, B).ok()?,
     };
     Some(outcome_by(rt, alloc, &source, plan(&[A], 3, mode), expected))
 }
 
-// Both pages are found, and counted.
+// Both URLs are found, and counted.
 #[test]
-fn a_source_of_ones_own(rt: HostRuntime) {
-    assert!(rt; one_link(&rt, rt.alloc(), Mode::Turns) == Some(Outcome::Expected));
-    assert!(rt; one_link(&rt, rt.alloc(), Mode::Threads) == Some(Outcome::Expected));
+fn follows_a_page_that_moved(rt: HostRuntime) {
+    for mode in [Mode::Turns, Mode::Threads] {
+        assert!(rt; one_moved(&rt, rt.alloc(), mode) == Some(Outcome::Expected));
+    }
 }
 
 /// The outcome of a crawl of the ring, of which some fetches fail.
