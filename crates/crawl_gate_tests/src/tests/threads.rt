@@ -2,7 +2,7 @@
 ghost use Rattle.crawl_gate.specs.Seat.{IsSeatOf};
 
 use crate::tests::endings::{Ending, closed, entered};
-use crawl_gate::{ClosedPass, Enter, Gate, Pass, Unit};
+use crawl_gate::{Enter, Gate, Pass, Unit};
 use std::sync::Wait;
 use std::sync::atomic::{AtomicU64, Ordering};
 use std::test::Fail;
@@ -105,16 +105,4 @@ fn never_more_than_the_maximum_inside(rt: HostRuntime) -> Result<(), Fail> {
     let (gate, opening) = Gate::new(rt.alloc(), ROOM)?;
     assert!(rt; has_room(&rt, &gate, opening));
     Ok(())
-}
-
-fn is_shared<T: Sync>() {}
-
-fn is_sent<T: Send>() {}
-
-#[test]
-fn gates_are_shared_and_seats_are_sent(_rt: HostRuntime) {
-    is_shared::<Gate>();
-    is_sent::<Unit>();
-    is_sent::<Pass>();
-    is_sent::<ClosedPass>();
 }
