@@ -19,8 +19,8 @@ use crate::filters::filter_by;
 use crate::hands::{Hand, Part, admit_by, another, finish, leave, offer, open, push, take_turn};
 use crate::notes::{Note, Outcome};
 use crate::running::{Plan, run_all};
-use crawl_frontier::{Account, Entry, FinishError, Frontier, FrontierError, Name, Setup, Turn};
-use crawl_keys::{CanonUrl, Filter, canonical};
+use crawl_frontier::{Account, FinishError, Frontier, Name, Setup, Turn};
+use crawl_keys::{Filter, canonical};
 use std::alloc::Global;
 use std::marker::Brand;
 use std::sync::Wait;
@@ -66,15 +66,6 @@ fn print_outcome<R: Print>(rt: &R, outcome: Outcome) {
     let _ = println!(rt; "{word} {first} {second}");
 }
 
-fn print_taken<R: Print>(rt: &R, hops: u32, url: &CanonUrl) {
-    let text = url.as_str();
-    let _ = println!(rt; "taken {hops} {text}");
-}
-
-fn print_idle<R: Print>(rt: &R, count: u64) {
-    let _ = println!(rt; "idle {count}");
-}
-
 fn print_word<R: Print>(rt: &R, word: &str) {
     let _ = println!(rt; "{word}");
 }
@@ -82,9 +73,13 @@ fn print_word<R: Print>(rt: &R, word: &str) {
 // Prints what the hand does now.
 fn print_part<K: Name, R: Print>(rt: &R, part: &Part<K>) {
     match part {
-        Part::Worker(Turn::Busy(worker)) => print_taken(rt, worker.hops(), worker.url()),
+        Part::Worker(Turn::Busy(worker)) => {
+            let _ = println!(rt; "taken {} {}", worker.hops(), worker.url().as_str());
+        }
         Part::Worker(Turn::Idle(_, 0)) => print_word(rt, "done"),
-        Part::Worker(Turn::Idle(_, count)) => print_idle(rt, *count),
+        Part::Worker(Turn::Idle(_, count)) => {
+            let _ = println!(rt; "idle {count}");
+        }
         Part::Worker(Turn::Closed(_)) => print_word(rt, "closed"),
         Part::Sender(_) => print_word(rt, "ended"),
         _ => print_word(rt, "gone"),
@@ -144,19 +139,15 @@ fn call_of<K: Name, R: Print + Wait>(
     }
 }
 
-fn print_note<R: Print>(rt: &R, place: usize, note: &Note) {
-    let Outcome {
-        word,
-        first,
-        second,
-    } = note.outcome;
-    let (page, late) = (note.page, note.late);
-    let _ = println!(rt; "{place} {word} {page} {first} {second} {late}");
-}
-
 fn print_notes<R: Print>(rt: &R, place: usize, notes: &[Note]) {
     for note in notes {
-        print_note(rt, place, note);
+        let Outcome {
+            word,
+            first,
+            second,
+        } = note.outcome;
+        let (page, late) = (note.page, note.late);
+        let _ = println!(rt; "{place} {word} {page} {first} {second} {late}");
     }
 }
 
@@ -173,21 +164,7 @@ fn run<K: Name + Send + Sync, R: Print + Threads + Wait + Sync>(
     }
 }
 
-// Whether the seeder at this place made one more sender, at the end of the list.
-fn made<K: Name>(
-    alloc: Global,
-    frontier: &Frontier<K>,
-    hands: &mut Vec<Hand<K>>,
-    place: usize,
-    id: u64,
-) -> bool {
-    let sender = match hands.get_mut(place) {
-        Some(hand) => another(alloc, frontier, &mut hand.part, id),
-        None => return false,
-    };
-    push(alloc, hands, sender)
-}
-
+// Makes one more sender by the seeder whose place the text begins with, at the end of the list.
 fn print_made<K: Name, R: Print>(
     rt: &R,
     alloc: Global,
@@ -197,23 +174,12 @@ fn print_made<K: Name, R: Print>(
 ) {
     let (place, text) = size(text);
     let (id, _) = number(text);
-    let is_made = made(alloc, frontier, hands, place, id);
+    let Some(hand) = hands.get_mut(place) else {
+        return print_word(rt, "not made");
+    };
+    let sender = another(alloc, frontier, &mut hand.part, id);
+    let is_made = push(alloc, hands, sender);
     print_word(rt, if is_made { "made" } else { "not made" });
-}
-
-// A call of the hand whose place the text begins with, if there is such a hand.
-fn call_at<K: Name, R: Print + Wait>(
-    rt: &R,
-    alloc: Global,
-    frontier: &Frontier<K>,
-    hands: &mut [Hand<K>],
-    verb: &str,
-    text: &str,
-) {
-    let (place, text) = size(text);
-    if let Some(hand) = hands.get_mut(place) {
-        call_of(rt, alloc, frontier, hand, verb, text);
-    }
 }
 
 fn call<K: Name + Send + Sync, R: Print + Threads + Wait + Sync>(
@@ -228,19 +194,23 @@ fn call<K: Name + Send + Sync, R: Print + Threads + Wait + Sync>(
         "#" => print_word(rt, line),
         "run" => run(rt, alloc, frontier, hands.as_mut_slice(), plan_of(text)),
         "another" => print_made(rt, alloc, frontier, hands, text),
-        _ => call_at(rt, alloc, frontier, hands.as_mut_slice(), verb, text),
+        _ => {
+            let (place, text) = size(text);
+            if let Some(hand) = hands.get_mut(place) {
+                call_of(rt, alloc, frontier, hand, verb, text);
+            }
+        }
     }
-}
-
-fn print_entry<R: Print>(rt: &R, queue: u32, entry: &Entry) {
-    let (url, sender, number, hops) = (entry.url.as_str(), entry.sender, entry.number, entry.hops);
-    let _ = println!(rt; "entry {queue} {sender} {number} {hops} {url}");
 }
 
 fn print_account<R: Print>(rt: &R, account: &Account) {
     for queue in 0..account.workers() {
         for entry in account.queue(queue) {
-            print_entry(rt, queue, entry);
+            let (sender, number, hops) = (entry.sender, entry.number, entry.hops);
+            let _ = println!(rt;
+                "entry {queue} {sender} {number} {hops} {}",
+                entry.url.as_str()
+            );
         }
     }
 }
@@ -283,10 +253,6 @@ where
     print_end(rt, finish(alloc, frontier, hands));
 }
 
-fn print_error<R: Print>(rt: &R, error: FrontierError) {
-    let _ = println!(rt; "{error}");
-}
-
 // Makes the calls of a block, or returns nothing if an allocation fails first.
 fn run_block<R: Print + Threads + Wait + Sync>(rt: &R, alloc: Global, block: &str) -> Option<()> {
     let (first, lines) = block.split_once('\n').unwrap_or((block, ""));
@@ -298,7 +264,9 @@ fn run_block<R: Print + Threads + Wait + Sync>(rt: &R, alloc: Global, block: &st
     let workers = u32::try_from(workers).unwrap_or(u32::MAX);
     match Setup::new(alloc, workers, max_pending) {
         Ok(setup) => calls::<Brand, R>(rt, alloc, setup, &filter, &Lines { text }),
-        Err(error) => print_error(rt, error),
+        Err(error) => {
+            let _ = println!(rt; "{error}");
+        }
     }
     Some(())
 }

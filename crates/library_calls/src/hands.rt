@@ -3,7 +3,6 @@
 ghost use Rattle.std.specs.Prelude.{◌≡◌};
 
 use crate::notes::{Notes, Outcome};
-use crawl_frontier::laws::Admit;
 use crawl_frontier::testing::admit;
 use crawl_frontier::{
     Account, ClosedWorker, FinishError, Frontier, Name, Seeder, Sender, Setup, Turn, Worker,
@@ -136,7 +135,10 @@ fn admit_in<K: Name, R: Wait>(
     hops: u64,
 ) -> Outcome {
     match turn {
-        Turn::Idle(worker, _) => outcome_of(admit(rt, frontier, worker, url, own, hops)),
+        Turn::Idle(worker, _) => match admit(rt, frontier, worker, url, own, hops) {
+            Some(admit) => Outcome::of_admission(&admit),
+            None => Outcome::word("refused"),
+        },
         other => gone(other),
     }
 }
@@ -156,29 +158,14 @@ pub fn admit_by<K: Name, R: Wait>(
     }
 }
 
-fn outcome_of(admission: Option<Admit>) -> Outcome {
-    match admission {
-        Some(admit) => Outcome::of_admission(&admit),
-        None => Outcome::word("refused"),
-    }
-}
-
 fn gone<T: Drop>(value: T) -> Outcome {
     drop(value);
     Outcome::word("gone")
 }
 
-fn put_worker<K: Name>(worker: ClosedWorker<K>, closed: &mut Vec<ClosedWorker<K>>) {
-    let _ = closed.push(worker);
-}
-
-fn put_sender<K: Name>(sender: Sender<K>, senders: &mut Vec<Sender<K>>) {
-    let _ = senders.push(sender);
-}
-
 fn put_turn<K: Name>(turn: Turn<K>, closed: &mut Vec<ClosedWorker<K>>) {
     match turn {
-        Turn::Closed(worker) => put_worker(worker, closed),
+        Turn::Closed(worker) => drop(closed.push(worker)),
         other => drop(other),
     }
 }
@@ -187,7 +174,7 @@ fn put_turn<K: Name>(turn: Turn<K>, closed: &mut Vec<ClosedWorker<K>>) {
 fn put<K: Name>(part: Part<K>, closed: &mut Vec<ClosedWorker<K>>, senders: &mut Vec<Sender<K>>) {
     match part {
         Part::Worker(turn) => put_turn(turn, closed),
-        Part::Sender(sender) => put_sender(sender, senders),
+        Part::Sender(sender) => drop(senders.push(sender)),
         other => drop(other),
     }
 }

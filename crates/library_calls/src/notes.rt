@@ -20,14 +20,6 @@ impl Outcome {
         }
     }
 
-    pub fn number(word: &'static str, first: u64) -> Outcome {
-        Outcome {
-            word,
-            first,
-            second: 0,
-        }
-    }
-
     /// If the offer was accepted, the numbers are its queue and number. If it crossed another sender, they are both counts.
     pub fn of(offer: Result<Offer, OfferError>) -> Outcome {
         match offer {
@@ -66,7 +58,11 @@ impl Outcome {
     pub fn of_end(error: FinishError) -> Outcome {
         match error {
             FinishError::MissingPart => Outcome::word("missing"),
-            FinishError::Disagree { queue } => Outcome::number("disagree", u64::from(queue)),
+            FinishError::Disagree { queue } => Outcome {
+                word: "disagree",
+                first: u64::from(queue),
+                second: 0,
+            },
             _ => Outcome::word("refused"),
         }
     }

@@ -51,16 +51,12 @@ fn page(alloc: Global, number: usize) -> Option<CanonUrl> {
     canonical_of(alloc, format!(in alloc; "http://h{host}.test/{number}"))
 }
 
-fn push_page(alloc: Global, urls: &mut Vec<CanonUrl>, number: usize) {
-    if let Some(url) = page(alloc, number) {
-        let _ = urls.push(url);
-    }
-}
-
 fn pages(alloc: Global, count: usize) -> Vec<CanonUrl> {
     let mut urls = Vec::new(alloc);
     for number in 0..count {
-        push_page(alloc, &mut urls, number);
+        if let Some(url) = page(alloc, number) {
+            let _ = urls.push(url);
+        }
     }
     urls
 }
@@ -102,31 +98,6 @@ fn page_of<K: Name>(part: &Part<K>) -> usize {
     }
 }
 
-// Offers the links of the worker's page.
-fn offer_links<K: Name, R: Wait>(
-    rt: &R,
-    frontier: &Frontier<K>,
-    run: &Run<'_>,
-    part: &mut Part<K>,
-    notes: &mut Notes,
-    page: usize,
-) {
-    let links = links(run.urls, page);
-    offer_each(rt, frontier, &run.closed, part, notes, links);
-}
-
-// Ends the worker's page.
-fn end_page<K: Name, R: Wait>(
-    rt: &R,
-    frontier: &Frontier<K>,
-    part: &mut Part<K>,
-    notes: &mut Notes,
-    page: usize,
-) {
-    take_turn(rt, frontier, part);
-    notes.push(page, Outcome::word("done"), false);
-}
-
 // Offers the links of the worker's page, and ends the page or leaves. Returns whether the worker stays.
 fn work_on_page<K: Name, R: Wait>(
     rt: &R,
@@ -137,22 +108,23 @@ fn work_on_page<K: Name, R: Wait>(
 ) -> bool {
     let page = page_of(part);
     notes.push(page, Outcome::word("took"), false);
-    offer_links(rt, frontier, run, part, notes, page);
+    offer_each(
+        rt,
+        frontier,
+        &run.closed,
+        part,
+        notes,
+        links(run.urls, page),
+    );
     let leaves = notes.counts_page();
     if !leaves | !notes.leaves_busy {
-        end_page(rt, frontier, part, notes, page);
+        take_turn(rt, frontier, part);
+        notes.push(page, Outcome::word("done"), false);
     }
     if leaves {
         leave(part);
     }
     !leaves
-}
-
-// Lets an idle worker rest until it is woken.
-fn rest<K: Name, R: Wait>(rt: &R, frontier: &Frontier<K>, part: &Part<K>) {
-    if let Part::Worker(Turn::Idle(worker, _)) = part {
-        worker.rest_for(rt, frontier, Duration::from_secs(HOUR));
-    }
 }
 
 // Rests, or counts the turn. Notes the first of several idle turns. Returns whether the worker stays.
@@ -168,7 +140,9 @@ fn pause<K: Name, R: Wait>(
     }
     notes.idle = notes.idle.saturating_add(1);
     if plan.idle_turns == 0 {
-        rest(rt, frontier, part);
+        if let Part::Worker(Turn::Idle(worker, _)) = part {
+            worker.rest_for(rt, frontier, Duration::from_secs(HOUR));
+        }
         return true;
     }
     yield_now();
@@ -226,20 +200,7 @@ fn work<K: Name, R: Wait>(
     unreachable!()
 }
 
-// Offers its pages once more. Returns whether there may be more rounds.
-fn send_round<K: Name, R: Wait>(
-    rt: &R,
-    frontier: &Frontier<K>,
-    run: &Run<'_>,
-    part: &mut Part<K>,
-    notes: &mut Notes,
-) -> bool {
-    let sent = run.urls.get(..run.plan.sent).unwrap_or(&[]);
-    let continues = !notes.closed & run.plan.until_closed;
-    offer_each(rt, frontier, &run.closed, part, notes, sent);
-    continues
-}
-
+// Offers the pages of a sender in rounds, the last of them after it found the gate closed.
 fn send<K: Name, R: Wait>(
     rt: &R,
     frontier: &Frontier<K>,
@@ -247,8 +208,11 @@ fn send<K: Name, R: Wait>(
     part: &mut Part<K>,
     notes: &mut Notes,
 ) {
+    let sent = run.urls.get(..run.plan.sent).unwrap_or(&[]);
     for _ in rt.forever() {
-        if !send_round(rt, frontier, run, part, notes) {
+        let continues = !notes.closed & run.plan.until_closed;
+        offer_each(rt, frontier, &run.closed, part, notes, sent);
+        if !continues {
             return;
         }
         yield_now();
