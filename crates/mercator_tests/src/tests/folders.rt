@@ -20,19 +20,17 @@ const TOTALS: &[u8] =
 /// A site of one file with a broken link.
 #[derive(Drop)]
 struct OneFile {
-    names: Vec<String>,
-    bodies: Vec<Vec<u8>>,
+    names: [String; 1],
+    bodies: [Vec<u8>; 1],
     rules: Rules,
 }
 
 impl OneFile {
     fn new(alloc: Global) -> Result<OneFile, AllocError> {
-        let mut names = Vec::new(alloc);
-        names.push(String::from_str(alloc, "index.html")?)?;
-        let mut bodies = Vec::new(alloc);
-        bodies.push(b"<a href=gone.html>gone</a>".to_vec(alloc)?)?;
         let mut index_files = Vec::new(alloc);
         index_files.push(String::from_str(alloc, "index.html")?)?;
+        let names = [String::from_str(alloc, "index.html")?];
+        let bodies = [b"<a href=gone.html>gone</a>".to_vec(alloc)?];
         let rules = Rules {
             index_files,
             html_fallback: false,
@@ -56,14 +54,14 @@ impl OneFile {
 
 fn has_web<R: Threads + Sync>(rt: &R, alloc: Global, site: &OneFile) -> bool {
     let input = SiteNames {
-        names: site.names.as_slice(),
+        names: &site.names,
         links: &[],
         skipped: &[],
         base: BASE,
         rules: &site.rules,
     };
     let bytes = InMemory {
-        bodies: site.bodies.as_slice(),
+        bodies: &site.bodies,
     };
     match SiteFiles::new(alloc, input) {
         Ok(files) => have_web(rt, alloc, &files, &bytes),
@@ -107,8 +105,8 @@ fn settings(none: &[String]) -> CheckSettings<'_> {
 
 fn is_checked<R: Threads + Wait + Sync>(rt: &R, alloc: Global, site: &OneFile) -> Option<bool> {
     let files = Files {
-        names: site.names.as_slice(),
-        bodies: site.bodies.as_slice(),
+        names: &site.names,
+        bodies: &site.bodies,
     };
     let report = report_of_files(rt, alloc, files, BASE, &site.rules, settings(&[])).ok()?;
     Some(report.is_broken && report.text.as_slice().starts_with(TOTALS))
