@@ -165,7 +165,9 @@ fn gone<T: Drop>(value: T) -> Outcome {
 
 fn put_turn<K: Name>(turn: Turn<K>, closed: &mut Vec<ClosedWorker<K>>) {
     match turn {
-        Turn::Closed(worker) => drop(closed.push(worker)),
+        Turn::Closed(worker) => {
+            let _ = closed.push(worker);
+        }
         other => drop(other),
     }
 }
@@ -174,7 +176,9 @@ fn put_turn<K: Name>(turn: Turn<K>, closed: &mut Vec<ClosedWorker<K>>) {
 fn put<K: Name>(part: Part<K>, closed: &mut Vec<ClosedWorker<K>>, senders: &mut Vec<Sender<K>>) {
     match part {
         Part::Worker(turn) => put_turn(turn, closed),
-        Part::Sender(sender) => drop(senders.push(sender)),
+        Part::Sender(sender) => {
+            let _ = senders.push(sender);
+        }
         other => drop(other),
     }
 }

@@ -33,12 +33,13 @@ impl Plan {
         source: &F,
     ) -> Option<Result<Crawled, CrawlError>> {
         let every = Filter::new(alloc, &[]).ok()?;
+        let seeds = urls_of(alloc, self.seeds);
         Some(crawl(
             rt,
             alloc,
             source,
             &every,
-            &urls_of(alloc, self.seeds),
+            &seeds,
             self.workers,
             self.max_pending,
             self.mode,
