@@ -19,7 +19,7 @@ use crate::filters::filter_by;
 use crate::hands::{Hand, Part, admit_by, another, finish, leave, offer, open, push, take_turn};
 use crate::notes::{Note, Outcome};
 use crate::running::{Plan, run_all};
-use crawl_frontier::{Account, FinishError, Frontier, Name, Setup, Turn};
+use crawl_frontier::{Account, FinishError, Frontier, Name, Setup};
 use crawl_keys::{Filter, canonical};
 use std::alloc::Global;
 use std::marker::Brand;
@@ -73,14 +73,14 @@ fn print_word<R: Print>(rt: &R, word: &str) {
 // Prints what the hand does now.
 fn print_part<K: Name, R: Print>(rt: &R, part: &Part<K>) {
     match part {
-        Part::Worker(Turn::Busy(worker)) => {
+        Part::Busy(worker) => {
             let _ = println!(rt; "taken {} {}", worker.hops(), worker.url().as_str());
         }
-        Part::Worker(Turn::Idle(_, 0)) => print_word(rt, "done"),
-        Part::Worker(Turn::Idle(_, count)) => {
+        Part::Idle(_, 0) => print_word(rt, "done"),
+        Part::Idle(_, count) => {
             let _ = println!(rt; "idle {count}");
         }
-        Part::Worker(Turn::Closed(_)) => print_word(rt, "closed"),
+        Part::Closed(_) => print_word(rt, "closed"),
         Part::Sender(_) => print_word(rt, "ended"),
         _ => print_word(rt, "gone"),
     }

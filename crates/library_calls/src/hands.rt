@@ -5,17 +5,21 @@ ghost use Rattle.std.specs.Prelude.{◌≡◌};
 use crate::notes::{Notes, Outcome};
 use crawl_frontier::testing::admit;
 use crawl_frontier::{
-    Account, ClosedWorker, FinishError, Frontier, Name, Seeder, Sender, Setup, Turn, Worker,
+    Account, BusyWorker, ClosedWorker, FinishError, Frontier, Name, Seeder, Sender, Setup, Turn,
+    Worker,
 };
 use crawl_keys::{CanonUrl, Filter};
 use std::alloc::Global;
 use std::mem;
 use std::sync::Wait;
 
-/// What makes calls.
+/// What makes calls: a worker between its turns, with the count that its last turn found, one with a URL, one that found the gate
+/// closed, the seeder, a sender, or nothing any more.
 #[derive(Drop)]
 pub enum Part<K: Name> {
-    Worker(Turn<K>),
+    Idle(Worker<K>, u64),
+    Busy(BusyWorker<K>),
+    Closed(ClosedWorker<K>),
     Seeder(Seeder<K>),
     Sender(Sender<K>),
     Gone,
@@ -43,7 +47,7 @@ pub fn push<K: Name>(alloc: Global, hands: &mut Vec<Hand<K>>, part: Part<K>) -> 
 fn hands_of<K: Name>(alloc: Global, workers: Vec<Worker<K>>, seeder: Seeder<K>) -> Vec<Hand<K>> {
     let mut hands = Vec::new(alloc);
     for worker in workers {
-        push(alloc, &mut hands, Part::Worker(Turn::Idle(worker, 0)));
+        push(alloc, &mut hands, Part::Idle(worker, 0));
     }
     push(alloc, &mut hands, Part::Seeder(seeder));
     hands
@@ -90,27 +94,27 @@ pub fn offer<K: Name, R: Wait>(
     url: &CanonUrl,
 ) -> Outcome {
     match part {
-        Part::Worker(Turn::Busy(worker)) => Outcome::of(worker.offer(rt, frontier, url)),
+        Part::Busy(worker) => Outcome::of(worker.offer(rt, frontier, url)),
         Part::Seeder(seeder) => Outcome::of(seeder.offer(rt, frontier, url)),
         Part::Sender(sender) => Outcome::of(sender.offer(rt, frontier, url)),
         _ => Outcome::word("none"),
     }
 }
 
-fn next_turn<K: Name, R: Wait>(rt: &R, frontier: &Frontier<K>, turn: Turn<K>) -> Turn<K> {
+fn part_of<K: Name>(turn: Turn<K>) -> Part<K> {
     match turn {
-        Turn::Idle(worker, _) => worker.next(rt, frontier),
-        Turn::Busy(worker) => Turn::Idle(worker.done(frontier), 0),
-        Turn::Closed(worker) => Turn::Closed(worker),
+        Turn::Idle(worker, count) => Part::Idle(worker, count),
+        Turn::Busy(worker) => Part::Busy(worker),
+        Turn::Closed(worker) => Part::Closed(worker),
     }
 }
 
 fn next_part<K: Name, R: Wait>(rt: &R, frontier: &Frontier<K>, part: Part<K>) -> Part<K> {
     match part {
-        Part::Worker(turn) => Part::Worker(next_turn(rt, frontier, turn)),
+        Part::Idle(worker, _) => part_of(worker.next(rt, frontier)),
+        Part::Busy(worker) => Part::Idle(worker.done(frontier), 0),
         Part::Seeder(seeder) => Part::Sender(seeder.end(frontier)),
-        Part::Sender(sender) => Part::Sender(sender),
-        Part::Gone => Part::Gone,
+        other => other,
     }
 }
 
@@ -126,23 +130,6 @@ pub fn leave<K: Name>(part: &mut Part<K>) {
     drop(mem::replace(part, Part::Gone));
 }
 
-fn admit_in<K: Name, R: Wait>(
-    rt: &R,
-    frontier: &Frontier<K>,
-    turn: Turn<K>,
-    url: &CanonUrl,
-    own: u64,
-    hops: u64,
-) -> Outcome {
-    match turn {
-        Turn::Idle(worker, _) => match admit(rt, frontier, worker, url, own, hops) {
-            Some(admit) => Outcome::of_admission(&admit),
-            None => Outcome::word("refused"),
-        },
-        other => gone(other),
-    }
-}
-
 /// Admits the URL to queue 0 with this own number and these hops, by the pass of an idle worker, which is then gone.
 pub fn admit_by<K: Name, R: Wait>(
     rt: &R,
@@ -153,29 +140,23 @@ pub fn admit_by<K: Name, R: Wait>(
     hops: u64,
 ) -> Outcome {
     match mem::replace(part, Part::Gone) {
-        Part::Worker(turn) => admit_in(rt, frontier, turn, url, own, hops),
-        other => gone(other),
-    }
-}
-
-fn gone<T: Drop>(value: T) -> Outcome {
-    drop(value);
-    Outcome::word("gone")
-}
-
-fn put_turn<K: Name>(turn: Turn<K>, closed: &mut Vec<ClosedWorker<K>>) {
-    match turn {
-        Turn::Closed(worker) => {
-            let _ = closed.push(worker);
+        Part::Idle(worker, _) => match admit(rt, frontier, worker, url, own, hops) {
+            Some(admit) => Outcome::of_admission(&admit),
+            None => Outcome::word("refused"),
+        },
+        other => {
+            drop(other);
+            Outcome::word("gone")
         }
-        other => drop(other),
     }
 }
 
 // Adds the hand to those that end a run, if it is one of them.
 fn put<K: Name>(part: Part<K>, closed: &mut Vec<ClosedWorker<K>>, senders: &mut Vec<Sender<K>>) {
     match part {
-        Part::Worker(turn) => put_turn(turn, closed),
+        Part::Closed(worker) => {
+            let _ = closed.push(worker);
+        }
         Part::Sender(sender) => {
             let _ = senders.push(sender);
         }

@@ -2,7 +2,7 @@
 use crate::hands::{Hand, Part, leave, offer, take_turn};
 use crate::notes::{Notes, Outcome};
 use crate::urls::canonical_of;
-use crawl_frontier::{Frontier, Name, Turn};
+use crawl_frontier::{Frontier, Name};
 use crawl_keys::CanonUrl;
 use std::alloc::Global;
 use std::sync::Wait;
@@ -93,7 +93,7 @@ fn offer_each<K: Name, R: Wait>(
 // The number of the page that the worker has taken.
 fn page_of<K: Name>(part: &Part<K>) -> usize {
     match part {
-        Part::Worker(Turn::Busy(worker)) => number_of(worker.url()),
+        Part::Busy(worker) => number_of(worker.url()),
         _ => usize::MAX,
     }
 }
@@ -140,7 +140,7 @@ fn pause<K: Name, R: Wait>(
     }
     notes.idle = notes.idle.saturating_add(1);
     if plan.idle_turns == 0 {
-        if let Part::Worker(Turn::Idle(worker, _)) = part {
+        if let Part::Idle(worker, _) = part {
             worker.rest_for(rt, frontier, Duration::from_secs(HOUR));
         }
         return true;
@@ -159,8 +159,8 @@ enum State {
 
 fn state_of<K: Name>(part: &Part<K>) -> State {
     match part {
-        Part::Worker(Turn::Busy(_)) => State::Busy,
-        Part::Worker(Turn::Idle(_, _)) => State::Idle,
+        Part::Busy(_) => State::Busy,
+        Part::Idle(_, _) => State::Idle,
         _ => State::Ended,
     }
 }
@@ -246,7 +246,9 @@ fn seed<K: Name, R: Wait>(
 fn act<K: Name, R: Wait>(rt: &R, frontier: &Frontier<K>, run: &Run<'_>, hand: &mut Hand<K>) {
     let Hand { part, notes } = hand;
     match part {
-        Part::Worker(_) => return work(rt, frontier, run, part, notes),
+        Part::Idle(_, _) | Part::Busy(_) | Part::Closed(_) => {
+            return work(rt, frontier, run, part, notes);
+        }
         Part::Seeder(_) => seed(rt, frontier, run, part, notes),
         _ => {}
     }
