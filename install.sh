@@ -9,7 +9,7 @@
 #   --deb           Make a Debian package instead, in FOLDER [default: .], and print its name
 #
 # Without --program, the program is proved and built, unless that was done before. This needs the Rattle toolchain,
-# and takes 80 CPU minutes.
+# and takes 200 CPU minutes.
 # Everything else needs Python 3.9 or later, and --deb also dpkg-dev and binutils. The maintainer of the package is
 # taken from DEBFULLNAME and DEBEMAIL, or from git's user.
 # Exit status: 0 success, 1 error, 3 bad command line.
@@ -38,7 +38,7 @@ require() {
 
 built() {
     command -v rt > /dev/null || fail "the Rattle toolchain is required, and its command rt is not in PATH"
-    echo "install.sh: proving and building the program, unless that was done; it takes 80 CPU minutes .." >&2
+    echo "install.sh: proving and building the program, unless that was done; it takes 200 CPU minutes .." >&2
     (cd "$here/crates/mercator_cli" && rt run -- --help) > "$scratch/told" 2>&1 || { cat "$scratch/told" >&2; exit 1; }
     echo "$here/crates/mercator_cli/out/mercator_cli"
 }

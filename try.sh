@@ -4,7 +4,7 @@
 #
 # Usage: ./try.sh [--proved] [ARGUMENT..]
 # The arguments are those of mercator [default: check examples/site]. With --proved the program is proved and built first, which
-# takes 80 CPU minutes. The exit status is that of mercator. Requires the Rattle toolchain.
+# takes 200 CPU minutes. The exit status is that of mercator. Requires the Rattle toolchain.
 set -euo pipefail
 here=$(cd "$(dirname "$0")" && pwd)
 folder=$here/crates/mercator_cli
@@ -21,7 +21,7 @@ is_new() {
 if [ "${1:-}" = --proved ]; then
     shift
     command -v rt > /dev/null || { echo "try.sh: the Rattle toolchain is required, and its command rt is not in PATH" >&2; exit 1; }
-    echo "try.sh: proving and building the program, unless that was done; it takes 80 CPU minutes .." >&2
+    echo "try.sh: proving and building the program, unless that was done; it takes 200 CPU minutes .." >&2
     (cd "$folder" && rt run -- --version) >&2
 elif ! is_new; then
     program=$("$here/tools/unproved.sh")
