@@ -18,7 +18,6 @@ The toolchain's command `rt` must be in PATH. The last line is `N passed, M fail
 from __future__ import annotations
 
 import argparse
-import os
 import re
 import shutil
 import subprocess
@@ -157,10 +156,12 @@ def new_root(root: Path, toolchain: Path) -> str:
         subprocess.run(command, check=True, stdout=subprocess.DEVNULL)
     if not (root / "home/user").is_dir():
         subprocess.run(["chroot", root, "useradd", "-m", "user"], check=True)
+    # `os.path.ismount` does not see a folder of the same file system.
+    mounted = {line.split()[1] for line in Path("/proc/mounts").read_text("utf-8").splitlines()}
     for folder, options in ((toolchain, ["--bind", "-o", "ro"]), (Path("/dev"), ["--bind"]), (Path("/proc"), ["--bind"])):
         place = Path(f"{root}{folder}")
         place.mkdir(parents=True, exist_ok=True)
-        if not os.path.ismount(place):
+        if str(place) not in mounted:
             subprocess.run(["mount", *options, folder, place], check=True)
     return "/home/user"
 
