@@ -56,7 +56,7 @@ ASSIGNED = re.compile(r"^(\w+)=([\w./-]+)$", re.M)
 PARTS = re.compile(r"^parts=\((.*)\)$", re.M)
 BLOCK = re.compile(r"^```(?:sh|console)[^\n]*\n(.*?)^```$", re.M | re.S)
 TICKED = re.compile(r"`([^`\n]+)`")
-# A stand-in for any value, as in `--drawn N [FILE ..]`.
+# A placeholder for any value, as in `--drawn N [FILE ..]`.
 PLACEHOLDER = re.compile(r"[A-Z]+(?:=.*)?|.*[\[\]].*|.*\.\.")
 PLAIN_NAME = re.compile(r"-{0,2}[a-z]\w*(?:-\w+)*")
 
@@ -114,7 +114,7 @@ class Command(NamedTuple):
         return f"{self.file}:{self.line}: {shlex.join([self.script, *self.arguments])}"
 
     def given(self) -> List[str]:
-        """Return the arguments that are no stand-ins."""
+        """Return the arguments that are no placeholders."""
         return [word for word in self.arguments if not PLACEHOLDER.fullmatch(word)]
 
     def is_whole(self) -> bool:
