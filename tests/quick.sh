@@ -12,7 +12,7 @@ cd "$(dirname "$0")/.." || exit 1
 # shellcheck source=tests/parts.sh
 . tests/parts.sh
 
-parts=(format scripts documents definitions character_names mercator_tests crawl_run_tests crawl_gate_tests crawl_text_tests frontier cases command_line manual_page drawn check serve service bell_model converter warc)
+parts=(format scripts documents definitions character_names mercator_tests crawl_run_tests crawl_gate_tests crawl_text_tests frontier cases command_line manual_page drawn check serve service bell_model converter list_folder warc)
 kept=tests/out/quick
 # A test of crawl_text_tests that no time limit fits. tests/run.sh runs it.
 too_long=tests::indices::finds_what_a_plain_search_finds
@@ -36,6 +36,7 @@ command_of() {
     service) words=(tests/service.py --part owners --part waits --part metrics --part killed_crawlers) ;;
     bell_model) words=(tests/bell_model.py) ;;
     converter) words=(tests/converter.py) ;;
+    list_folder) words=(tests/list_folder.py) ;;
     warc) words=(tests/warc.py) ;;
     esac
 }
@@ -43,7 +44,7 @@ command_of() {
 # programs PART: the crates of the programs that it needs.
 programs() {
     case $1 in
-    cases | command_line | manual_page | drawn | check | serve | service | warc) echo mercator_cli ;;
+    cases | command_line | manual_page | drawn | check | serve | service | list_folder | warc) echo mercator_cli ;;
     frontier) echo mercator_cli library_calls ;;
     esac
 }

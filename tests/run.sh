@@ -41,6 +41,7 @@ part tests/bell_model.py
 part tests/command-line.sh
 part tests/manual_page.py
 part tests/converter.py
+part tests/list_folder.py
 part docs/check.py
 part docs/definitions.py --check
 part tools/character_names.py --check
