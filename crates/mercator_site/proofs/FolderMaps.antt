@@ -8,6 +8,7 @@ use Rattle.mercator_site.specs.Maps.{AreMapped, AreMapsAt, IsMapped, folder_in, 
 use Rattle.mercator_site.specs.declared.mapped.MapNames.{MapNames}
 use Rattle.mercator_site.specs.declared.mapped.MappedFolder.{MappedFolder}
 use Rattle.mercator_site.specs.declared.maps.FolderMap.{FolderMap}
+use Rattle.site_files.specs.declared.rules.Rules.{Rules}
 use Rattle.site_files.specs.Below.{is_below}
 
 -- one map more
@@ -28,17 +29,17 @@ map_more top rooted texts text maps more m were resolved named out is =
     })
 
 -- one folder more
-zip_push : (maps : List FolderMap) (folders : List MappedFolder) (m : FolderMap) (folder : MappedFolder) → AreMapped maps folders → IsMapped m folder → AreMapped (maps ++ m ∷ []) (folders ++ folder ∷ [])
-zip_push [] [] m folder were is = (is, tt)
-zip_push [] (g ∷ folders) m folder were is = absurd were
-zip_push (n ∷ maps) [] m folder were is = absurd were
-zip_push (n ∷ maps) (g ∷ folders) m folder were is = (were.0, zip_push maps folders m folder were.1 is)
+zip_push : (rules : Rules) (maps : List FolderMap) (folders : List MappedFolder) (m : FolderMap) (folder : MappedFolder) → AreMapped rules maps folders → IsMapped rules m folder → AreMapped rules (maps ++ m ∷ []) (folders ++ folder ∷ [])
+zip_push rules [] [] m folder were is = (is, tt)
+zip_push rules [] (g ∷ folders) m folder were is = absurd were
+zip_push rules (n ∷ maps) [] m folder were is = absurd were
+zip_push rules (n ∷ maps) (g ∷ folders) m folder were is = (were.0, zip_push rules maps folders m folder were.1 is)
 
-pub mapped_more : (names : List MapNames) (i : ℕ) (one : MapNames) (folders more : List MappedFolder) (folder : MappedFolder) → i < length names → one ≡ get_or names i one
-    → AreMapped (map (λ n. n.map.now) (take i names)) folders → IsMapped one.map.now folder → more ≡ folders ++ folder ∷ [] → AreMapped (map (λ n. n.map.now) (take (i + 1) names)) more
-mapped_more names i one folders more folder below at were mapped is =
+pub mapped_more : (rules : Rules) (names : List MapNames) (i : ℕ) (one : MapNames) (folders more : List MappedFolder) (folder : MappedFolder) → i < length names → one ≡ get_or names i one
+    → AreMapped rules (map (λ n. n.map.now) (take i names)) folders → IsMapped rules one.map.now folder → more ≡ folders ++ folder ∷ [] → AreMapped rules (map (λ n. n.map.now) (take (i + 1) names)) more
+mapped_more rules names i one folders more folder below at were mapped is =
     let of : MapNames → FolderMap = λ n. n.map.now in
     let steps : map of (take (i + 1) names) ≡ map of (take i names) ++ of one ∷ [] =
     ap (map of) (take_more names i one below) ∙ map-append of (take i names) (get_or names i one ∷ []) ∙ ap (λ n. map of (take i names) ++ of n ∷ []) (sym at) in
-    subst (λ ms. AreMapped ms more) (sym steps)
-    (subst (λ fs. AreMapped (map of (take i names) ++ of one ∷ []) fs) (sym is) (zip_push (map of (take i names)) folders (of one) folder were mapped))
+    subst (λ ms. AreMapped rules ms more) (sym steps)
+    (subst (λ fs. AreMapped rules (map of (take i names) ++ of one ∷ []) fs) (sym is) (zip_push rules (map of (take i names)) folders (of one) folder were mapped))

@@ -15,6 +15,7 @@ use Rattle.site_files.specs.Files.{server_of}
 use Rattle.site_files.specs.Pages.{Response, Missing, Moved, Found}
 use Rattle.site_files.specs.Serving.{found_for}
 use Rattle.site_files.specs.declared.files.SiteFiles.{SiteFiles}
+use Rattle.site_files.specs.declared.rules.Rules.{Rules}
 
 -- ---- the text of a map, PREFIX=FOLDER
 
@@ -51,14 +52,15 @@ pub record AreMapsOf (base : List ℕ) (rooted : Bool) (texts : List (List ℕ))
 
 -- ---- the folders
 
--- the files of the folder of a map: the URL of the folder is the prefix
-pub record IsMapped (m : FolderMap) (folder : MappedFolder) : Type 0 where
+-- the files of the folder of a map, by these rules: the URL of the folder is the prefix
+pub record IsMapped (rules : Rules) (m : FolderMap) (folder : MappedFolder) : Type 0 where
   pub prefix : folder.name.prefix.now ≡ m.prefix
   pub named : folder.name.folder.now ≡ string_bytes m.folder
   pub is_top : IsTop m.prefix (string_bytes folder.files.site.top)
+  pub by_rules : folder.files.rules.now ≡ rules
 
-abbrev pub AreMapped : List FolderMap → List MappedFolder → Type 0
-AreMapped maps folders = AllZip IsMapped maps folders
+abbrev pub AreMapped : Rules → List FolderMap → List MappedFolder → Type 0
+AreMapped rules maps folders = AllZip (IsMapped rules) maps folders
 
 -- the prefixes and the names of the folders
 abbrev pub names_of : List MappedFolder → List MapName

@@ -1,10 +1,10 @@
 //! A folder's saved web, and the report of its check.
-ghost use Rattle.std.specs.Prelude.{◌≡◌, IfErr, IfOk, map, string_bytes, false, true};
+ghost use Rattle.std.specs.Prelude.{◌≡◌, [], IfErr, IfOk, map, string_bytes, false, true};
 ghost use Rattle.mercator_site.specs.Asks.{asks_in, asks_with, seeds_of};
 ghost use Rattle.mercator_site.specs.Ends.{IsCheckOf, IsFolderCheck, front_of, name_of};
 ghost use Rattle.mercator_site.specs.Errors.{IsSiteIncomplete, is_unfinished};
 ghost use Rattle.mercator_site.specs.IndexUrls.{is_index_url};
-ghost use Rattle.mercator_site.specs.Rules.{AreCheckRules, AreRules};
+ghost use Rattle.mercator_site.specs.Rules.{AreCheckRules, AreMapRules, AreRules, index_names};
 ghost use Rattle.saved_site.specs.Below.{IsWebAt, IsWebBelow};
 ghost use Rattle.saved_site.specs.Meaning.{IsSiteWeb};
 ghost use Rattle.site_check.specs.Ignored.{entries_in};
@@ -28,15 +28,12 @@ use std::thread::Threads;
 /// The number of threads that read documents.
 const THREADS: usize = 4;
 
-/// The names of index files, unless others are given.
-const INDEX_FILES: &[&str] = &["index.html", "index.htm", "index.xhtml"];
-
 /// The rules by which names become pages, without anchors and positions. A site list has the exact URL of each page.
 fn rules_of(alloc: Global, options: &SiteOptions) -> Result<Rules, AllocError>
     ensures { IfOk result (AreRules options.now) }
 {
     Ok(Rules {
-        index_files: index_files(alloc, &options.index_files)?,
+        index_files: index_files(alloc, options.index_files.as_slice())?,
         html_fallback: options.html_fallback,
         queries: options.queries,
         exact: options.exact || options.index.is_some(),
@@ -51,20 +48,27 @@ fn rules_of(alloc: Global, options: &SiteOptions) -> Result<Rules, AllocError>
 }
 
 /// The names of index files that are given or, if there are none, the usual ones.
-fn index_files(alloc: Global, given: &Vec<String>) -> Result<Vec<String>, AllocError> {
+fn index_files(alloc: Global, given: &[String]) -> Result<Vec<String>, AllocError>
+    ensures { IfOk result (λ names. map string_bytes names.items ≡ index_names (map string_bytes given.now)) }
+{
     if given.is_empty() {
-        usual_index_files(alloc)
-    } else {
-        given.clone()
+        return usual_index_files(alloc);
     }
+    let mut names = Vec::new(alloc);
+    for name in given {
+        names.push(name.clone()?)?;
+    }
+    Ok(names)
 }
 
 /// The usual names of index files.
-fn usual_index_files(alloc: Global) -> Result<Vec<String>, AllocError> {
+fn usual_index_files(alloc: Global) -> Result<Vec<String>, AllocError>
+    ensures { IfOk result (λ names. map string_bytes names.items ≡ index_names []) }
+{
     let mut names = Vec::new(alloc);
-    for name in INDEX_FILES {
-        names.push(String::from_str(alloc, name)?)?;
-    }
+    names.push(String::from_str(alloc, "index.html")?)?;
+    names.push(String::from_str(alloc, "index.htm")?)?;
+    names.push(String::from_str(alloc, "index.xhtml")?)?;
     Ok(names)
 }
 
@@ -80,7 +84,9 @@ fn check_rules(alloc: Global, options: &CheckOptions) -> Result<Rules, AllocErro
 }
 
 /// The rules of the folders of maps: those of a check, but no site list has their URLs.
-fn map_rules(alloc: Global, options: &SiteOptions) -> Result<Rules, AllocError> {
+fn map_rules(alloc: Global, options: &SiteOptions) -> Result<Rules, AllocError>
+    ensures { IfOk result (AreMapRules options.now) }
+{
     let mut rules = rules_of(alloc, options)?;
     rules.exact = options.exact;
     Ok(rules)
@@ -106,6 +112,7 @@ pub(crate) fn folder_settings(
     ignores: &[u8],
 ) -> Result<FolderSettings, AllocError>
     ensures rules { IfOk result (λ made. AreCheckRules options.now made.rules) }
+    ensures map_rules { IfOk result (λ made. AreMapRules options.now.site made.map_rules) }
     ensures seeds { IfOk result (λ made. map string_bytes made.seeds.items ≡ seeds_of options.now) }
     ensures ignores { IfOk result (λ made. map string_bytes made.ignores.items ≡ entries_in ignores.now) }
 {
@@ -279,6 +286,7 @@ fn report_of_names<R: Files<File: Send, Dir: Send> + Threads + Wait + Sync>(
     notes: &mut Vec<Note>,
 ) -> Result<CheckReport, FolderError>
     requires rules { AreCheckRules options.now read.made.now.rules }
+    requires map_rules { AreMapRules options.now.site read.made.now.map_rules }
     requires seeds { map string_bytes read.made.now.seeds.items ≡ seeds_of options.now }
     ensures checked { IfOk result (λ report. IsCheckOf options.now (map (λ one. one.map.now) read.entry.maps.now) (map string_bytes read.entry.made.now.ignores.items) report.is_broken report.text.items) }
     ensures incomplete { IfErr result (λ error. is_unfinished error ≡ true → IsSiteIncomplete options.now) }
@@ -298,6 +306,7 @@ fn report_with_files<'a, R: Files<File: Send, Dir: Send> + Threads + Wait + Sync
     notes: &mut Vec<Note>,
 ) -> Result<CheckReport, FolderError>
     requires rules { AreCheckRules options.now files.now.rules.now }
+    requires map_rules { AreMapRules options.now.site read.made.now.map_rules }
     requires seeds { map string_bytes read.made.now.seeds.items ≡ seeds_of options.now }
     requires top { IsTop (string_bytes options.now.site.base) (string_bytes files.now.site.top) }
     requires url { files.now.site.top_url ≡ string_bytes files.now.site.top }

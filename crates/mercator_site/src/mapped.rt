@@ -89,7 +89,7 @@ pub(crate) fn mapped_folders<'a>(
     maps: &'a [MapNames<'a>],
     rules: &'a Rules,
 ) -> Result<Vec<MappedFolder<'a>>, FolderError>
-    ensures mapped { IfOk result (λ all. AreMapped (map (λ one. one.map.now) maps.now) all.items) }
+    ensures mapped { IfOk result (λ all. AreMapped rules.now (map (λ one. one.map.now) maps.now) all.items) }
     ensures plain { IfErr result (λ error. is_unfinished error ≡ false) }
 {
     let mut all = Vec::new(alloc);
@@ -105,7 +105,7 @@ fn mapped_folder<'a>(
     one: &'a MapNames<'a>,
     rules: &'a Rules,
 ) -> Result<MappedFolder<'a>, FolderError>
-    ensures mapped { IfOk result (λ folder. IsMapped one.now.map.now folder) }
+    ensures mapped { IfOk result (λ folder. IsMapped rules.now one.now.map.now folder) }
     ensures plain { IfErr result (λ error. is_unfinished error ≡ false) }
 {
     let prefix = one.map.prefix.as_str();
