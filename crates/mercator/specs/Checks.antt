@@ -1,5 +1,5 @@
 -- A check, from the arguments to the exit status and what was written.
-use Rattle.std.specs.Prelude.{◌≡◌, ◌==◌, ◌⊎◌, ℕ, Bool, true, false, not, ◌&&◌, ◌||◌, List, [], ◌∷◌, Option, bytes_eq, codes, is_some, length, nat_eq, String, string_bytes}
+use Rattle.std.specs.Prelude.{◌≡◌, ◌==◌, ◌⊎◌, ℕ, Bool, true, false, not, ◌&&◌, ◌||◌, List, [], ◌∷◌, Option, bytes_eq, codes, count_by, is_some, length, nat_eq, String, string_bytes}
 use Rattle.std.specs.Io.KnownBytes.{Appends}
 use Rattle.std.specs.List.{list_any, starts_with}
 use Rattle.std.specs.declared.alloc.Global.{Global}
@@ -9,6 +9,7 @@ use Rattle.mercator.specs.declared.commands.plan_error.PlanError.TheVariants as 
 use Rattle.mercator.specs.declared.commands.planned.Plan.{Plan}
 use Rattle.mercator.specs.declared.commands.planned.Plan.TheVariants as asks
 use Rattle.mercator_site.specs.declared.options.CheckOptions.{CheckOptions}
+use Rattle.mercator_site.specs.declared.options.SiteOptions.{SiteOptions}
 use Rattle.site_check.specs.Reported.{reports_all}
 
 -- ---- the arguments
@@ -58,17 +59,30 @@ may_set_options arguments = not (has_no_config arguments) || has_option argument
 abbrev pub is_whole : CheckOptions → Bool
 is_whole options = options.anchors && (reports_all options.scope && (not options.reachable && is_off options.fix))
 
--- it also has no ignore list, and looks up no link in another folder, so that it reports all that it finds
+-- pages are found by the usual rules of a static server, and the links in styles are read
+abbrev pub has_usual_rules : SiteOptions → Bool
+has_usual_rules site = (length site.index_files.items == 0) && (site.styles && (site.sniff && not (is_some site.index || (site.html_fallback || (site.exact || (site.queries || site.follow))))))
+
+-- a check with usual rules also has no ignore list, and looks up no link in another folder, so that it reports all that it finds
 abbrev pub is_plain : CheckOptions → Option (String Global) → Bool
-is_plain options ignores = not (is_some ignores) && ((length options.maps.items == 0) && is_whole options)
+is_plain options ignores = not (is_some ignores) && ((length options.maps.items == 0) && (is_whole options && has_usual_rules options.site))
+
+-- the number of arguments that are not `--no-config`
+abbrev pub word_count : List (String Global) → ℕ
+word_count arguments = count_by (λ word. not (bytes_eq (string_bytes word) (codes "--no-config"))) arguments
+
+-- the report has paths if and only if there is no BASE after `check` and FOLDER
+abbrev pub has_paths_without_base : List (String Global) → CheckOptions → Bool
+has_paths_without_base arguments options = options.paths == (word_count arguments == 2)
 
 -- there is no BASE, or BASE is one of the arguments, or a configuration file may set it
 abbrev pub agrees_with_base : List (String Global) → CheckOptions → Bool
 agrees_with_base arguments options = options.paths || (has_word arguments (string_bytes options.site.base) || not (has_no_config arguments))
 
--- FOLDER is one of the arguments, and so is BASE; and if nothing sets options, the check reports all that it finds
+-- FOLDER is one of the arguments, and so is BASE; and if nothing sets options, the check reports all that it finds, as paths if there is
+-- no BASE
 abbrev pub agrees_with_check : List (String Global) → CheckOptions → Option (String Global) → Bool
-agrees_with_check arguments options ignores = has_word arguments (string_bytes options.site.folder) && (agrees_with_base arguments options && (is_plain options ignores || may_set_options arguments))
+agrees_with_check arguments options ignores = has_word arguments (string_bytes options.site.folder) && (agrees_with_base arguments options && (may_set_options arguments || (is_plain options ignores && has_paths_without_base arguments options)))
 
 -- the plan agrees with the arguments. Only that of a check is compared with those of a check
 abbrev pub agrees : List (String Global) → Plan → Bool

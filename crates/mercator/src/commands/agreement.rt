@@ -2,11 +2,11 @@
 //! conflicts and groups, so what the contract of the program says about the arguments of a check is compared once more.
 ghost use Rattle.std.specs.Prelude.{◌≡◌};
 ghost use Rattle.mercator.specs.Outputs.{is_off};
-ghost use Rattle.mercator.specs.Checks.{agrees, agrees_with_base, agrees_with_check, agrees_with_error, asks_help, has_help_letter, has_no_config, has_option, has_word, is_check, is_help, is_help_text, is_option, is_plain, is_whole, may_set_options, names_check};
+ghost use Rattle.mercator.specs.Checks.{agrees, agrees_with_base, agrees_with_check, agrees_with_error, asks_help, has_help_letter, has_no_config, has_option, has_paths_without_base, has_usual_rules, has_word, is_check, is_help, is_help_text, is_option, is_plain, is_whole, may_set_options, names_check, word_count};
 
 use crate::commands::plan_error::PlanError;
 use crate::commands::planned::Plan;
-use mercator_site::{CheckOptions, Fix};
+use mercator_site::{CheckOptions, Fix, SiteOptions};
 
 /// Whether a plan agrees with these arguments. That of a check has their FOLDER and BASE, and no options if they set none. No other plan
 /// is that of arguments that begin with `check`, unless they ask for help.
@@ -80,7 +80,8 @@ fn agrees_with_check(arguments: &[String], options: &CheckOptions, ignores: &Opt
 {
     has_word(arguments, options.site.folder.as_str())
         && agrees_with_base(arguments, options)
-        && (is_plain(options, ignores) || may_set_options(arguments))
+        && (may_set_options(arguments)
+            || is_plain(options, ignores) && has_paths_without_base(arguments, options))
 }
 
 /// Whether there is no BASE, or BASE is one of the arguments or may be that of a configuration file.
@@ -129,7 +130,39 @@ fn is_option(word: &str) -> bool
 fn is_plain(options: &CheckOptions, ignores: &Option<String>) -> bool
     ensures { result ≡ is_plain options.now ignores.now }
 {
-    !ignores.is_some() && options.maps.is_empty() && is_whole(options)
+    !ignores.is_some()
+        && options.maps.is_empty()
+        && is_whole(options)
+        && has_usual_rules(&options.site)
+}
+
+/// Whether pages are found by the usual rules of a static server, and the links in styles are read.
+fn has_usual_rules(site: &SiteOptions) -> bool
+    ensures { result ≡ has_usual_rules site.now }
+{
+    let is_changed = site.index.is_some()
+        || site.html_fallback
+        || site.exact
+        || site.queries
+        || site.follow;
+    site.index_files.is_empty() && site.styles && site.sniff && !is_changed
+}
+
+/// Whether the report has paths if and only if there is no BASE after `check` and FOLDER.
+fn has_paths_without_base(arguments: &[String], options: &CheckOptions) -> bool
+    ensures { result ≡ has_paths_without_base arguments.now options.now }
+{
+    options.paths == (word_count(arguments) == 2)
+}
+
+/// The number of arguments that are not `--no-config`.
+fn word_count(arguments: &[String]) -> usize
+    ensures { result ≡ word_count arguments.now }
+{
+    arguments
+        .iter()
+        .filter(|word| word.as_str() != "--no-config")
+        .count()
 }
 
 /// Whether a check starts at all documents, looks for all kinds of errors, and rewrites nothing.
