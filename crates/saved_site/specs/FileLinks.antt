@@ -1,8 +1,9 @@
 -- The links of a file, by its kind.
-use Rattle.std.specs.Prelude.{◌≡◌, ◌⊎◌, ◌^◌, ℕ, List, [], Option, None, option_map, string_bytes, if◌then◌else◌}
+use Rattle.std.specs.Prelude.{◌≡◌, ◌^◌, ℕ, Bool, true, false, List, [], Option, None, option_map, string_bytes, if◌then◌else◌}
 use Rattle.html_links.specs.declared.context.Syntax.{Syntax}
 use Rattle.html_links.specs.declared.context.Syntax.TheVariants as syntax
 use Rattle.document_links.specs.Encoding.{HasFeed, HasLinkTexts, HasSheet, HasUrlList}
+use Rattle.document_links.specs.Sniffing.{is_document}
 use Rattle.document_links.specs.declared.document.ReadOptions.{ReadOptions}
 use Rattle.site_files.specs.Server.{after_front}
 use Rattle.site_files.specs.declared.files.SiteFiles.{SiteFiles}
@@ -54,8 +55,19 @@ pub record IsFileDocument (files : SiteFiles) (kind : FileKind) (body : List ℕ
 abbrev pub IsPageOf : List ℕ → Under → SitePage → Type 0
 IsPageOf url under page = (page.url ≡ url) × (page.under ≡ under)
 
--- the page at the URL of a file of this kind with these contents. A file of unknown kind may have no links
+-- the links of a file of this kind with these contents are read. If the kind is unknown, that is so if the file begins like a document
+abbrev pub is_read : FileKind → List ℕ → Bool
+is_read Html body = true
+is_read Xml body = true
+is_read Svg body = true
+is_read Style body = true
+is_read Feed body = true
+is_read UrlList body = true
+is_read Unknown body = is_document body
+
+-- the page at the URL of a file of this kind with these contents
 pub record IsFilePage (files : SiteFiles) (url : List ℕ) (kind : FileKind) (body : List ℕ) (page : SitePage) : Type 0 where
   pub links : List (List ℕ)
   pub is : IsPageOf url (Links links) page
-  pub has : ((kind ≡ Unknown) × (links ≡ [])) ⊎ IsFileDocument files kind body links
+  pub has : is_read kind body ≡ true → IsFileDocument files kind body links
+  pub none : is_read kind body ≡ false → links ≡ []
