@@ -25,7 +25,7 @@ SITE: Dict[bytes, bytes] = {
     b"index.html": b'<a href="caf%E9.html">\n<a href="n%FA/">\n<a href="caf%C3%A9.html">',
     b"caf\xe9.html": b'<a href="gone%E9.html">',
     b"caf%E9.html": b"<p id=escaped>",
-    b"n\xfa/index.htm": b'<a href="../caf%25E9.html#escaped">',
+    b"n\xfa/index.htm": b'<a href="../caf%25E9.html#escaped"><link rel=stylesheet href="x%0Ay.css">',
     b"n\xfa/x\ny.css": b"a { background: url(none.png) }",
     b"t\xc3\xa9.txt": b"text",
 }
