@@ -43,7 +43,7 @@ from checking import archives, drawing, feed_twins, fixes, forms, loading, print
 from checking.documents import TOOL, form_of
 from checking.known import KNOWN, Known, To, Zeros
 from checking.known_fixes import FIXED, Fixed
-from checking.model import FLAGS, INDEX_FILES, LEADS_NOWHERE, LEADS_OUT, NOWHERE, Map, Model, Moved, Row, Settings, Site, is_short, last_of
+from checking.model import FLAGS, INDEX_FILES, LEADS_NOWHERE, LEADS_OUT, NO_INDEX_FILE, NOWHERE, Map, Model, Moved, Row, Settings, Site, is_short, last_of
 from checking.tags import document_tags
 from checking.webs import Converter, first_difference, model_error
 
@@ -54,11 +54,11 @@ SHOWN, LONGEST = 5, 4000  # the number of differences that a series prints, and 
 EVERY = 8  # one of this number of random folders has its other forms compared
 # What 1,000 random folders must have at least LEAST times
 KINDS = "brokenpage brokenanchor placepage placeanchor hint worst redirect unreached unlisted external unused with_aliases error in_sheets in_xml in_feeds".split()
-KINDS += "written hint_url hint_fallback hint_index_file hint_leads_out hint_leads_nowhere mapped question suggestion suggestion_in_other_case suggestion_in_other_form".split()
+KINDS += "written hint_url hint_fallback hint_index_file hint_leads_out hint_leads_nowhere hint_no_index_file mapped question suggestion suggestion_in_other_case suggestion_in_other_form".split()
 KINDS += "fixed_redirect fixed_name fixed_case fix_left fix_link".split()
 KINDS += [kind + reason for kind in ("invalid", "invalid_place") for reason in ("not_url", "unknown_scheme", "local_file")]
 KINDS += [kind + reason for kind in ("leaving", "leaving_place") for reason in ("above_folder", "outside_base", "not_in_map")]
-HINT_KINDS = {LEADS_OUT: "hint_leads_out", LEADS_NOWHERE: "hint_leads_nowhere"}
+HINT_KINDS = {LEADS_OUT: "hint_leads_out", LEADS_NOWHERE: "hint_leads_nowhere", NO_INDEX_FILE: "hint_no_index_file"}
 LEAST = 5
 PARTS = ("known", "folders", "random")
 ONLY_FOLDERS = ("--part", "folders")

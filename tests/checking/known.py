@@ -5,7 +5,7 @@ from __future__ import annotations
 from typing import Any, Dict, List, NamedTuple, Optional, Tuple, Union
 
 from checking.documents import known_schemes
-from checking.model import HOSTS, LEADS_NOWHERE, LEADS_OUT, NOWHERE
+from checking.model import HOSTS, LEADS_NOWHERE, LEADS_OUT, NO_INDEX_FILE, NOWHERE
 
 
 class To(NamedTuple):
@@ -82,6 +82,13 @@ SKIPPED: Dict[str, Union[str, bytes, To, Zeros]] = {
     "index.html": "\n".join(f"<a href={link}>" for link in SKIPPED_LINKS), "a": To("../site2"), "a.html": "", "gone.html": To("none"), "gone": To("none/x"),
     "d/a": To("../../site2"), "v": To("d"), "s.js": To("../out.js"), "itself": To("itself"), "deep": To("index.html/x"), "null": To("/dev/null"), "in.html": To("b.html"), "b.html": "",
     "../site2/in.html": "", "../out.js": "",
+}
+
+
+# Links to folders without an index file, and to no folders, with the target of each
+FOLDERS = {
+    "d": "d/", "d/?q": "d/?q", "d/e/": "d/e/", "%C3%BC d": "%C3%BC%20d/", "d//e//": "d//e//", "l/": "l/", "l/e/": "l/e/", "D/": "D/", "f/": "f/", "d/f/": "d/f/", "d.html/": "d.html/",
+    "d/e/a.png/": "d/e/a.png/", "o/": "o/",
 }
 
 
@@ -169,7 +176,7 @@ KNOWN = [
         {"index.html": "<a href=a.html#x><a href=a.html#y>", "a.html": b"<meta charset=koi8-r><p id=x>\xc1<a href=#z>"},
         ["a.html#y index.html:1:26", "a.html#z a.html:1:39"],
     ),
-    Known("a folder without an index file", {"index.html": "<a href=f>", "f/a.html": ""}, ["f/ index.html:1:9"]),
+    Known("a folder without an index file", {"index.html": "<a href=f>", "f/a.html": ""}, ["f/ index.html:1:9"], hint("f/", NO_INDEX_FILE)),
     Known("a folder with an index file", {"index.html": "<a href=f>", "f/index.html": "<a href=a>"}, ["f/a f/index.html:1:9"]),
     Known("a base", {"index.html": "<base href=f/><a href=a.html><a href=b.html>", "f/a.html": ""}, ["f/b.html index.html:1:38"]),
     Known("no index", {"a.html": "<a href=x>"}, ["x a.html:1:9"], total(pages=1, links=1, redirects=0, aliases=0)),
@@ -1035,7 +1042,7 @@ KNOWN = [
         ],
         (
             *hint("a", "a.html exists: --fallback html"), *hint("d/b?x", "d/b.html exists: --fallback html"), *hint("e/", "e/ has Home.php: --index-file Home.php"),
-            *hint("f/", None), *hint("g/", None), *hint("%C3%BC", "\u00fc.html exists: --fallback html"), *hint("c", None),
+            *hint("f/", NO_INDEX_FILE), *hint("g/", NO_INDEX_FILE), *hint("%C3%BC", "\u00fc.html exists: --fallback html"), *hint("c", None),
             *hint("h/", "h/ has Index.html: --index-file Index.html"),
         ),
         settings=NO_BASE,
@@ -1045,6 +1052,34 @@ KNOWN = [
         {"home.php": "", "a.html": "<a href=/a><a href=a%2F><a href=/>"},
         ["./ a.html:1:33", "a a.html:1:9", "a%2F a.html:1:20"],
         hint("./", "./ has home.php: --index-file home.php"),
+    ),
+    Known(
+        "links to folders without an index file",
+        {"index.html": "\n".join(f"<a href='{link}'>" for link in FOLDERS), "d/e/a.png": "", "\u00fc d/x": "", "d.html": "", "l": To("d"), "o": To("../site2"), "../site2/a": ""},
+        [f"{target} index.html:{line}:10" for line, target in enumerate(FOLDERS.values(), 1)],
+        (
+            *hint("d/", NO_INDEX_FILE), *hint("d/?q", NO_INDEX_FILE), *hint("d/e/", NO_INDEX_FILE), *hint("%C3%BC%20d/", NO_INDEX_FILE), *hint("d//e//", NO_INDEX_FILE),
+            *hint("l/", NO_INDEX_FILE), *hint("l/e/", NO_INDEX_FILE), *hint("D/", None), *hint("f/", None), *hint("d/f/", None), *hint("d.html/", None), *hint("d/e/a.png/", None),
+            *hint("o/", LEADS_OUT),
+        ),
+        settings=NO_BASE,
+    ),
+    Known(
+        "queries and folders without an index file",
+        {"index.html": "<a href='d/'><a href='d/?q'><a href='d/?q/'><a href='e/'><a href='e/?q'><a href='f%3Fq/'>", "d/a": "", "e/index.html?q": "", "f?q/a": ""},
+        ["d/ index.html:1:10", "d/?q index.html:1:23", "d/?q/ index.html:1:38", "e/ index.html:1:54", "f%3Fq/ index.html:1:82"],
+        (*hint("d/", NO_INDEX_FILE), *hint("d/?q", None), *hint("d/?q/", None), *hint("e/", NO_INDEX_FILE), *hint("f%3Fq/", NO_INDEX_FILE)),
+        settings=(*NO_BASE, ("queries", True)),
+    ),
+    Known(
+        "folders without an index file, by the rules of a plain server",
+        {"index.html": "<a href=d/><a href=d//><a href=%64/><a href=d/?q>", "d/a": ""},
+        ["%64/ index.html:1:32", "d/ index.html:1:9", "d// index.html:1:20", "d/?q index.html:1:45"],
+        (*hint("d/", NO_INDEX_FILE), *hint("d//", None), *hint("%64/", None), *hint("d/?q", None)),
+        settings=(*NO_BASE, *host("plain")),
+    ),
+    Known(
+        "the top without an index file", {"a.html": "<a href=.><a href=/?q>"}, ["./ a.html:1:9", "?q a.html:1:19"], (*hint("./", NO_INDEX_FILE), *hint("?q", NO_INDEX_FILE)),
     ),
     Known(
         "what --fallback html does not find",

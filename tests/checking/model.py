@@ -24,6 +24,7 @@ MOST_FILES = 10  # the number of files in the list of files with the most broken
 ERROR_PAGE = "404.html"  # the last name of the URL of a page that no sitemap has to list
 LEADS_OUT = "a symbolic link out of the folder: --follow"  # the hint of a symbolic link that is not followed
 LEADS_NOWHERE = "a symbolic link to nothing"
+NO_INDEX_FILE = "the folder has no index file"
 ROOT_FOLDER = re.compile("/([A-Za-z0-9_~-][A-Za-z0-9_.~-]*)/")  # the first folder of a path from the root, if it has the same text in a URL
 SLASHES = range(3, 9)  # the slashes in a URL of a host and at most five folders
 LINE_LIMIT = 4096  # the most bytes in a line of a saved web
@@ -482,7 +483,7 @@ class Site:
         return key._replace(path=self.own_path(key.path))
 
     def hint(self, url: str) -> Optional[str]:
-        """Which symbolic link was skipped on the way to a URL without a page, or what another rule would find there, and its option."""
+        """Why a URL has no page: a symbolic link that was skipped on the way, the file that another rule would find, or a folder without one."""
         key = self.key_of(url)
         if key is None or key in self.files:
             return None
@@ -494,7 +495,10 @@ class Site:
             is_off = not self.settings.exact and not self.settings.fallback
             return f"{self.file_of(page)} exists: --fallback html" if page and is_off else None
         index = self.likely_indices.get(key)
-        return f"{os.fsdecode(key.path) or './'} has {index}: --index-file {index}" if index else None
+        if index:
+            return f"{os.fsdecode(key.path) or './'} has {index}: --index-file {index}"
+        is_folder = key.query is None and (not key.path or key.path in self.names)
+        return NO_INDEX_FILE if is_folder else None
 
     def skipped_on(self, key: Key) -> Optional[str]:
         """The hint of the first symbolic link on a path that was skipped, or of the one at its end."""

@@ -413,6 +413,22 @@ def index_hint(homes: At, url: bytes) -> Optional[Hint]:
     return None if file is None else Hint(False, file)
 
 
+class FolderHint(NamedTuple):
+    """The folder at this URL has no index file."""
+
+    url: bytes
+
+
+def is_subfolder(at: At, url: bytes) -> bool:
+    """This is the URL of a folder below the top: there is a redirect at the URL without its slash."""
+    return ends_in_slash(url) and isinstance(at(url[:-1]), Moved)
+
+
+def folder_hint(at: At, top: bytes, url: bytes) -> Optional[FolderHint]:
+    """That this is the URL of a folder: of the top, or of one below it."""
+    return FolderHint(url) if url == top or is_subfolder(at, url) else None
+
+
 class LinkHint(NamedTuple):
     """A symbolic link that is not followed leads out of the folder, or to nothing."""
 
@@ -438,7 +454,7 @@ def link_hint(server: Server, folder: Folder, url: bytes) -> Optional[LinkHint]:
     return None if is_outside is None else LinkHint(is_outside)
 
 
-def hint_at(server: Server, tables: Tuple[Table, Table], folder: Folder, url: bytes) -> Union[Hint, LinkHint, None]:
+def hint_at(server: Server, tables: Tuple[Table, Table], folder: Folder, url: bytes) -> Union[Hint, LinkHint, FolderHint, None]:
     """The hint for a URL, by the pages at each URL and those under other rules."""
     table, homes = tables
     plain = plain_url(server, url)
@@ -448,7 +464,8 @@ def hint_at(server: Server, tables: Tuple[Table, Table], folder: Folder, url: by
     looked_up = own_spelling(own, b"", names_of(plain))
     if table.get(looked_up) is not None:
         return None
-    return link_hint(server, folder, looked_up) or html_hint(table.get, server.host, looked_up) or index_hint(homes.get, looked_up)
+    by_other_rules = html_hint(table.get, server.host, looked_up) or index_hint(homes.get, looked_up)
+    return link_hint(server, folder, looked_up) or by_other_rules or folder_hint(table.get, server.top, looked_up)
 
 
 # ---- against the model
@@ -494,10 +511,12 @@ def hint_error(found: model.Model, folder: Folder, table: Table) -> Optional[str
     return None
 
 
-def hint_text(site: model.Site, folder: Folder, hint: Union[Hint, LinkHint]) -> str:
+def hint_text(site: model.Site, folder: Folder, hint: Union[Hint, LinkHint, FolderHint]) -> str:
     """A hint as the model shows it."""
     if isinstance(hint, LinkHint):
         return model.LEADS_OUT if hint.is_outside else model.LEADS_NOWHERE
+    if isinstance(hint, FolderHint):
+        return model.NO_INDEX_FILE
     name = folder.names[hint.number]
     if hint.is_fallback:
         return f"{site.file_of(name)} exists: --fallback html"

@@ -17,6 +17,8 @@ EDITS: Tuple[Edit, ...] = (
     Edit("site_files.Pages", "own_spelling own (own (front ++ name ++ 47 ∷ []))", "own_spelling own (front ++ name ++ 47 ∷ [])"),
     Edit("site_files.Pages", "then at (with_html url) else Missing", "then at url else Missing"),
     Edit("site_files.Hints", "if host.fallback || host.exact then None", "if host.fallback then None"),
+    Edit("site_files.Hints", "is_folder at top url = bytes_eq url top || is_subfolder at url", "is_folder at top url = is_subfolder at url"),
+    Edit("site_files.Hints", "is_moved (at (take (length url - 1) url))", "is_moved (at url)"),
     Edit("site_files.Kinds", 'is_html suffix = str_eq_ignore_ascii_case suffix (codes "html")', 'is_html suffix = bytes_eq suffix (codes "html")'),
     Edit("site_files.Own", "starts_at file.kind url && is_own_url files number url", "starts_at file.kind url"),
     # Documents: elements, the base, ids, references, styles, comments, scripts, templates, feeds, foreign content

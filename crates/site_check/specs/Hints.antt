@@ -1,4 +1,5 @@
--- Hints: why a page is missing, as it is reported with the page. A symbolic link is not followed, or a server with other rules finds a file.
+-- Hints: why a page is missing, as it is reported with the page. A symbolic link is not followed, a server with other rules finds a file, or a
+-- folder has no index file.
 use Rattle.std.specs.Prelude.{ℕ, ◌-◌, if◌then◌else◌, List, [], ◌∷◌, ◌++◌, codes, length, take, Option, Some, None, unwrap_or, string_bytes, option_map}
 use Rattle.std.specs.List.{flat_map, list_any}
 use Rattle.check_report.specs.declared.value.Broken.{Broken}
@@ -13,7 +14,7 @@ use Rattle.site_files.specs.Files.{name_at}
 use Rattle.site_files.specs.Hints.{hint_at}
 use Rattle.site_files.specs.declared.files.SiteFiles.{SiteFiles}
 use Rattle.site_files.specs.declared.hint.Hint.{Hint}
-use Rattle.site_files.specs.declared.hint.Hint.TheVariants.{HtmlFallback, IndexFile, LeadsNowhere, LeadsOut}
+use Rattle.site_files.specs.declared.hint.Hint.TheVariants.{HtmlFallback, IndexFile, LeadsNowhere, LeadsOut, NoIndexFile}
 
 -- ---- the texts
 
@@ -36,6 +37,7 @@ hint_text files (HtmlFallback index) = fallback_text (name_in files index)
 hint_text files (IndexFile index) = index_text (name_in files index)
 hint_text files LeadsOut = codes "a symbolic link out of the folder: --follow"
 hint_text files LeadsNowhere = codes "a symbolic link to nothing"
+hint_text files NoIndexFile = codes "the folder has no index file"
 
 -- what is reported with the missing page at a URL
 abbrev pub hint_of : SiteFiles → List ℕ → Option (List ℕ)

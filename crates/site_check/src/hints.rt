@@ -1,4 +1,4 @@
-//! Why a page is missing: a symbolic link that is not followed, or a rule that another server has.
+//! Why a page is missing: a symbolic link that is not followed, a rule that another server has, or a folder without an index file.
 ghost use Rattle.std.specs.Prelude.{◌≡◌, ◌++◌, [], IfOk, codes, unwrap_or, option_map, string_bytes};
 ghost use Rattle.site_files.specs.Files.{name_at};
 ghost use Rattle.site_check.specs.Hints.{fallback_text, hint_of, hint_text, index_text, name_in};
@@ -24,7 +24,7 @@ pub(crate) fn hint_of(
     }
 }
 
-/// The file that is found and the option with which it is, or where a symbolic link leads.
+/// The file that is found and the option with which it is, where a symbolic link leads, or that a folder has no index file.
 fn hint_text(alloc: Global, files: &SiteFiles<'_>, hint: Hint) -> Result<String, NoMemory>
     ensures { IfOk result (λ text. string_bytes text ≡ hint_text files.now hint) }
 {
@@ -33,6 +33,7 @@ fn hint_text(alloc: Global, files: &SiteFiles<'_>, hint: Hint) -> Result<String,
         Hint::IndexFile(index) => index_text(alloc, name_in(files, index)),
         Hint::LeadsOut => String::from_str(alloc, "a symbolic link out of the folder: --follow"),
         Hint::LeadsNowhere => String::from_str(alloc, "a symbolic link to nothing"),
+        Hint::NoIndexFile => String::from_str(alloc, "the folder has no index file"),
     }
 }
 

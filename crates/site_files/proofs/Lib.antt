@@ -1,4 +1,5 @@
 pub mod FirstOnes
+pub mod Folders
 pub mod ListedPages
 pub mod Listing
 pub mod Lookups

@@ -2,9 +2,9 @@
 -- `http.server`, which looked up and returned the same.
 use Rattle.std.specs.Prelude.{◌≡◌, ℕ, Bool, false, true, List, [], ◌∷◌, codes, Option, Some, None}
 use Rattle.percent_encoding.specs.Percent.{percent_decode}
-use Rattle.site_files.specs.Hints.{home_page}
+use Rattle.site_files.specs.Hints.{home_page, is_folder}
 use Rattle.site_files.specs.Kinds.{kind_of, starts_at}
-use Rattle.site_files.specs.Pages.{Folder, Response, Missing, Moved, Found, own_text, page, response_at}
+use Rattle.site_files.specs.Pages.{Folder, Response, Missing, Moved, Found, own_text, page, page_at, response_at}
 use Rattle.site_files.specs.Server.{Host, Server, looked_up, names_of}
 use Rattle.site_files.specs.Skipped.{LinkAt, outside_at, outside_on}
 use Rattle.site_files.specs.declared.kinds.FileKind.TheVariants.{Html, Xml, Svg, Style, Feed, UrlList, Unknown}
@@ -182,6 +182,21 @@ pub record Homes : Type 0 where
   pub folder : home_page (server host) 0 (codes "index.d/") ≡ None
   pub other : home_page (server host) 0 (codes "a/page.html") ≡ None
   pub query : home_page queries 2 (codes "index.php?a=1") ≡ Some (page (codes "http://h/?a=1") (Found 2))
+
+-- ---- folders without an index file
+
+abbrev pub is_folder_in : List (List ℕ) → List ℕ → Bool
+is_folder_in names url = is_folder (page_at (server host) names) (server host).top url
+
+-- whether URLs are those of folders
+pub record Folders : Type 0 where
+  pub top : is_folder_in [] (codes "http://h/") ≡ true
+  pub folder : is_folder_in (codes "d/" ∷ []) (codes "http://h/d/") ≡ true
+  pub folder_below : is_folder_in (codes "d/" ∷ codes "d/e f/" ∷ []) (codes "http://h/d/e%20f/") ≡ true
+  pub without_slash : is_folder_in (codes "d/" ∷ []) (codes "http://h/d") ≡ false
+  pub file : is_folder_in (codes "a" ∷ []) (codes "http://h/a/") ≡ false
+  pub case : is_folder_in (codes "d/" ∷ []) (codes "http://h/D/") ≡ false
+  pub other : is_folder_in (codes "d/" ∷ []) (codes "http://h/d/e/") ≡ false
 
 -- ---- symbolic links that are not followed
 

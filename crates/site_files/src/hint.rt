@@ -1,7 +1,8 @@
-//! Why a URL has no page: a symbolic link that is not followed, or a rule that another server has.
-ghost use Rattle.std.specs.Prelude.{◌≡◌, IfOk, not, option_map};
+//! Why a URL has no page: a symbolic link that is not followed, a rule that another server has, or a folder without an index file.
+ghost use Rattle.std.specs.Prelude.{◌≡◌, IfOk, not, option_map, string_bytes};
 ghost use Rattle.site_files.specs.Entries.{entry_at, host_of};
-ghost use Rattle.site_files.specs.Hints.{hint_at, hint_for, hint_of_link, html_hint, is_missing, missing_hint, other_hint, with_fallback};
+ghost use Rattle.site_files.specs.Files.{server_of};
+ghost use Rattle.site_files.specs.Hints.{folder_hint, hint_at, hint_for, hint_of_link, html_hint, is_folder, is_missing, is_moved, is_subfolder, missing_hint, other_hint, with_fallback};
 ghost use Rattle.site_files.specs.Pages.{fallback_at, found_file};
 ghost use Rattle.site_files.specs.declared.hint.Hint.TheVariants.{IndexFile};
 
@@ -21,11 +22,14 @@ pub enum Hint {
     LeadsOut,
     /// A symbolic link on the path of the URL leads to nothing.
     LeadsNowhere,
+    /// The URL is that of a folder, which has no index file.
+    NoIndexFile,
 }
 
 impl SiteFiles<'_> {
     /// Why a URL of the site has no page: the first symbolic link on its path that is not followed, or else what a server with other
-    /// rules returns. `None` if there is a page by the rules of the site, or if the site has a list.
+    /// rules returns, or else that it is the URL of a folder. `None` if there is a page by the rules of the site, or if the site has a
+    /// list.
     ///
     /// # Errors
     /// Out of memory.
@@ -54,7 +58,7 @@ impl SiteFiles<'_> {
 
     /// The hint for this URL, which has no page.
     fn missing_hint(&self, alloc: Global, url: &str) -> Result<Option<Hint>, AllocError>
-        ensures { IfOk result (λ hint. hint ≡ missing_hint (entry_at self.now.pages) (entry_at self.now.homes) self.now.skipped (host_of self.now.rules.now) url.now) }
+        ensures { IfOk result (λ hint. hint ≡ missing_hint (entry_at self.now.pages) (entry_at self.now.homes) self.now.skipped (server_of self.now) url.now) }
     {
         match self.skipped.is_outside_on(alloc, url)? {
             Some(is_outside) => Ok(Some(hint_of_link(is_outside))),
@@ -62,13 +66,13 @@ impl SiteFiles<'_> {
         }
     }
 
-    /// The file that is found for this URL by other rules.
+    /// The file that is found for this URL by other rules, or else that the URL is that of a folder.
     fn other_hint(&self, alloc: Global, url: &str) -> Result<Option<Hint>, AllocError>
-        ensures { IfOk result (λ hint. hint ≡ other_hint (entry_at self.now.pages) (entry_at self.now.homes) (host_of self.now.rules.now) url.now) }
+        ensures { IfOk result (λ hint. hint ≡ other_hint (entry_at self.now.pages) (entry_at self.now.homes) (server_of self.now) url.now) }
     {
         match self.html_hint(alloc, url)? {
             Some(hint) => Ok(Some(hint)),
-            None => Ok(self.index_hint(url)),
+            None => Ok(self.folder_hint(url)),
         }
     }
 
@@ -96,13 +100,43 @@ impl SiteFiles<'_> {
         Ok(self.pages.file_at(html.as_str()))
     }
 
-    /// The file that is the page of the folder at this URL, if the rules have its name.
-    fn index_hint(&self, url: &str) -> Option<Hint>
-        ensures { result ≡ option_map IndexFile (found_file (entry_at self.now.homes url.now)) }
+    /// The hint if this is the URL of a folder: the file that is its page if the rules have its name, or else that it has no index file.
+    fn folder_hint(&self, url: &str) -> Option<Hint>
+        ensures { result ≡ folder_hint (entry_at self.now.pages) (entry_at self.now.homes) (string_bytes self.now.site.top) url.now }
     {
         match self.homes.file_at(url) {
             Some(file) => Some(Hint::IndexFile(file)),
+            None if self.is_folder(url) => Some(Hint::NoIndexFile),
             None => None,
+        }
+    }
+
+    /// Whether this is the URL of a folder: of the top, or of one below it.
+    fn is_folder(&self, url: &str) -> bool
+        ensures { result ≡ is_folder (entry_at self.now.pages) (string_bytes self.now.site.top) url.now }
+    {
+        url == self.top() || self.is_subfolder(url)
+    }
+
+    /// Whether this is the URL of a folder below the top, so that there is a redirect at the URL without its slash.
+    #[tactic(auto, using(crate::proofs::Folders::subfolder, crate::proofs::Folders::no_subfolder))]
+    fn is_subfolder(&self, url: &str) -> bool
+        ensures { result ≡ is_subfolder (entry_at self.now.pages) url.now }
+    {
+        match url.strip_suffix("/") {
+            Some(name) => self.is_moved(name),
+            None => false,
+        }
+    }
+
+    /// Whether the page with this URL is a redirect.
+    #[tactic(auto, using(crate::proofs::Folders::moved_there, crate::proofs::Folders::none_moved))]
+    fn is_moved(&self, url: &str) -> bool
+        ensures { result ≡ is_moved (entry_at self.now.pages url.now) }
+    {
+        match self.find(url) {
+            Some(number) => self.moved_to(number).is_some(),
+            None => false,
         }
     }
 

@@ -1,5 +1,5 @@
 //! What the definitions in `specs/` say of some requests.
-ghost use Rattle.site_files.specs.Vectors.{Homes, Kinds, Links, Requests, Responses, Rules, Starts};
+ghost use Rattle.site_files.specs.Vectors.{Folders, Homes, Kinds, Links, Requests, Responses, Rules, Starts};
 
 /// The paths that are looked up for requests.
 pub fn requests()
@@ -29,6 +29,11 @@ pub fn starts()
 /// The pages of folders by index files that the rules do not have.
 pub fn homes()
     ensures { Homes }
+{}
+
+/// Which URLs are those of folders.
+pub fn folders()
+    ensures { Folders }
 {}
 
 /// The first symbolic links on the paths of URLs that are not followed.
