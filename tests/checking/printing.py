@@ -106,10 +106,10 @@ def advice(row: Row, is_plain: bool = False) -> str:
     return (f" (did you mean {page}?)" if page else "") + (f" ({hint})" if hint else "")
 
 
-def as_written(row: Row, place: Row) -> str:
-    """The text of a link, in brackets, unless the target ends with it."""
+def as_written(place: Row, name: str) -> str:
+    """The text of a link, in brackets, unless the name of its target ends with it."""
     text = place["written"]
-    return f" (written as {text})" if text is not None and not named(row).endswith(text) else ""
+    return f" (written as {text})" if text is not None and not name.endswith(text) else ""
 
 
 def is_mail_address(text: str) -> bool:
@@ -129,7 +129,7 @@ def question(row: Row, place: Row) -> str:
 
 def line_of(row: Row, place: Row) -> str:
     """The line of a location in a report as text."""
-    return f"{place['file']}:{place['line']}:{place['column']}: {named(row)}: {message(row)}{as_written(row, place)}{question(row, place)}{advice(row)}"
+    return f"{place['file']}:{place['line']}:{place['column']}: {named(row)}: {message(row)}{as_written(place, named(row))}{question(row, place)}{advice(row)}"
 
 
 def rest_text(count: int) -> str:
@@ -226,7 +226,7 @@ def as_annotations(rows: List[Row], folder: str) -> str:
         begin, end = row["target"] + ": " + message(row), advice(row, True)
         for place in places:
             file = f" file={escaped(front + place['file'], True)},line={place['line']},col={place['column']}"
-            lines.append(f"::error{file}::{escaped(begin + question(row, place) + end, False)}\n")
+            lines.append(f"::error{file}::{escaped(begin + as_written(place, row['target']) + question(row, place) + end, False)}\n")
         lines += [f"::error::{escaped(begin + end, False)}\n"] if not places else []
     lines += [f"::error::{escaped(row['name'], False)}: {message(row)}\n" for row in rows if row["kind"] == "unlisted"]
     return "".join(lines)

@@ -6,18 +6,13 @@ use Rattle.check_report.specs.Names.{target_in}
 use Rattle.check_report.specs.Paths.{slash_after, without_here}
 use Rattle.check_report.specs.Rows as line
 use Rattle.check_report.specs.Rows.{Line}
-use Rattle.check_report.specs.Schemes.{scheme_note}
-use Rattle.check_report.specs.Text.{advised, counted, message, noted}
+use Rattle.check_report.specs.Text.{advised, counted, link_end, message}
 use Rattle.check_report.specs.declared.escape.Escape.TheVariants as escape
 use Rattle.check_report.specs.declared.row.Section.{Section}
 use Rattle.check_report.specs.declared.row.Section.TheVariants as section
 use Rattle.check_report.specs.declared.value.BaseHint.{BaseHint}
 use Rattle.check_report.specs.declared.value.Broken.{Broken}
 use Rattle.check_report.specs.declared.value.Place.{Place}
-
--- a target, what is wrong with it, a note about the link, and what is suggested
-abbrev pub message_line : List ℕ → Broken → List ℕ
-message_line note b = advised escape.Data b (target_in escape.Data b ++ codes ": " ++ message b.kind ++ noted (codes " ") note) ++ codes "\n"
 
 -- a hint at BASE, which is no error
 abbrev pub hint_annotation : BaseHint → List ℕ
@@ -28,14 +23,19 @@ abbrev pub file_start : List ℕ → List ℕ
 file_start folder =
     if bytes_eq folder (codes ".") then codes "::error file=" else codes "::error file=" ++ escaped escape.Property folder ++ slash_after (slice_get folder (length folder - 1))
 
--- the location of a link, and the message
-abbrev pub place_annotation : List ℕ → Broken → Place → List ℕ
-place_annotation folder b p =
-    file_start (without_here folder) ++ (escaped escape.Property (string_bytes p.file) ++ counted (codes ",line=") p.line ++ counted (codes ",col=") p.column ++ codes "::") ++ message_line (scheme_note b p) b
+-- the file in its folder, the line and the column of a link, and its target and what is wrong with it
+abbrev pub finding_at : Broken → Place → List ℕ
+finding_at b p =
+    escaped escape.Property (string_bytes p.file) ++ counted (codes ",line=") p.line ++ counted (codes ",col=") p.column ++ codes "::" ++ target_in escape.Data b ++ codes ": " ++ message b.kind
 
--- a target without locations
+-- and the link as it is written, the note about its scheme, and what is suggested
+abbrev pub place_annotation : List ℕ → Broken → Place → List ℕ
+place_annotation folder b p = file_start (without_here folder) ++ finding_at b p ++ link_end escape.Data b p
+
+-- a target without locations: what is wrong with it, and what is suggested
 abbrev pub broken_annotation : Broken → List ℕ
-broken_annotation b = if nat_lt 0 (length b.places.items) then [] else codes "::error::" ++ message_line [] b
+broken_annotation b =
+    if nat_lt 0 (length b.places.items) then [] else advised escape.Data b (codes "::error::" ++ target_in escape.Data b ++ codes ": " ++ message b.kind) ++ codes "\n"
 
 -- a document that no sitemap lists
 abbrev pub unlisted_annotation : List ℕ → List ℕ

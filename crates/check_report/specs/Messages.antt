@@ -3,6 +3,7 @@ use Rattle.std.specs.Prelude.{List, [], ◌++◌, ℕ, codes, string_bytes, if�
 use Rattle.check_report.specs.Names.{ends_with_link, page_name, target_name}
 use Rattle.check_report.specs.Schemes.{scheme_note}
 use Rattle.check_report.specs.Text.{message, noted}
+use Rattle.check_report.specs.declared.escape.Escape.TheVariants as escape
 use Rattle.check_report.specs.declared.value.Broken.{Broken}
 use Rattle.check_report.specs.declared.value.Kind.{Kind}
 use Rattle.check_report.specs.declared.value.Kind.TheVariants.{NoPage, NoAnchor, NotUrl, UnknownScheme, LocalFile, Leaves, OutsideBase, NotInMap}
@@ -31,10 +32,10 @@ unlisted_message document = page_name document ++ codes ": not in a sitemap"
 abbrev pub bracketed : List ℕ → List ℕ → List ℕ
 bracketed word text = word ++ text ++ codes ")"
 
--- the link as it is written, unless the name of its target ends with it
+-- the link as it is written, unless the name of its target ends with it, which is that of the text report
 abbrev pub written_part : Broken → Option (List ℕ) → List ℕ
 written_part b None = []
-written_part b (Some link) = if ends_with_link b link then [] else bracketed (codes " (written as ") link
+written_part b (Some link) = if ends_with_link escape.Shown b link then [] else bracketed (codes " (written as ") link
 
 abbrev pub same_name_part : Option (List ℕ) → List ℕ
 same_name_part None = []

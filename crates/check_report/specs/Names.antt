@@ -88,10 +88,6 @@ is_text NotInMap = false
 abbrev pub target_name : Broken → List ℕ
 target_name b = if is_text b.kind then string_bytes b.target else page_name (string_bytes b.target)
 
--- whether the name of the target ends with this link: then the link as it is written says nothing more
-abbrev pub ends_with_link : Broken → List ℕ → Bool
-ends_with_link b link = ends_with nat_eq (target_name b) link
-
 -- whether the position is in a GitHub command, in which names stay as they are
 abbrev pub is_command : Escape → Bool
 is_command escape.Shown = false
@@ -103,6 +99,14 @@ is_command escape.Html = false
 abbrev pub page_in : Escape → List ℕ → List ℕ
 page_in how text = escaped how (if is_command how then text else page_name text)
 
--- a target in this position
+-- the name of a target in this position
+abbrev pub target_at : Escape → Broken → List ℕ
+target_at how b = if is_command how then string_bytes b.target else target_name b
+
+-- and escaped for the position
 abbrev pub target_in : Escape → Broken → List ℕ
-target_in how b = escaped how (if is_command how then string_bytes b.target else target_name b)
+target_in how b = escaped how (target_at how b)
+
+-- whether the name of the target in this position ends with this link: then the link as it is written says nothing more
+abbrev pub ends_with_link : Escape → Broken → List ℕ → Bool
+ends_with_link how b link = ends_with nat_eq (target_at how b) link

@@ -72,7 +72,7 @@ advised how b text = text ++ same_name_text how (option_map string_bytes b.same_
 -- a word and the link as it is written, unless the name of its target ends with it
 abbrev pub written_text : Escape → List ℕ → Broken → Option (List ℕ) → List ℕ
 written_text how word b None = []
-written_text how word b (Some link) = if ends_with_link b link then [] else bracketed how word link
+written_text how word b (Some link) = if ends_with_link how b link then [] else bracketed how word link
 
 -- a blank and a note; nothing if the note is empty
 abbrev pub noted : List ℕ → List ℕ → List ℕ
@@ -112,12 +112,16 @@ abbrev pub place_head : Bool → Place → List ℕ
 place_head colour p = code colour bold ++ shown (string_bytes p.file) ++ counted (codes ":") p.line ++ counted (codes ":") p.column ++ codes ": " ++ code colour plain
 
 -- the link as it is written, and the note about its scheme
-abbrev pub link_text : Broken → Place → List ℕ
-link_text b p = written_text escape.Shown (codes " (written as ") b (option_map string_bytes p.written) ++ noted (codes " ") (scheme_note b p)
+abbrev pub link_text : Escape → Broken → Place → List ℕ
+link_text how b p = written_text how (codes " (written as ") b (option_map string_bytes p.written) ++ noted (codes " ") (scheme_note b p)
+
+-- and what is suggested, to the end of the line
+abbrev pub link_end : Escape → Broken → Place → List ℕ
+link_end how b p = advised how b (link_text how b p) ++ codes "\n"
 
 -- a location, the target of its link, and the link
 abbrev pub place_text : Bool → Broken → Place → List ℕ
-place_text colour b p = place_head colour p ++ target_start colour b ++ (advised escape.Shown b (link_text b p) ++ codes "\n")
+place_text colour b p = place_head colour p ++ target_start colour b ++ link_end escape.Shown b p
 
 -- a target without locations has its own line
 abbrev pub broken_text : Bool → Broken → List ℕ

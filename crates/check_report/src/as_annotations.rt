@@ -1,16 +1,15 @@
 //! Prints a row as a GitHub annotation.
 ghost use Rattle.std.specs.Prelude.{◌≡◌, ◌++◌, OnOk};
-ghost use Rattle.check_report.specs.Annotations.{annotation_line, broken_annotation, file_start, hint_annotation, message_line, name_annotation, place_annotation, unlisted_annotation};
+ghost use Rattle.check_report.specs.Annotations.{annotation_line, broken_annotation, file_start, hint_annotation, name_annotation, place_annotation, unlisted_annotation};
 ghost use Rattle.check_report.specs.Rows.{line_of};
 
-use crate::as_text::message;
+use crate::as_text::{message, put_link_end};
 use crate::escape::Escape;
 use crate::hints::put_base_hint;
 use crate::paths::{slash_after, without_here};
 use crate::piece::{Piece, put_all};
 use crate::put::{NoMemory, put};
 use crate::row::{Row, Section};
-use crate::schemes::scheme_note;
 use crate::value::{BaseHint, Broken, Place};
 
 /// Appends the annotation of a row, if it has one; the path of its file starts with the folder.
@@ -50,16 +49,27 @@ fn put_broken(out: &mut Vec<u8>, broken: &Broken) -> Result<(), NoMemory>
     if broken.places.len() > 0 {
         return Ok(());
     }
-    put(out, "::error::")?;
-    put_message(out, broken, "")
+    put_all(
+        out,
+        &[
+            Piece::Text("::error::"),
+            Piece::Target(Escape::Data, broken),
+            Piece::Text(": "),
+            Piece::Text(message(broken.kind)),
+            Piece::SameName(Escape::Data, &broken.same_name),
+            Piece::Hint(Escape::Data, &broken.hint),
+            Piece::Text("\n"),
+        ],
+    )
 }
 
-/// Appends an `::error` command for a broken link: the file, the line and the column, and the message.
-fn put_place(
+/// Appends an `::error` command for a broken link: the file, the line and the column, the target, what is wrong with it, the link as it
+/// is written, the note about its scheme, and what is suggested.
+fn put_place<'r>(
     out: &mut Vec<u8>,
     folder: &str,
-    broken: &Broken,
-    place: &Place,
+    broken: &'r Broken,
+    place: &'r Place,
 ) -> Result<(), NoMemory>
     ensures { OnOk result (out.new.items ≡ out.old.items ++ place_annotation folder.now broken.now place.now) }
 {
@@ -71,9 +81,12 @@ fn put_place(
             Piece::Counted(",line=", place.line),
             Piece::Counted(",col=", place.column),
             Piece::Text("::"),
+            Piece::Target(Escape::Data, broken),
+            Piece::Text(": "),
+            Piece::Text(message(broken.kind)),
         ],
     )?;
-    put_message(out, broken, scheme_note(broken, place))
+    put_link_end(out, Escape::Data, broken, place)
 }
 
 /// Appends `::error file=` with the folder and a slash, or without them for the current folder.
@@ -118,24 +131,6 @@ fn put_unlisted(out: &mut Vec<u8>, document: &str) -> Result<(), NoMemory>
             Piece::Text("::error::"),
             Piece::Escaped(Escape::Data, document),
             Piece::Text(": not in a sitemap\n"),
-        ],
-    )
-}
-
-/// Appends the target, what is wrong with it, the note about the link, and what is suggested, and ends the line.
-fn put_message(out: &mut Vec<u8>, broken: &Broken, note: &'static str) -> Result<(), NoMemory>
-    ensures { OnOk result (out.new.items ≡ out.old.items ++ message_line note.now broken.now) }
-{
-    put_all(
-        out,
-        &[
-            Piece::Target(Escape::Data, broken),
-            Piece::Text(": "),
-            Piece::Text(message(broken.kind)),
-            Piece::Note(" ", note),
-            Piece::SameName(Escape::Data, &broken.same_name),
-            Piece::Hint(Escape::Data, &broken.hint),
-            Piece::Text("\n"),
         ],
     )
 }

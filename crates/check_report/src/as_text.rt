@@ -1,7 +1,7 @@
 //! Prints a row as text.
 ghost use Rattle.std.specs.Prelude.{◌≡◌, ◌++◌, OnOk};
 ghost use Rattle.check_report.specs.Rows.{line_of};
-ghost use Rattle.check_report.specs.Text.{base_hint_line, begin_text, broken_text, broken_total, external_text, message, more_links, more_text, name_text, place_head, place_text, redirect_text, rest_text, site_total, target_start, text_line, title, total_text, verdict, worst_text};
+ghost use Rattle.check_report.specs.Text.{base_hint_line, begin_text, broken_text, broken_total, external_text, link_end, message, more_links, more_text, name_text, place_head, place_text, redirect_text, rest_text, site_total, target_start, text_line, title, total_text, verdict, worst_text};
 
 use crate::escape::Escape;
 use crate::hints::put_base_hint;
@@ -173,13 +173,25 @@ fn put_place<'r>(
 {
     put_place_head(out, place, colour)?;
     put_target_start(out, broken, colour)?;
+    put_link_end(out, Escape::Shown, broken, place)
+}
+
+/// Appends the link as it is written, the note about its scheme, and what is suggested, and ends the line.
+pub fn put_link_end<'r>(
+    out: &mut Vec<u8>,
+    how: Escape,
+    broken: &'r Broken,
+    place: &'r Place,
+) -> Result<(), NoMemory>
+    ensures { OnOk result (out.new.items ≡ out.old.items ++ link_end how broken.now place.now) }
+{
     put_all(
         out,
         &[
-            Piece::Written(Escape::Shown, WRITTEN, broken, &place.written),
+            Piece::Written(how, WRITTEN, broken, &place.written),
             Piece::Note(" ", scheme_note(broken, place)),
-            Piece::SameName(Escape::Shown, &broken.same_name),
-            Piece::Hint(Escape::Shown, &broken.hint),
+            Piece::SameName(how, &broken.same_name),
+            Piece::Hint(how, &broken.hint),
             Piece::Text("\n"),
         ],
     )

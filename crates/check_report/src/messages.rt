@@ -4,6 +4,7 @@ ghost use Rattle.check_report.specs.Messages.{advice_part, hint_part, link_messa
 ghost use Rattle.check_report.specs.Text.{noted};
 
 use crate::as_text::message;
+use crate::escape::Escape;
 use crate::names::{ends_with_link, page_name, target_name};
 use crate::put::{NoMemory, push_around};
 use crate::schemes::scheme_note;
@@ -91,7 +92,7 @@ fn push_written(
 fn push_link(alloc: Global, text: &mut String, broken: &Broken, link: &str) -> Result<(), NoMemory>
     ensures { OnOk result (string_bytes text.new ≡ string_bytes text.old ++ written_part broken.now (Some link.now)) }
 {
-    if ends_with_link(alloc, broken, link)? {
+    if ends_with_link(alloc, Escape::Shown, broken, link)? {
         Ok(())
     } else {
         push_around(text, " (written as ", link, ")")

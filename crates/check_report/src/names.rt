@@ -55,10 +55,18 @@ pub fn target_name(alloc: Global, broken: &Broken) -> Result<String, NoMemory>
     }
 }
 
-/// Whether the name of the target ends with this link: then the link as it is written says nothing more.
-pub fn ends_with_link(alloc: Global, broken: &Broken, link: &str) -> Result<bool, NoMemory>
-    ensures { IfOk result (λ ends. ends ≡ ends_with_link broken.now link.now) }
+/// Whether the name of the target in this position ends with this link: then the link as it is written says nothing more.
+pub fn ends_with_link(
+    alloc: Global,
+    how: Escape,
+    broken: &Broken,
+    link: &str,
+) -> Result<bool, NoMemory>
+    ensures { IfOk result (λ ends. ends ≡ ends_with_link how broken.now link.now) }
 {
+    if is_command(how) {
+        return Ok(broken.target.as_bytes().ends_with(link.as_bytes()));
+    }
     let name = target_name(alloc, broken)?;
     Ok(name.as_bytes().ends_with(link.as_bytes()))
 }

@@ -44,7 +44,7 @@ pub enum Piece<'a> {
     /// A hint in parentheses, or nothing if there is none.
     Hint(Escape, &'a Option<String>),
     /// A fixed text with an opening parenthesis, the link to a target as it is written, and a closing parenthesis; nothing if the link
-    /// is not known, or if the name of the target ends with it.
+    /// is not known, or if the name of the target ends with it. Text and name are for the position.
     Written(Escape, &'static str, &'a Broken, &'a Option<String>),
     /// A blank and a note; nothing if the note is empty.
     Note(&'static str, &'static str),
@@ -178,7 +178,7 @@ fn put_link_written(
 ) -> Result<(), NoMemory>
     ensures { OnOk result (out.new.items ≡ out.old.items ++ written_text how word.now broken.now (Some link.now)) }
 {
-    if ends_with_link(*out.allocator(), broken, link)? {
+    if ends_with_link(*out.allocator(), how, broken, link)? {
         Ok(())
     } else {
         put_bracketed(out, word, how, link)
