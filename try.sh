@@ -3,9 +3,15 @@
 # without proofs, which has the address sanitizer, so it is slower. Building that one takes about two minutes.
 #
 # Usage: ./try.sh [--proved] [ARGUMENT..]
-# The arguments are those of mercator [default: check examples/site]. With --proved the program is proved and built first, which
-# takes 200 CPU minutes. The exit status is that of mercator. Requires the Rattle toolchain.
+# The arguments are those of mercator [default: check examples/site]; `./try.sh help` prints its help. With --proved the program is
+# proved and built first, which takes 200 CPU minutes. The exit status is that of mercator. Requires the Rattle toolchain.
 set -euo pipefail
+case ${1:-} in
+-h | --help)
+    sed -n '2,/^[^#]/s/^# \{0,1\}//p' "$0"
+    exit
+    ;;
+esac
 here=$(cd "$(dirname "$0")" && pwd)
 folder=$here/crates/mercator_cli
 program=$folder/out/mercator_cli

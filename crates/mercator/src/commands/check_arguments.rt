@@ -70,7 +70,7 @@ fn push_run_args<'a>(alloc: Global, args: &mut Vec<Arg<'a>>) -> Result<(), Alloc
 
 /// Appends the arguments FOLDER and BASE.
 fn push_places<'a>(alloc: Global, args: &mut Vec<Arg<'a>>) -> Result<(), AllocError> {
-    push(args, folder(alloc, "Folder to check"))?;
+    push(args, folder(alloc, "Folder to check; nothing is read from the network"))?;
     let help =
         "URL at which FOLDER is published, http or https; without it, links with a host are not checked";
     push(args, base(alloc, help))
@@ -244,7 +244,7 @@ fn seed<'a>(alloc: Global) -> Arg<'a> {
         alloc,
         "seed",
         "LINK",
-        "Follow links from LINK instead of the top of the folder; repeatable",
+        "Follow links from LINK, not from the top of the folder, for --reachable and --unreached; repeatable",
     )
     .value_parser(ValueParser::NonEmptyString)
     .action(ArgAction::Append)
