@@ -66,6 +66,7 @@ BYTE_ORDER_MARKS = ((b"\xef\xbb\xbf", "utf-8"), (b"\xff\xfe", "utf-16-le"), (b"\
 NOT_KNOWN = "not known"  # marks an unknown encoding
 UNKNOWN = "\x80"  # replaces each non-ASCII byte of a document in an unknown encoding; no character reference gives it
 EDGE = "".join(map(chr, range(0x21)))  # the characters that a URL parser removes from both ends of a text
+ASCII_SPACES = "\t\n\f\r "
 PORTS = {"http": 80, "https": 443}
 GREATEST_PORT = 65535
 # The characters that are not percent-encoded, in addition to letters, digits and -._~
@@ -296,7 +297,7 @@ HTML_START = re.compile(
 )
 START_LENGTH = 1024  # the bytes of a document in which its type and its encoding are searched for
 # The patterns of the prescan of a document for its encoding
-MARK = re.compile(rb"<(?:!(?=--).*?(?:-->|\Z)|(/?[A-Za-z][^\t\n\f\r />]*)|[!/?][^>]*)", re.S)
+MARK = re.compile(rb"<(?:!(?=--).*?(?:-->|\Z)|((?i:meta)(?=[\t\n\f\r /])|/?[A-Za-z][^\t\n\f\r >]*)|[!/?][^>]*)", re.S)
 MARK_ATTRIBUTE = re.compile(
     rb"""[\t\n\f\r /]*([^\t\n\f\r />][^\t\n\f\r />=]*)
     (?:[\t\n\f\r ]*=[\t\n\f\r ]*(?:"([^"]*)(?:"|\Z)|'([^']*)(?:'|\Z)|([^\t\n\f\r >]*)))?""",
@@ -615,7 +616,7 @@ def declared(start: bytes) -> str:
             tag.setdefault(attribute[1].lower(), attribute[2] or attribute[3] or attribute[4] or b"")
         if not MARK_END.match(start, at):
             break
-        name = name_in(tag).decode("latin-1").strip(EDGE) if mark[1].lower() == b"meta" else ""
+        name = name_in(tag).decode("latin-1").strip(ASCII_SPACES) if mark[1].lower() == b"meta" else ""
         if name:
             return name
     return ""
@@ -623,11 +624,13 @@ def declared(start: bytes) -> str:
 
 def charset_of(body: bytes, kind: Optional[str]) -> str:
     """Return the encoding that a document or a style sheet declares, or nothing. UTF-16 means UTF-8, since its bytes would differ."""
-    found = SHEET_CHARSET.match(body)
+    found = SHEET_CHARSET.match(body[:START_LENGTH])
     if kind != STYLE_KIND:
         name = declared(body[:START_LENGTH]).lower()
+        if name == "x-user-defined":
+            return "cp1252"
     else:
-        name = found[1].decode("latin-1").strip(EDGE).lower() if found else ""
+        name = found[1].decode("latin-1").strip(ASCII_SPACES).lower() if found else ""
     if name in WINDOWS_NAMES:
         return "cp1252"
     return "utf-8" if name in UTF8_NAMES or name.startswith("utf-16") else name

@@ -78,7 +78,8 @@ def text_of(body: bytes) -> Tuple[str, str]:
 
     In any other encoding only ASCII is read.
     """
-    read = marked_text(body) or named_text(body, encoding_named(TOOL.declared(body[:TOOL.START_LENGTH])))
+    label = TOOL.declared(body[:TOOL.START_LENGTH])
+    read = marked_text(body) or named_text(body, "windows-1252" if label.lower() == "x-user-defined" else encoding_named(label))
     if read is not None:
         return read
     try:
@@ -96,7 +97,7 @@ def sheet_text(body: bytes) -> Tuple[str, str]:
 
 def encoding_named(label: str) -> str:
     """The name of the encoding with a label. UTF-16 means UTF-8, since its bytes could not have said so."""
-    label = label.strip(TOOL.EDGE).lower()
+    label = label.strip(TOOL.ASCII_SPACES).lower()
     if label in TOOL.UTF8_NAMES or label.startswith("utf-16"):
         return "utf-8"
     return "windows-1252" if label in TOOL.WINDOWS_NAMES else label

@@ -452,7 +452,7 @@ NATIVES: Dict[str, Native] = {
     "utf8_lossy": (utf8_lossy, 1), "is_utf8": (is_utf8, 1), "chars": (chars, 1), "trim": (trim, 1), "lines": (lines, 1),
     "str_eq_ignore_ascii_case": (str_eq_ignore_ascii_case, 2), "encode_utf8": (lambda c: text(chr(c).encode()), 1),
     "to_ascii_lowercase": (to_ascii_lowercase, 1), "str_to_ascii_lowercase": (lambda xs: text(unlisted(xs).lower()), 1), "digit_value": (digit_value, 1), "is_digit": (is_digit, 2), "is_control": (is_control, 1),
-    "is_ascii": (lambda b: b < 128, 1),
+    "is_ascii": (lambda b: b < 128, 1), "is_ascii_whitespace": (lambda b: b in b"\t\n\f\r ", 1), "is_ascii_alphabetic": (lambda b: 65 <= b < 91 or 97 <= b < 123, 1),
     "is_c0_control_or_space": (lambda b: b <= 32, 1), "trim_start": (lambda f, xs: drop(prefix_len(f, xs), xs), 2),
     "is_ascii_alphanumeric": (lambda b: 48 <= b < 58 or 65 <= b < 91 or 97 <= b < 123, 1), "IsAscii": (lambda xs: all(b < 128 for b in items(xs)), 1),
     "percent_encode": (percent_encode, 2), "percent_decode": (percent_decode, 1), "rsplit_once": (rsplit_once, 2), "url.specs.Input.trim_end": (trim_end, 2),

@@ -15,6 +15,7 @@ SYNTAXES = {"html": ("Html",), "xml": ("Xhtml",), "": ("Html",)}
 KINDS = {"css": ("StyleSheet",), "feed": ("Feed",), "list": ("UrlList",)}
 LIMIT = 1 << 30
 LONG = 300_000  # the length of a text from which on it is not read: a definition calls itself for each byte
+CHARSETS = {"Windows1252": "windows-1252", "Other": "other"}  # the names of encodings in the model; the others are Unicode
 SHORT, FEW = 2000, 5  # the length of a text, and the number of its links, whose points are compared
 
 
@@ -79,10 +80,13 @@ def errors(library: Library, model: Model, files: Files, found: Dict[bytes, Read
     for name in files.names:
         document = None if name.endswith(b"/") else model.site.document(name)
         form = model.site.form(name)
+        if form == "":
+            yield from start_errors(library, name, model.site.body(name))
         if document is None or form is None:
             continue
         body = model.site.body(name)
         given, charset = text_in(form, body)
+        yield from charset_errors(library, name, form, body, charset)
         if charset == "other" or len(given) > LONG:
             continue
         value = text(utf8(given))
@@ -99,6 +103,21 @@ def errors(library: Library, model: Model, files: Files, found: Dict[bytes, Read
         if len(given) < SHORT:
             yield from point_errors(library, name, document, given)
     yield from anchor_errors(library, model, found)
+
+
+def start_errors(library: Library, name: bytes, body: bytes) -> Iterator[str]:
+    """A file without a known suffix that is a document only by the definition, or only in the model."""
+    is_document = library.function("document_links.Sniffing.is_document")(text(body[:SHORT]))
+    if is_document != TOOL.is_document(None, body):
+        yield f"{name!r}: is_document: {is_document}"
+
+
+def charset_errors(library: Library, name: bytes, form: str, body: bytes, charset: str) -> Iterator[str]:
+    """A file in another encoding than in the model."""
+    if len(body) <= LONG:
+        found = library.function("document_links.Encoding.charset_of")(KINDS.get(form, ("Document", ("Html",), True)), text(body))
+        if CHARSETS.get(found[0], "utf-8") != charset:
+            yield f"{name!r}: charset_of: {found[0]}, the model has {charset}"
 
 
 def document_errors(library: Library, name: bytes, document: Document, one: Read) -> Iterator[str]:

@@ -6,10 +6,10 @@ use Rattle.document_links.specs.declared.charset.Charset.TheVariants.{Utf8}
 use Rattle.document_links.specs.declared.document.Document.{Document}
 use Rattle.document_links.specs.declared.document.ReadOptions.{ReadOptions}
 use Rattle.document_links.specs.declared.text_kind.TextKind.{TextKind}
-use Rattle.document_links.specs.Encoding.{HasFile, HasFileLinks, has_mark, is_in_unicode, is_known, names_encoding}
+use Rattle.document_links.specs.Encoding.{HasFile, HasFileLinks, charset_of, has_mark, is_in_unicode, is_known, names_encoding}
 
 pub file_in : {E : Type 0} (kind : TextKind) (options : ReadOptions) (charset : Charset) (file : List ℕ) (r : Result Document E) →
-    (has_mark file ≡ true → charset ≡ Utf8) → (names_encoding kind file ≡ false → charset ≡ Utf8) → (is_in_unicode kind ≡ true → is_known charset ≡ true) → (is_utf8 file ≡ true → is_known charset ≡ true) →
+    charset ≡ charset_of kind file → (has_mark file ≡ true → charset ≡ Utf8) → (names_encoding kind file ≡ false → charset ≡ Utf8) → (is_in_unicode kind ≡ true → is_known charset ≡ true) → (is_utf8 file ≡ true → is_known charset ≡ true) →
     IfOk r (λ document. HasFileLinks kind options charset file document.links) → IfOk r (λ document. HasFile kind options file document.links)
-file_in kind options charset file (Ok document) marked unnamed known valid has = record { charset = charset; marked = marked; unnamed = unnamed; known = known; valid = valid; has = has }
-file_in kind options charset file (Err e) marked unnamed known valid has = tt
+file_in kind options charset file (Ok document) defined marked unnamed known valid has = record { charset = charset; defined = defined; marked = marked; unnamed = unnamed; known = known; valid = valid; has = has }
+file_in kind options charset file (Err e) defined marked unnamed known valid has = tt

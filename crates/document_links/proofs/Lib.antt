@@ -5,9 +5,11 @@ pub mod Fitting
 pub mod Marking
 pub mod Parsing
 pub mod Prelude
+pub mod Prescanning
 pub mod Pushing
 pub mod Rooting
 pub mod Runs
 pub mod Trimming
 pub mod Unescaping
 pub mod WindowsBytes
+pub mod Words

@@ -8,6 +8,7 @@ use Rattle.std.specs.Str.Lossy.{utf8_lossy}
 use Rattle.std.specs.declared.alloc.Global.{Global}
 use Rattle.html_links.specs.Links.{base_of, links_of}
 use Rattle.html_links.specs.Styles.{style_links_of}
+use Rattle.document_links.specs.Charsets.{charset_rule, charset_unmarked}
 use Rattle.document_links.specs.Feeds.{feed_links_of}
 use Rattle.document_links.specs.UrlLists.{url_lines_of}
 use Rattle.document_links.specs.declared.charset.Charset.{Charset}
@@ -28,6 +29,14 @@ has_mark body = bytes_eq (take 3 body) mark
 
 abbrev pub without_mark : List ℕ → List ℕ
 without_mark body = if has_mark body then drop 3 body else body
+
+-- the encoding of a file of a kind: that of its byte order mark, or that which its text names
+abbrev pub charset_of : TextKind → List ℕ → Charset
+charset_of kind body =
+    if has_mark body then Utf8
+    else if bytes_eq (take 2 body) (255 ∷ 254 ∷ []) then Utf16Le
+    else if bytes_eq (take 2 body) (254 ∷ 255 ∷ []) then Utf16Be
+    else charset_unmarked kind body
 
 -- the character that a byte means
 abbrev pub character_of : ℕ → ℕ
@@ -78,19 +87,16 @@ pub record HasLinks (options : ReadOptions) (charset : Charset) (body : List ℕ
   pub ascii : IsAscii body → text ≡ body
   pub texts : HasTexts options charset text links
 
--- a document has these link texts in some encoding. That is UTF-8 if the document begins with the byte order mark of UTF-8, and a known
--- one if it is valid UTF-8
+-- a document has these link texts, in the encoding that `charset_of` says. That is UTF-8 if the document begins with the byte order mark
+-- of UTF-8, and a known one if it is valid UTF-8
 pub record HasLinkTexts (options : ReadOptions) (body : List ℕ) (links : List (List ℕ)) : Type 0 where
   pub charset : Charset
+  pub defined : charset ≡ charset_of (Document options.syntax options.styles) body
   pub marked : has_mark body ≡ true → charset ≡ Utf8
   pub valid : is_utf8 body ≡ true → is_known charset ≡ true
   pub has : HasLinks options charset body links
 
 -- ---- files without a `base`: style sheets, feeds and lists of URLs
-
--- the bytes after which a style sheet names its encoding, if it begins with them
-abbrev pub charset_rule : List ℕ
-charset_rule = codes "@charset " ++ 34 ∷ []
 
 -- a file begins with a byte order mark of UTF-16
 abbrev pub is_wide : List ℕ → Bool
@@ -128,9 +134,11 @@ pub record HasFileLinks (kind : TextKind) (options : ReadOptions) (charset : Cha
   pub ascii : IsAscii file → text ≡ file
   pub texts : HasFileTexts kind options charset text links
 
--- a file has these link texts in some encoding. That is UTF-8 unless the file names another, and a known one if the file is valid UTF-8
+-- a file has these link texts, in the encoding that `charset_of` says. That is UTF-8 unless the file names another, and a known one if
+-- the file is valid UTF-8
 pub record HasFile (kind : TextKind) (options : ReadOptions) (file : List ℕ) (links : List (List ℕ)) : Type 0 where
   pub charset : Charset
+  pub defined : charset ≡ charset_of kind file
   pub marked : has_mark file ≡ true → charset ≡ Utf8
   pub unnamed : names_encoding kind file ≡ false → charset ≡ Utf8
   pub known : is_in_unicode kind ≡ true → is_known charset ≡ true

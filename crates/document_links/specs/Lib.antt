@@ -1,11 +1,16 @@
 pub mod AnchorLinks
 pub mod Anchors
+pub mod Charsets
 pub mod Encoding
 pub mod Feeds
 pub mod Markup
 pub mod Places
+pub mod Prescan
 pub mod Rooted
+pub mod Scans
 pub mod Schemes
+pub mod Sniffing
+pub mod Starts
 pub mod Texts
 pub mod Unescaped
 pub mod UrlLists

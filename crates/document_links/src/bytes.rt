@@ -1,8 +1,16 @@
 //! Cutting bytes.
-ghost use Rattle.std.specs.Prelude.{◌≡◌, ◌∷◌, ◌==◌, [], drop, not, MatchOption};
+ghost use Rattle.std.specs.Prelude.{◌≡◌, ◌∷◌, ◌==◌, [], drop, not, take, MatchOption};
 ghost use Rattle.html_links.specs.Shown.{Stopped, following, front};
 
 use memchr::memchr;
+
+/// The first `count` bytes, or all if there are fewer.
+#[tactic(auto, using(std::proofs::lemmas::List::take_all))]
+pub(crate) fn first_bytes(count: usize, bytes: &[u8]) -> &[u8]
+    ensures { result.now ≡ take count bytes.now }
+{
+    bytes.get(..count).unwrap_or(bytes)
+}
 
 /// The bytes after the first `count`.
 #[tactic(auto, using(std::proofs::lemmas::List::drop_all, std::proofs::lemmas::List::take_rest))]

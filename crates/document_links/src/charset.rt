@@ -1,16 +1,19 @@
 //! The encoding of a document or a style sheet.
-ghost use Rattle.std.specs.Prelude.{◌≡◌, ◌≢◌, ℕ, ◌≤◌, ◌<◌, bytes_eq, false, length, take, true, IsAscii, IfOk, IfSome, IsNone, IsSome};
+ghost use Rattle.std.specs.Prelude.{◌≡◌, ◌≢◌, ℕ, ◌<◌, bytes_eq, false, option_map, take, true, IsAscii, IfOk, IfSome, IsNone, IsSome};
 ghost use Rattle.std.specs.Str.{is_utf8};
-ghost use Rattle.document_links.specs.Encoding.{character_of, charset_rule, has_mark, is_in_unicode, is_known, likely_byte, names_encoding, windows_text};
+ghost use Rattle.document_links.specs.Charsets.{charset_declared, charset_named, charset_rule, charset_unmarked, closed_label, document_charset, sheet_charset, sheet_label, utf8_names, utf8_or, windows_names};
+ghost use Rattle.document_links.specs.Encoding.{character_of, charset_of, has_mark, is_in_unicode, is_known, likely_byte, names_encoding, windows_text};
 ghost use Rattle.document_links.specs.Places.{keeps_ascii};
+ghost use Rattle.document_links.specs.Schemes.{is_among};
+ghost use Rattle.document_links.specs.Starts.{start_of};
 ghost use Rattle.document_links.specs.Written.{is_unicode};
 
-use crate::cleaning::trimmed;
-use crate::document_start::{START_LENGTH, after_first, after_front, start_of};
+use crate::bytes::split_byte;
+use crate::document_start::start_of;
 use crate::line_text::is_text;
 use crate::name_list::is_among;
+use crate::prescan::{bare_label, declared};
 use crate::text_kind::TextKind;
-use memchr::memchr;
 use std::alloc::{AllocError, Global};
 
 /// Names of UTF-8, and names of UTF-16, which mean UTF-8 in a `meta`.
@@ -44,6 +47,7 @@ impl Charset {
 /// Finds the encoding of a document, from its first bytes, its head, and whether it is valid UTF-8; or of another file, from its
 /// first bytes.
 pub(crate) fn charset_of(body: &[u8], kind: TextKind) -> Charset
+    ensures value { result ≡ charset_of kind body.now }
     ensures ascii { IsAscii body.now → keeps_ascii result ≡ true }
     ensures marked { has_mark body.now ≡ true → result ≡ Charset.Utf8 }
     ensures unnamed { names_encoding kind body.now ≡ false → result ≡ Charset.Utf8 }
@@ -60,6 +64,7 @@ pub(crate) fn charset_of(body: &[u8], kind: TextKind) -> Charset
 
 /// The encoding of a file without a byte order mark. Feeds and lists of URLs are in UTF-8.
 fn charset_unmarked(body: &[u8], kind: TextKind) -> Charset
+    ensures value { result ≡ charset_unmarked kind body.now }
     ensures ascii { keeps_ascii result ≡ true }
     ensures unnamed { names_encoding kind body.now ≡ false → result ≡ Charset.Utf8 }
     ensures known { is_in_unicode kind ≡ true → is_known result ≡ true }
@@ -74,37 +79,61 @@ fn charset_unmarked(body: &[u8], kind: TextKind) -> Charset
 
 /// The encoding of a style sheet without a byte order mark.
 fn sheet_unmarked(body: &[u8]) -> Charset
+    ensures value { result ≡ sheet_charset body.now }
     ensures ascii { keeps_ascii result ≡ true }
     ensures unnamed { bytes_eq (take 10 body.now) charset_rule ≡ false → result ≡ Charset.Utf8 }
     ensures valid { is_utf8 body.now ≡ true → is_known result ≡ true }
 {
     match named_in_sheet(body) {
-        Some(name) => charset_named(name, body),
+        Some(name) => charset_named(bare_label(name), body),
         None => Charset::Utf8,
     }
 }
 
 /// The name of the encoding in the `@charset` with which a style sheet begins. Only the spelling `@charset "NAME";` counts.
 pub(crate) fn named_in_sheet(body: &[u8]) -> Option<&[u8]>
-    ensures { IsSome result → bytes_eq (take 10 body.now) charset_rule ≡ true }
+    ensures value { option_map (λ name. name.now) result ≡ sheet_label (start_of body.now) }
+    ensures rule { IsSome result → bytes_eq (take 10 body.now) charset_rule ≡ true }
 {
-    let following = body.strip_prefix(b"@charset \"")?;
-    let end = memchr(b'"', following)?;
-    let (name, rest) = following.split_at(end);
-    if end < START_LENGTH && rest.starts_with(b"\";") {
-        Some(name)
+    sheet_label(start_of(body))
+}
+
+/// The name in the `@charset` with which these first bytes begin.
+fn sheet_label(start: &[u8]) -> Option<&[u8]>
+    ensures value { option_map (λ name. name.now) result ≡ sheet_label start.now }
+    ensures rule { IsSome result → bytes_eq (take 10 start.now) charset_rule ≡ true }
+{
+    if start.starts_with(b"@charset \"") {
+        closed_label(&start[10..])
     } else {
         None
     }
 }
 
+/// The name before `";`.
+fn closed_label(text: &[u8]) -> Option<&[u8]>
+    ensures { option_map (λ name. name.now) result ≡ closed_label text.now }
+{
+    match split_byte(b'"', text) {
+        Some((name, rest)) => {
+            if rest.starts_with(b";") {
+                Some(name)
+            } else {
+                None
+            }
+        }
+        None => None,
+    }
+}
+
 /// The encoding of a document without a byte order mark.
 fn document_unmarked(body: &[u8]) -> Charset
+    ensures value { result ≡ document_charset body.now }
     ensures ascii { keeps_ascii result ≡ true }
     ensures valid { is_utf8 body.now ≡ true → is_known result ≡ true }
 {
     match declared(start_of(body)) {
-        Some(name) => charset_named(name, body),
+        Some(name) => charset_declared(name, body),
         None => undeclared(body, Charset::Windows1252),
     }
 }
@@ -112,6 +141,7 @@ fn document_unmarked(body: &[u8]) -> Charset
 /// Returns UTF-8 if the document is valid UTF-8, and otherwise `otherwise`.
 fn undeclared(body: &[u8], otherwise: Charset) -> Charset
     requires { keeps_ascii otherwise ≡ true }
+    ensures value { result ≡ utf8_or otherwise body.now }
     ensures ascii { keeps_ascii result ≡ true }
     ensures valid { is_utf8 body.now ≡ true → result ≡ Charset.Utf8 }
 {
@@ -122,171 +152,46 @@ fn undeclared(body: &[u8], otherwise: Charset) -> Charset
     }
 }
 
-/// Returns the encoding with this name. If the name is not known here, a document that is valid UTF-8 is in UTF-8.
-fn charset_named(name: &[u8], body: &[u8]) -> Charset
+/// Returns the encoding with this name in a document, in which `x-user-defined` means windows-1252.
+fn charset_declared(name: &[u8], body: &[u8]) -> Charset
+    ensures value { result ≡ charset_declared body.now name.now }
     ensures ascii { keeps_ascii result ≡ true }
     ensures valid { is_utf8 body.now ≡ true → is_known result ≡ true }
 {
-    if is_among(name, UTF8_NAMES) {
+    if name.eq_ignore_ascii_case(b"x-user-defined") {
+        Charset::Windows1252
+    } else {
+        charset_named(name, body)
+    }
+}
+
+/// Returns the encoding with this name. If the name is not known here, a document that is valid UTF-8 is in UTF-8.
+fn charset_named(name: &[u8], body: &[u8]) -> Charset
+    ensures value { result ≡ charset_named name.now body.now }
+    ensures ascii { keeps_ascii result ≡ true }
+    ensures valid { is_utf8 body.now ≡ true → is_known result ≡ true }
+{
+    if is_utf8_name(name) {
         Charset::Utf8
-    } else if is_among(name, WINDOWS_NAMES) {
+    } else if is_windows_name(name) {
         Charset::Windows1252
     } else {
         undeclared(body, Charset::Other)
     }
 }
 
-/// The name of the encoding that the start of a document declares, by the HTML Standard's prescan.
-pub(crate) fn declared(start: &[u8]) -> Option<&[u8]> {
-    let mut rest = start;
-    while let Some(opened) = after_byte(b'<', rest) {
-        let Some(following) = after_markup(opened) else {
-            return None;
-        };
-        rest = following;
-        if let Some(name) = name_in_meta(opened) {
-            return Some(name);
-        }
-    }
-    None
-}
-
-/// The text after the first byte of this value.
-fn after_byte(byte: u8, text: &[u8]) -> Option<&[u8]>
-    ensures { IfSome result (λ following. length following.now < length text.now) }
+/// Whether this is a name of UTF-8, or of UTF-16.
+fn is_utf8_name(name: &[u8]) -> bool
+    ensures { result ≡ is_among name.now utf8_names }
 {
-    let index = memchr(byte, text)?;
-    Some(&text[index + 1..])
+    is_among(name, UTF8_NAMES)
 }
 
-/// The text after a comment, a tag or other markup, which starts after its `<`. `None` if the markup does not end.
-fn after_markup(text: &[u8]) -> Option<&[u8]>
-    ensures { IfSome result (λ following. length following.now ≤ length text.now) }
+/// Whether this is a name of windows-1252.
+fn is_windows_name(name: &[u8]) -> bool
+    ensures { result ≡ is_among name.now windows_names }
 {
-    match text {
-        // The first two dashes may be the last two.
-        [b'!', b'-', b'-', ..] => after_first(&text[1..], b"-->"),
-        [b'A'..=b'Z' | b'a'..=b'z', ..] => past_tag(text),
-        [b'/', b'A'..=b'Z' | b'a'..=b'z', ..] => past_tag(&text[1..]),
-        [b'!' | b'/' | b'?', ..] => after_byte(b'>', text),
-        _ => Some(text),
-    }
-}
-
-/// The text after a tag, which starts at its name. `None` if the tag does not end.
-fn past_tag(text: &[u8]) -> Option<&[u8]>
-    ensures { IfSome result (λ following. length following.now ≤ length text.now) }
-{
-    let mut rest = &text[length_before(text, b"/>")..];
-    while let Some(found) = next_attribute(rest) {
-        rest = found.following;
-    }
-    after_byte(b'>', rest)
-}
-
-/// The name of an encoding in a tag that ends, if the tag is a `meta`. It starts after its `<`.
-fn name_in_meta(opened: &[u8]) -> Option<&[u8]> {
-    let (name, tag) = opened.split_at(length_before(opened, b"/>"));
-    if !name.eq_ignore_ascii_case(b"meta") {
-        return None;
-    }
-    let name = match value_of(tag, b"charset") {
-        Some(name) => trimmed(name),
-        None => trimmed(name_in_content(tag)),
-    };
-    if name.is_empty() { None } else { Some(name) }
-}
-
-/// The name in a tag's `content`, if that is the type of the document.
-fn name_in_content(tag: &[u8]) -> &[u8] {
-    match (value_of(tag, b"http-equiv"), value_of(tag, b"content")) {
-        (Some(header), Some(content)) if header.eq_ignore_ascii_case(b"content-type") => {
-            name_in_kind(content)
-        }
-        _ => &[],
-    }
-}
-
-/// The name after the first `charset=`; empty if there is none.
-fn name_in_kind(kind: &[u8]) -> &[u8] {
-    for index in 0..kind.len() {
-        if let Some(following) = after_front(&kind[index..], b"charset") {
-            if let [b'=', value @ ..] = following.trim_ascii_start() {
-                return split_value(value.trim_ascii_start(), b";").0;
-            }
-        }
-    }
-    &[]
-}
-
-/// An attribute of a tag, and the text after it.
-#[derive(Clone, Copy)]
-struct Attribute<'a> {
-    name: &'a [u8],
-    value: &'a [u8],
-    following: &'a [u8],
-}
-
-/// The value of a tag's first attribute of this name.
-fn value_of<'a>(tag: &'a [u8], name: &[u8]) -> Option<&'a [u8]> {
-    let mut rest = tag;
-    while let Some(found) = next_attribute(rest) {
-        if found.name.eq_ignore_ascii_case(name) {
-            return Some(found.value);
-        }
-        rest = found.following;
-    }
-    None
-}
-
-/// The next attribute of a tag, or a `/` as an attribute without a name. `None` at the end of the tag.
-fn next_attribute(text: &[u8]) -> Option<Attribute<'_>>
-    ensures { IfSome result (λ found. length found.following.now < length text.now) }
-{
-    match text.trim_ascii_start() {
-        [] | [b'>', ..] => None,
-        [b'/', following @ ..] => Some(Attribute {
-            name: &[],
-            value: &[],
-            following,
-        }),
-        text => {
-            let (name, rest) = text.split_at(1 + length_before(&text[1..], b"=/>"));
-            let (value, following) = match rest.trim_ascii_start() {
-                [b'=', value @ ..] => split_value(value.trim_ascii_start(), b">"),
-                rest => rest.split_at(0),
-            };
-            Some(Attribute {
-                name,
-                value,
-                following,
-            })
-        }
-    }
-}
-
-/// A value and the text after it. The value is in quotes, or ends before white space or one of these bytes. Both are empty if a
-/// quote is not closed.
-fn split_value<'a>(text: &'a [u8], ends: &[u8]) -> (&'a [u8], &'a [u8])
-    ensures { length result.1.now ≤ length text.now }
-{
-    match text {
-        [quote @ (b'"' | b'\''), inside @ ..] => match memchr(*quote, inside) {
-            Some(end) => (&inside[..end], &inside[end + 1..]),
-            None => (&[], &[]),
-        },
-        _ => text.split_at(length_before(text, ends)),
-    }
-}
-
-/// The number of bytes before white space or one of these bytes.
-fn length_before(bytes: &[u8], ends: &[u8]) -> usize
-    ensures { result ≤ length bytes.now }
-{
-    bytes
-        .iter()
-        .position(|byte| byte.is_ascii_whitespace() || ends.contains(byte))
-        .unwrap_or(bytes.len())
+    is_among(name, WINDOWS_NAMES)
 }
 
 /// The characters of 0x80 to 0x9f.

@@ -8,11 +8,12 @@ ghost use Rattle.document_links.specs.Places.{keeps_ascii};
 ghost use Rattle.document_links.specs.Written.{AreWritten};
 
 use crate::anchors::{AnchorTargets, anchors_of};
-use crate::charset::{Charset, charset_of, declared, from_utf16, from_windows};
+use crate::charset::{Charset, charset_of, from_utf16, from_windows};
 use crate::document_start::{start_of, without_mark};
 use crate::link_texts::LinkTexts;
 use crate::link_writer::LinkWriter;
 use crate::positions::InvalidLink;
+use crate::prescan::declared;
 use crate::raw_links::{RawIds, RawLinks};
 use crate::root::add_root;
 use crate::text_kind::TextKind;

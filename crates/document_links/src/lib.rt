@@ -19,6 +19,7 @@ mod page_base;
 mod places;
 mod points;
 mod positions;
+mod prescan;
 mod query;
 mod raw_links;
 mod root;
