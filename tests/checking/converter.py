@@ -826,10 +826,10 @@ class Web:
         if line is None:
             line = line_of("link", text.partition("#")[0])
             self.count("links without their fragment, they were too long", line is not None)
-        if line is None and not is_web(scheme_of(text)):
+        start = text.encode("utf-8", "replace")[: LINE_LIMIT - len("link ")].decode("utf-8", "ignore")
+        if line is None and not is_web(scheme_of(start)):
             self.count("links of other schemes, cut off at 4,096 bytes")
-            start = text.encode("utf-8", "replace")[: LINE_LIMIT - len("link ")]
-            line = line_of("link", start.decode("utf-8", "ignore"))
+            line = line_of("link", start)
         if line is None:
             self.note("link skipped, it is too long", f"{url} links to {text}")
         return line

@@ -45,7 +45,7 @@ ENDS = [
 OWN = ["", "", "?", "?x", "?x#y", "#", "#x", "?#x", ".", "./", "./?", "index.html", "index.html?x", "%69ndex.html", "..", "../", "../?x"]
 FOREIGN = [
     " ", "\n x \t", "javascript:x", "data:," + "y" * 5000, "x#" + "z" * 5000, "mailto:\u00e9" + "\u00fc" * 3000, "%", "%f", "a\tb\nc", "http://[::1]/",
-    "http:x", "&#128;", "//docs.test/sub", "http://docs.test/sub", "/sub?x", "e%20f?a%20b", "http://docs.test", "https://docs.test/", "/m%61nual/",
+    "http:x", "HTTPS:/docs.test", "https:\\x", "&#128;", "//docs.test/sub", "http://docs.test/sub", "/sub?x", "e%20f?a%20b", "http://docs.test", "https://docs.test/", "/m%61nual/",
     "/manual", "/manual/a.html", "//", "http://[x/", "//x:70000/", "https://a b/?\u00fc", "http://[x#" + "z" * 5000, "http://[" + "z" * 5000, "htp://x", "Htp:x",
     "/", "/../x", "/%2e./sub/../a.html", "\\a.html", "\\/x", "/a\n.html", "../" * 40 + "x", "../" * 9 + "-/../x", "..//x?q=/-/", "../..#x", "file:///x",
     "c:\\x", "x:" + "\u00fc" * 3000, "xy:" + "z" * 5000 + "#x", "xy:#" + "z" * 5000, "ftp:x", "TEL:1",

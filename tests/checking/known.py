@@ -491,6 +491,30 @@ KNOWN = [
         ),
     ),
     Known(
+        "links without their slashes",
+        {
+            "index.html": "<a href=http:/x.png><a href=http:x.png><a href='http:\\x.png'><a href=HTTP:#top><a href=http:><a href=https:/docs.test/y>"
+            "<a href=https:docs.test><a href=http:\\/a.test><a href=https:\\\\a.test><a href='http:/\n/a.test'><a href=' http:y.png\n'>",
+            "d/index.html": "<base href='https:/docs.test/e/'><a href=https:/docs.test/y><a href=https:#x><a href=http:z>",
+            "x.png": "", "y.png": "",
+        },
+        [
+            "HTTP:#top index.html:1:70", "http: index.html:1:88", "http:/x.png index.html:1:9", "http:\\x.png index.html:1:49", "http:x.png index.html:1:29",
+            "http:y.png index.html:2:19", "http:z d/index.html:1:86", "https:#x d/index.html:1:69", "https:/docs.test/y d/index.html:1:42",
+            "https:/docs.test/y index.html:1:102", "https:docs.test index.html:1:129",
+        ],
+        (
+            {"kind": "total", "pages": 2, "files": 2, "links": 14, "broken": 0, "invalid": 11},
+            {"kind": "invalid", "target": "https:/docs.test/y", "reason": "not_url", "pages": 2},
+        ),
+    ),
+    Known(
+        "long texts with a scheme",
+        {"index.html": f"<a href={'x' * 4090}:y><a href={'x' * 4091}:y><a href='xy:{'z' * 5000}'><a href='tel:{'1' * 5000}'><a href='x:{'z' * 5000}'><a href=http:{'z' * 5000}>"},
+        [f"{'x' * 4090}: index.html:1:9", f"x:{'z' * 4089} index.html:1:18242", f"xy:{'z' * 4088} index.html:1:8213"],
+        ({"kind": "total", "pages": 1, "links": 4, "broken": 0, "invalid": 3},),
+    ),
+    Known(
         "unknown schemes and local files",
         {
             "index.html": "<a href=htp://a.test/><a href='C:\\x y\\z.html'><a href=FILE:///x><a href=localhost:8080/><a href=a.html:b>"

@@ -120,7 +120,7 @@ class Settings(NamedTuple):
     queries: bool = False
     seeds: Tuple[str, ...] = ()  # links on the top at which the search starts
     reachable: bool = False  # whether only what the search reaches is checked
-    invalid: bool = True  # whether links are reported that are no URL, have an unknown scheme or name a local file
+    invalid: bool = True  # whether links are reported that are no URL, lack their slashes, have an unknown scheme or name a local file
     styles: bool = True  # whether the links of style sheets, and of styles in documents, are read
     workers: int = 1  # which makes no difference
     indices: Tuple[str, ...] = INDEX_FILES  # the names of index files; in each folder the first one counts
@@ -209,11 +209,20 @@ def is_short(word: str, text: str) -> bool:
 
 
 def written(text: str) -> Optional[str]:
-    """The text of a link in a line of a saved web: the whole, or without its fragment. If it is too long, that of another scheme is cut."""
+    """
+    The text of a link in a line of a saved web: the whole, or without its fragment. If it is too long, that of another scheme is cut,
+    unless the scheme is too long itself.
+    """
     fitting = [one for one in (text, text.partition("#")[0]) if is_short("link", one)]
     if fitting or TOOL.is_web(TOOL.scheme_of(text)):
         return fitting[0] if fitting else None
-    return text.encode("utf-8", "replace")[:LINE_LIMIT - len("link ")].decode("utf-8", "ignore")
+    start = text.encode("utf-8", "replace")[:LINE_LIMIT - len("link ")].decode("utf-8", "ignore")
+    return start if TOOL.scheme_of(start) else None
+
+
+def lacks_slashes(text: str) -> bool:
+    """Whether a text begins with `http:` or `https:` without two slashes after it."""
+    return re.match(r"https?:(?![/\\]{2})", text, re.IGNORECASE) is not None
 
 
 def invalid_reason(text: str) -> Optional[str]:
@@ -687,12 +696,14 @@ class Model:
             if target is None:
                 line = written(text if TOOL.scheme_of(text) else base.front + text)
                 self.skipped[url] += line is not None
-                reason = invalid_reason(text) if line and (TOOL.scheme_of(text) or not base.front) else None
-                if line and reason:
-                    pages, places = self.invalid.setdefault((line, reason), (set(), {}))
-                    pages.add(url)
-                    places.setdefault(Place(name, *document.lines.place(link.at)), TOOL.cleaned(link.text))
-            elif is_short("link", target if base.is_given or self.is_in_folder(text, base) else text.partition("#")[0]):
+                reason = invalid_reason(text) if TOOL.scheme_of(text) or not base.front else None
+            else:
+                line, reason = written(text), "not_url" if lacks_slashes(text) else None
+            if line and reason:
+                pages, places = self.invalid.setdefault((line, reason), (set(), {}))
+                pages.add(url)
+                places.setdefault(Place(name, *document.lines.place(link.at)), TOOL.cleaned(link.text))
+            if target is not None and is_short("link", target if base.is_given or self.is_in_folder(text, base) else text.partition("#")[0]):
                 fragment = None if document.ids is None else fragment_of(link.text)
                 yield Link(target, fragment, Place(name, *document.lines.place(link.at)), TOOL.cleaned(link.text))
 

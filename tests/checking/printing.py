@@ -19,6 +19,7 @@ REASONS = {
 UNLISTED = "not in a sitemap"
 # By the beginning of a link to a missing page, what may be missing in it
 INCOMPLETE = {"http//": "a colon", "https//": "a colon", "www.": "https://"}
+SLASHLESS = re.compile(r"https?:(?![/\\]{2})", re.IGNORECASE)
 IN_MAIL = re.compile("[A-Za-z0-9+._-]+")  # what the name and the host of a mail address may consist of
 KINDS = ("broken", "invalid", "leaving")
 
@@ -119,8 +120,10 @@ def is_mail_address(text: str) -> bool:
 
 
 def question(row: Row, place: Row) -> str:
-    """What may be missing in a link to a missing page, in brackets."""
+    """What may be missing in a link to a missing page, or in one that is no URL, in brackets."""
     text = row["target"] if place["written"] is None else place["written"]
+    if row.get("reason") == "not_url" and SLASHLESS.match(text):
+        return " (are slashes missing?)"
     if row.get("missing") != "page":
         return ""
     found = [what for begin, what in INCOMPLETE.items() if text.startswith(begin)] + ["mailto:"] * is_mail_address(text)

@@ -1,6 +1,7 @@
--- What a link to a missing page seems to lack: a scheme, or the colon of one.
-use Rattle.std.specs.Prelude.{ℕ, ◌==◌, Bool, false, ◌&&◌, ◌||◌, List, [], ◌∷◌, codes, length, nat_eq, nat_le, nat_lt, string_bytes, if◌then◌else◌, Option, None, Some, option_map}
+-- What a link seems to lack: one to a missing page a scheme, or the colon of one, and an invalid one its slashes.
+use Rattle.std.specs.Prelude.{ℕ, ◌==◌, Bool, false, not, ◌&&◌, ◌||◌, List, [], ◌∷◌, codes, length, nat_eq, nat_le, nat_lt, string_bytes, if◌then◌else◌, Option, None, Some, option_map}
 use Rattle.std.specs.List.{after_first, before_first, list_all, list_any, position_or_len, starts_with}
+use Rattle.std.specs.Str.{str_eq_ignore_ascii_case}
 use Rattle.check_report.specs.declared.value.Broken.{Broken}
 use Rattle.check_report.specs.declared.value.Kind.{Kind}
 use Rattle.check_report.specs.declared.value.Kind.TheVariants.{NoPage, NoAnchor, NotUrl, UnknownScheme, LocalFile, Leaves, OutsideBase, NotInMap}
@@ -37,22 +38,48 @@ is_at b = b == 64
 abbrev pub is_mail_address : List ℕ → Bool
 is_mail_address link = nat_lt (position_or_len is_at link) (length link) && are_mail (before_first is_at link) (after_first is_at link)
 
+-- ---- slashes
+
+abbrev pub is_colon : ℕ → Bool
+is_colon b = b == 58
+
+-- `http` or `https`, in any case
+abbrev pub is_web : List ℕ → Bool
+is_web scheme = str_eq_ignore_ascii_case scheme (codes "http") || str_eq_ignore_ascii_case scheme (codes "https")
+
+-- a slash of either kind
+abbrev pub is_slash : ℕ → Bool
+is_slash b = b == 47 || b == 92
+
+-- two slashes, after which a host comes
+abbrev pub names_host : List ℕ → Bool
+names_host (a ∷ b ∷ text) = is_slash a && is_slash b
+names_host _ = false
+
+-- the text before the first `:` is `http` or `https`, and no two slashes come after it
+abbrev pub lacks_slashes : List ℕ → Bool
+lacks_slashes link = nat_lt (position_or_len is_colon link) (length link) && is_web (before_first is_colon link) && not (names_host (after_first is_colon link))
+
 -- ---- notes
 
 abbrev pub lacks_colon : List ℕ → Bool
 lacks_colon link = starts_with nat_eq link (codes "http//") || starts_with nat_eq link (codes "https//")
 
--- the note about a link, or an empty text
+-- the note about a link to a missing page, or an empty text
 abbrev pub link_note : List ℕ → List ℕ
 link_note link =
     if lacks_colon link then codes "(is a colon missing?)"
     else (if starts_with nat_eq link (codes "www.") then codes "(is https:// missing?)" else (if is_mail_address link then codes "(is mailto: missing?)" else []))
 
--- only links to missing pages have a note
+-- likewise about one that is no URL
+abbrev pub slashes_note : List ℕ → List ℕ
+slashes_note link = if lacks_slashes link then codes "(are slashes missing?)" else []
+
+-- no other links have a note
 abbrev pub kind_note : Kind → List ℕ → List ℕ
 kind_note NoPage link = link_note link
 kind_note NoAnchor link = []
-kind_note NotUrl link = []
+kind_note NotUrl link = slashes_note link
 kind_note UnknownScheme link = []
 kind_note LocalFile link = []
 kind_note Leaves link = []

@@ -1,12 +1,12 @@
-//! What a link to a missing page seems to lack: a scheme, or the colon of one.
+//! What a link seems to lack: one to a missing page a scheme, or the colon of one, and an invalid one its slashes.
 ghost use Rattle.std.specs.Prelude.{◌≡◌};
 ghost use Rattle.std.specs.List.{list_all, list_any};
-ghost use Rattle.check_report.specs.Schemes.{are_mail, begins_with_letter, has_dot, is_letter, is_mail_address, is_mail_byte, is_mail_text, kind_note, lacks_colon, link_note, scheme_note};
+ghost use Rattle.check_report.specs.Schemes.{are_mail, begins_with_letter, has_dot, is_letter, is_mail_address, is_mail_byte, is_mail_text, is_slash, is_web, kind_note, lacks_colon, lacks_slashes, link_note, names_host, scheme_note, slashes_note};
 
 use crate::value::{Broken, Kind, Place};
 
-/// A question about the link at a location, if it leads to a missing page and seems to lack a scheme, or the colon of one; otherwise an
-/// empty text.
+/// A question about the link at a location, if it leads to a missing page and seems to lack a scheme, or the colon of one, or if it is
+/// invalid and lacks its slashes; otherwise an empty text.
 pub fn scheme_note(broken: &Broken, place: &Place) -> &'static str
     ensures { result.now ≡ scheme_note broken.now place.now }
 {
@@ -16,14 +16,14 @@ pub fn scheme_note(broken: &Broken, place: &Place) -> &'static str
     }
 }
 
-/// The question about a link to a target of this kind. Only links to missing pages have one.
+/// The question about a link to a target of this kind. Only links to missing pages, and those that are no URL, have one.
 fn kind_note(kind: Kind, link: &str) -> &'static str
     ensures { result.now ≡ kind_note kind link.now }
 {
     match kind {
         Kind::NoPage => link_note(link),
+        Kind::NotUrl => slashes_note(link),
         Kind::NoAnchor
-        | Kind::NotUrl
         | Kind::UnknownScheme
         | Kind::LocalFile
         | Kind::Leaves
@@ -32,7 +32,7 @@ fn kind_note(kind: Kind, link: &str) -> &'static str
     }
 }
 
-/// The question about a link, by its text.
+/// The question about a link to a missing page, by its text.
 fn link_note(link: &str) -> &'static str
     ensures { result.now ≡ link_note link.now }
 {
@@ -52,6 +52,53 @@ fn lacks_colon(link: &str) -> bool
     ensures { result ≡ lacks_colon link.now }
 {
     link.as_bytes().starts_with(b"http//") || link.as_bytes().starts_with(b"https//")
+}
+
+/// The question about an invalid link, by its text.
+fn slashes_note(link: &str) -> &'static str
+    ensures { result.now ≡ slashes_note link.now }
+{
+    if lacks_slashes(link) {
+        "(are slashes missing?)"
+    } else {
+        ""
+    }
+}
+
+/// Whether the link begins with `http:` or `https:`, and not with two slashes after that.
+fn lacks_slashes(link: &str) -> bool
+    ensures { result ≡ lacks_slashes link.now }
+{
+    match link.split_once(':') {
+        Some((scheme, following)) => {
+            is_web(scheme.as_bytes()) && !names_host(following.as_bytes())
+        }
+        None => false,
+    }
+}
+
+/// Whether the scheme is `http` or `https`, in any case.
+fn is_web(scheme: &[u8]) -> bool
+    ensures { result ≡ is_web scheme.now }
+{
+    scheme.eq_ignore_ascii_case(b"http") || scheme.eq_ignore_ascii_case(b"https")
+}
+
+/// Whether the text begins with two slashes of either kind.
+fn names_host(text: &[u8]) -> bool
+    ensures { result ≡ names_host text.now }
+{
+    match text {
+        [first, second, ..] => is_slash(*first) && is_slash(*second),
+        _ => false,
+    }
+}
+
+/// Whether the byte is a slash of either kind.
+fn is_slash(byte: u8) -> bool
+    ensures { result ≡ is_slash byte }
+{
+    byte == b'/' || byte == b'\\'
 }
 
 /// Whether the link is a mail address: a name, `@` and a host.

@@ -9,6 +9,7 @@ pub mod Prescanning
 pub mod Pushing
 pub mod Rooting
 pub mod Runs
+pub mod Slashless
 pub mod Trimming
 pub mod Unescaping
 pub mod WindowsBytes

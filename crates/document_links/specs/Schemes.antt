@@ -1,9 +1,10 @@
--- Why a link without a canonical URL is invalid, by its scheme.
-use Rattle.std.specs.Prelude.{ℕ, ◌==◌, Bool, ◌||◌, List, length, codes, Option, Some, None, if◌then◌else◌}
+-- Why a link is invalid, by its scheme: one without a canonical URL, or one that lacks its slashes.
+use Rattle.std.specs.Prelude.{ℕ, ◌==◌, Bool, false, not, ◌&&◌, ◌||◌, List, drop, length, codes, Option, Some, None, if◌then◌else◌}
 use Rattle.std.specs.List.{list_any, slice_split}
 use Rattle.std.specs.Option.{option_map, option_map_or}
 use Rattle.std.specs.Str.{str_eq_ignore_ascii_case}
 use Rattle.url.specs.Parser.{split_scheme}
+use Rattle.document_links.specs.Rooted.{begins_path}
 use Rattle.document_links.specs.declared.scheme.InvalidKind.{InvalidKind}
 use Rattle.document_links.specs.declared.scheme.InvalidKind.TheVariants.{NotUrl, UnknownScheme, LocalFile}
 use Rattle.document_links.specs.declared.scheme.TheConstants.{KNOWN_SCHEMES}
@@ -16,6 +17,15 @@ scheme_of text = option_map (λ parts. parts.0) (split_scheme text)
 
 abbrev pub is_web : List ℕ → Bool
 is_web scheme = str_eq_ignore_ascii_case scheme (codes "http") || str_eq_ignore_ascii_case scheme (codes "https")
+
+-- two slashes of either kind, after which a host comes
+abbrev pub names_host : List ℕ → Bool
+names_host text = begins_path text && begins_path (drop 1 text)
+
+-- The scheme is `http` or `https` without two slashes after it, as in `http:/x`. Such a text has a URL, but it depends on the scheme of
+-- the page whether a host comes next. So it is invalid too.
+abbrev pub lacks_slashes : List ℕ → Bool
+lacks_slashes text = option_map_or (λ parts. is_web parts.0 && not (names_host parts.1)) (split_scheme text) false
 
 -- `file`, or a single letter, which is that of a drive
 abbrev pub is_local : List ℕ → Bool
@@ -31,6 +41,6 @@ is_known scheme = is_among scheme KNOWN_SCHEMES.now
 abbrev pub kind_by : List ℕ → Option InvalidKind
 kind_by scheme = if is_web scheme then Some NotUrl else (if is_local scheme then Some LocalFile else (if is_known scheme then None else Some UnknownScheme))
 
--- why a link with this text and without a canonical URL is invalid; none if its scheme is another known one
+-- why a link with this text is invalid, if it has no canonical URL or lacks its slashes; none if its scheme is another known one
 abbrev pub invalid_kind : List ℕ → Option InvalidKind
 invalid_kind text = option_map_or kind_by (scheme_of text) (Some NotUrl)

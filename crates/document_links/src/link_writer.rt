@@ -1,5 +1,5 @@
 //! The texts of a document's links, as a crawl reads them.
-ghost use Rattle.std.specs.Prelude.{◌≡◌, ◌∷◌, ◌++◌, ◌≤◌, [], true, IfOk, OnOk, None};
+ghost use Rattle.std.specs.Prelude.{◌≡◌, ◌∷◌, ◌++◌, ◌≤◌, [], true, IfOk, IfSome, OnOk, None, Some, option_map};
 ghost use Rattle.std.specs.Char.{is_ascii};
 ghost use Rattle.std.specs.List.{list_all};
 ghost use Rattle.html_links.specs.Reads.{base_at};
@@ -167,7 +167,10 @@ impl LinkWriter {
     {
         match meaning_of(self.alloc, &self.base, text)? {
             LinkMeaning::Same => self.push_short(text),
-            LinkMeaning::Url(url) => self.push_short(url.as_str().as_bytes()),
+            LinkMeaning::Url(url) => {
+                self.push_slashless(text)?;
+                self.push_short(url.as_str().as_bytes())
+            }
             LinkMeaning::Text(other) => self.push_unplaced(other.as_slice()),
         }
     }
@@ -184,6 +187,20 @@ impl LinkWriter {
         pushed
     }
 
+    /// Stores a link that lacks its slashes as invalid, if the caller asks for invalid links. Its URL has the slashes.
+    fn push_slashless(&mut self, text: &[u8]) -> Result<(), AllocError>
+        ensures base { self.new.base ≡ self.old.base }
+        ensures charset { self.new.charset ≡ self.old.charset }
+        ensures links { self.new.links ≡ self.old.links }
+    {
+        if let Some(positions) = &mut self.positions
+            && let Some(short) = short_text(text)
+        {
+            positions.push_slashless(short)?;
+        }
+        Ok(())
+    }
+
     /// Appends a link. If it does not fit in a line, appends a shorter one with the same meaning.
     fn push_short(&mut self, text: &[u8]) -> Result<(), AllocError>
         ensures base { self.new.base ≡ self.old.base }
@@ -191,14 +208,10 @@ impl LinkWriter {
         ensures one { OnOk result (IsOneMore self.old.links self.new.links) }
         ensures written { has_room text.now ≡ true → OnOk result (self.new.links ≡ self.old.links ++ shortened text.now ∷ []) }
     {
-        if fits(LINK_FRONT, text) {
-            return self.push_text(text);
+        match short_text(text) {
+            Some(short) => self.push_text(short),
+            None => self.push_cut(text),
         }
-        let front = without_fragment(text);
-        if fits(LINK_FRONT, front) {
-            return self.push_text(front);
-        }
-        self.push_cut(text)
     }
 
     /// Appends the start of a long link with another scheme, which a crawl skips.
@@ -209,7 +222,8 @@ impl LinkWriter {
         ensures one { OnOk result (IsOneMore self.old.links self.new.links) }
     {
         let front = cut(text, TEXT_LIMIT);
-        if !is_web(scheme_of(text)) && fits(LINK_FRONT, front) {
+        // A scheme that does not fit itself would be read as a path.
+        if !is_web(scheme_of(front)) && fits(LINK_FRONT, front) {
             return self.push_text(front);
         }
         self.has_skipped = true;
@@ -244,6 +258,22 @@ impl LinkWriter {
             positions.push(text)?;
         }
         self.links.push(text)
+    }
+}
+
+/// The text of a link if it fits in a line, otherwise the text without its fragment if that fits.
+fn short_text(text: &[u8]) -> Option<&[u8]>
+    ensures fit { IfSome result (λ short. fits 5 short.now ≡ true) }
+    ensures text { has_room text.now ≡ true → option_map (λ short. short.now) result ≡ Some (shortened text.now) }
+{
+    if fits(LINK_FRONT, text) {
+        return Some(text);
+    }
+    let front = without_fragment(text);
+    if fits(LINK_FRONT, front) {
+        Some(front)
+    } else {
+        None
     }
 }
 

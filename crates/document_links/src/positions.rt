@@ -1,9 +1,10 @@
 //! The indices of a document's links with a canonical URL, and its invalid links.
-ghost use Rattle.std.specs.Prelude.{◌≡◌, Some, string_bytes};
-ghost use Rattle.document_links.specs.Schemes.{invalid_kind};
+ghost use Rattle.std.specs.Prelude.{◌≡◌, ◌∷◌, ◌++◌, [], true, OnOk, Some, map, string_bytes};
+ghost use Rattle.std.specs.Str.{IsUtf8};
+ghost use Rattle.document_links.specs.Schemes.{invalid_kind, lacks_slashes};
 
 use crate::page_base::resolved;
-use crate::scheme::{InvalidKind, invalid_kind, is_web, names_host, scheme_of};
+use crate::scheme::{InvalidKind, invalid_kind, is_web, lacks_slashes, names_host, scheme_of};
 use crawl_keys::{Base, CanonUrl};
 use std::alloc::{AllocError, Global};
 
@@ -18,7 +19,7 @@ pub struct LinkPlaces {
     pub invalid: Vec<InvalidLink>,
 }
 
-/// A link that has no URL, an unknown scheme, or the name of a local file.
+/// A link that has no URL, lacks its slashes, has an unknown scheme, or names a local file.
 #[derive(Drop)]
 pub struct InvalidLink {
     /// Its index among the links of its file.
@@ -65,12 +66,28 @@ impl Positions {
         self.index = index;
     }
 
-    /// Keeps the index of the link with this text if it leads to a canonical URL, and the link itself if it is invalid.
-    pub(crate) fn push(&mut self, text: &[u8]) -> Result<(), AllocError> {
+    /// Keeps the index of the link with this text if it leads to a canonical URL, and the link itself if it is invalid. A link that
+    /// lacks its slashes may be both.
+    pub(crate) fn push(&mut self, text: &[u8]) -> Result<(), AllocError>
+        ensures { lacks_slashes text.now ≡ true → IsUtf8 text.now → OnOk result (map (λ link. string_bytes link.text) self.new.invalid.items ≡ map (λ link. string_bytes link.text) self.old.invalid.items ++ text.now ∷ []) }
+    {
         if self.has_url(text)? {
-            self.keep()
-        } else {
+            self.keep()?;
+            if !lacks_slashes(text) {
+                return Ok(());
+            }
+        }
+        self.push_invalid(text)
+    }
+
+    /// Stores the link with this text as invalid if it lacks its slashes.
+    pub(crate) fn push_slashless(&mut self, text: &[u8]) -> Result<(), AllocError>
+        ensures { lacks_slashes text.now ≡ true → IsUtf8 text.now → OnOk result (map (λ link. string_bytes link.text) self.new.invalid.items ≡ map (λ link. string_bytes link.text) self.old.invalid.items ++ text.now ∷ []) }
+    {
+        if lacks_slashes(text) {
             self.push_invalid(text)
+        } else {
+            Ok(())
         }
     }
 
@@ -84,7 +101,9 @@ impl Positions {
     }
 
     /// Keeps the index of the link.
-    fn keep(&mut self) -> Result<(), AllocError> {
+    fn keep(&mut self) -> Result<(), AllocError>
+        ensures { self.new.invalid.items ≡ self.old.invalid.items }
+    {
         match u32::try_from(self.index) {
             Ok(index) => self.kept.push(index)?,
             Err(_) => self.is_far = true,
@@ -92,8 +111,11 @@ impl Positions {
         Ok(())
     }
 
-    /// Stores the link with this text, which has no canonical URL, as invalid, unless its scheme is another known one.
-    fn push_invalid(&mut self, text: &[u8]) -> Result<(), AllocError> {
+    /// Stores the link with this text as invalid, unless its scheme is another known one.
+    #[tactic(auto, using(crate::proofs::Slashless::kind_without_slashes))]
+    fn push_invalid(&mut self, text: &[u8]) -> Result<(), AllocError>
+        ensures { lacks_slashes text.now ≡ true → IsUtf8 text.now → OnOk result (map (λ link. string_bytes link.text) self.new.invalid.items ≡ map (λ link. string_bytes link.text) self.old.invalid.items ++ text.now ∷ []) }
+    {
         let Ok(text) = str::from_utf8(text) else {
             return Ok(());
         };

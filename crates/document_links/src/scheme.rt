@@ -1,7 +1,8 @@
-//! The schemes of links, and why a link without a canonical URL is invalid.
+//! The schemes of links, and why a link is invalid.
 ghost use Rattle.std.specs.Prelude.{◌≡◌, ◌≤◌, length, option_map};
+ghost use Rattle.url.specs.Parser.{split_scheme};
 ghost use Rattle.url.specs.Scheme as spec;
-ghost use Rattle.document_links.specs.Schemes.{invalid_kind, is_known, is_local, is_web, kind_by, scheme_of};
+ghost use Rattle.document_links.specs.Schemes.{invalid_kind, is_known, is_local, is_web, kind_by, lacks_slashes, names_host, scheme_of};
 
 use crate::name_list::is_among;
 
@@ -21,10 +22,10 @@ const KNOWN_SCHEMES: &str = "\
     webcal webcals whatsapp ws wss wtai wyciwyg xcon xcon-userid xmlrpc.beep xmlrpc.beeps xmpp xri ymsgr z39.50r z39.50s zoommtg \
     zoomus";
 
-/// Why a link without a canonical URL is invalid.
+/// Why a link is invalid.
 #[derive(Clone, Copy, Debug, PartialEq, Eq)]
 pub enum InvalidKind {
-    /// It has the scheme `http` or `https` or none, and the URL parser fails.
+    /// It has the scheme `http` or `https` or none. The URL parser fails, or the two slashes after the scheme are missing.
     NotUrl,
     /// Its scheme is not a known one.
     UnknownScheme,
@@ -32,7 +33,7 @@ pub enum InvalidKind {
     LocalFile,
 }
 
-/// Why a link with this text and without a canonical URL is invalid. `None` if it has another known scheme.
+/// Why a link with this text is invalid, if it has no canonical URL or lacks its slashes. `None` if it has another known scheme.
 pub(crate) fn invalid_kind(text: &[u8]) -> Option<InvalidKind>
     ensures { result ≡ invalid_kind text.now }
 {
@@ -42,7 +43,7 @@ pub(crate) fn invalid_kind(text: &[u8]) -> Option<InvalidKind>
     }
 }
 
-/// Why a link with this scheme and without a canonical URL is invalid.
+/// Why a link with this scheme is invalid.
 fn kind_by(scheme: &[u8]) -> Option<InvalidKind>
     ensures { result ≡ kind_by scheme.now }
 {
@@ -86,14 +87,35 @@ fn is_known(scheme: &[u8]) -> bool
     is_among(scheme, KNOWN_SCHEMES)
 }
 
+/// Whether a text has the scheme `http` or `https` without two slashes after it, as in `http:/x`. Browsers follow such a link, but the
+/// URL Standard calls the missing slashes an error.
+pub(crate) fn lacks_slashes(text: &[u8]) -> bool
+    ensures { result ≡ lacks_slashes text.now }
+{
+    match split_scheme(text) {
+        Some((scheme, following)) => is_http(scheme) && !names_host(following),
+        None => false,
+    }
+}
+
 /// The scheme that a text begins with, without its colon.
-#[tactic(auto, unfolding(url::specs::Parser::split_scheme))]
 pub(crate) fn scheme_of(text: &[u8]) -> Option<&[u8]>
     ensures { option_map (λ scheme. scheme.now) result ≡ scheme_of text.now }
 {
+    match split_scheme(text) {
+        Some((scheme, _)) => Some(scheme),
+        None => None,
+    }
+}
+
+/// The scheme that a text begins with, and the text after its colon.
+#[tactic(auto, unfolding(url::specs::Parser::split_scheme))]
+fn split_scheme(text: &[u8]) -> Option<(&[u8], &[u8])>
+    ensures { option_map (λ parts. (parts.0.now, parts.1.now)) result ≡ split_scheme text.now }
+{
     let len = scheme_len(text);
     match text.split_at(len) {
-        (scheme, [b':', ..]) if len > 0 => Some(scheme),
+        (scheme, [b':', following @ ..]) if len > 0 => Some((scheme, following)),
         _ => None,
     }
 }
@@ -119,6 +141,8 @@ fn is_scheme_byte(byte: u8) -> bool
 }
 
 /// Whether a text without a scheme begins with a host, that is, with two slashes of either kind.
-pub(crate) fn names_host(text: &[u8]) -> bool {
+pub(crate) fn names_host(text: &[u8]) -> bool
+    ensures { result ≡ names_host text.now }
+{
     matches!(text, [b'/' | b'\\', b'/' | b'\\', ..])
 }

@@ -3,7 +3,7 @@ ghost use Rattle.std.specs.Prelude.{◌≡◌, ◌<◌, ◌≤◌, IsAscii, IfOk
 
 use crate::cleaning::{trimmed, without_fragment};
 use crate::raw_links::RawLinks;
-use crate::scheme::{is_web, names_host, scheme_of};
+use crate::scheme::{lacks_slashes, scheme_of};
 use html_links::Base;
 use memchr::{memchr, memmem};
 use page_anchors::Ids;
@@ -91,11 +91,5 @@ fn push_known(position: usize, text: &[u8], known: &mut RawLinks) -> Result<(), 
 /// Whether a link means the same with every base: it has a scheme, and after http or https also a host.
 fn is_absolute(text: &[u8]) -> bool {
     let text = trimmed(text);
-    match scheme_of(text) {
-        Some(scheme) => {
-            let following = text.get(scheme.len().saturating_add(1)..).unwrap_or(&[]);
-            !is_web(Some(scheme)) || names_host(following)
-        }
-        None => false,
-    }
+    scheme_of(text).is_some() && !lacks_slashes(text)
 }
