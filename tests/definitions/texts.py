@@ -23,7 +23,7 @@ class Read(NamedTuple):
     """What the definitions find in a file."""
 
     links: Value  # the texts of its links as they are in the file
-    positions: Optional[List[int]]  # and their positions, if a definition has them
+    positions: List[int]  # and their positions
     written: Value  # as they are in a saved web
     fits: bool  # whether each can be in a line; otherwise the definitions say nothing of the links in a saved web
     base: Optional[str]
@@ -65,8 +65,7 @@ def read(library: Library, files: Files, form: str, given: Value) -> Read:
     rooted = library.function("document_links.Rooted.all_rooted")(options.root, links)
     can_write, written = library.function("document_links.Written.can_write"), library.function("document_links.Written.written")
     fits = all(can_write(("Utf8",), link) for link in items(rooted))
-    placed = None if positions[0] == "None" else list(items(positions[1]))
-    return Read(links, placed, listed(map(written, items(rooted))), fits, None if base[0] == "None" else unlisted(base[1]).decode(), ids)
+    return Read(links, list(items(positions)), listed(map(written, items(rooted))), fits, None if base[0] == "None" else unlisted(base[1]).decode(), ids)
 
 
 def link_texts(library: Library, read_links: Value) -> List[str]:
@@ -98,7 +97,7 @@ def errors(library: Library, model: Model, files: Files, found: Dict[bytes, Read
             yield f"{name!r}: windows_text: another text than in the model"
         found[name] = read(library, files, form, value)
         yield from document_errors(library, name, document, found[name])
-        if found[name].positions is not None and found[name].positions != [len(utf8(given[:link.at])) for link in document.links]:
+        if found[name].positions != [len(utf8(given[:link.at])) for link in document.links]:
             yield f"{name!r}: positions_in: {found[name].positions}, the model has {[link.at for link in document.links]}"
         if len(given) < SHORT:
             yield from point_errors(library, name, document, given)

@@ -6,45 +6,45 @@ use Rattle.html_links.proofs.Sources.{front_all, front_shorter}
 use Rattle.url.specs.Input.{trim_c0_control_and_space}
 use Rattle.document_links.specs.declared.feed.FeedKind.{FeedKind}
 use Rattle.document_links.specs.declared.markup.Markup.{Markup}
-use Rattle.document_links.specs.Feeds.{kind_after, links_from, markup_links, text_from, text_links, text_of}
+use Rattle.document_links.specs.Feeds.{OfElement, all_from, kind_after, text_from, text_links, text_of}
 use Rattle.document_links.specs.Markup.{is_tag, markup_len, markup_of, section_of}
 use Rattle.document_links.specs.Unescaped.{unescaped}
 use Rattle.document_links.specs.UrlLists.{line_positions, line_positions_from, lines_from, url_lines_of}
 use Rattle.document_links.proofs.Runs.{collects_run, fails}
 
--- ---- links
+-- ---- what elements have: links, or their positions
 
 -- the bytes up to the next `<`
-to_markup : (kind : Option FeedKind) (bytes : List ℕ) → links_from kind 0 bytes ≡ links_from kind 0 (following (λ b. not (b == 60)) bytes)
-to_markup kind [] = refl
-to_markup kind (b ∷ bytes) = grind (arith, cases_Bool, cond-true, cond-false, to_markup kind bytes)
+to_markup : {X : Type 0} (own : OfElement X) (kind : Option FeedKind) (bytes : List ℕ) → all_from own kind 0 bytes ≡ all_from own kind 0 (following (λ b. not (b == 60)) bytes)
+to_markup own kind [] = refl
+to_markup own kind (b ∷ bytes) = grind (arith, cases_Bool, cond-true, cond-false, to_markup own kind bytes)
 
 -- bytes that are skipped
-past : (kind : Option FeedKind) (n : ℕ) (bytes : List ℕ) → links_from kind n bytes ≡ links_from kind 0 (drop n bytes)
-past kind zero bytes = refl
-past kind (suc n) [] = refl
-past kind (suc n) (b ∷ bytes) = past kind n bytes
+past : {X : Type 0} (own : OfElement X) (kind : Option FeedKind) (n : ℕ) (bytes : List ℕ) → all_from own kind n bytes ≡ all_from own kind 0 (drop n bytes)
+past own kind zero bytes = refl
+past own kind (suc n) [] = refl
+past own kind (suc n) (b ∷ bytes) = past own kind n bytes
 
-pub no_markup : (kind : Option FeedKind) (bytes : List ℕ) → following (λ b. not (b == 60)) bytes ≡ [] → links_from kind 0 bytes ≡ []
-no_markup kind bytes none = to_markup kind bytes ∙ ap (links_from kind 0) none
+pub no_markup : {X : Type 0} (own : OfElement X) (kind : Option FeedKind) (bytes : List ℕ) → following (λ b. not (b == 60)) bytes ≡ [] → all_from own kind 0 bytes ≡ []
+no_markup own kind bytes none = to_markup own kind bytes ∙ ap (all_from own kind 0) none
 
-pub next_markup : (kind : Option FeedKind) (bytes opened : List ℕ) → 60 ∷ opened ≡ following (λ b. not (b == 60)) bytes →
-    links_from kind 0 bytes ≡ markup_links (markup_of opened) (kind_after (markup_of opened) kind (take (markup_len opened) opened)) (take (markup_len opened) opened) (drop (markup_len opened) opened)
-    ++ links_from (kind_after (markup_of opened) kind (take (markup_len opened) opened)) 0 (drop (markup_len opened) opened)
-next_markup kind bytes opened here =
+next_markup : {X : Type 0} (own : OfElement X) (kind : Option FeedKind) (bytes opened : List ℕ) → 60 ∷ opened ≡ following (λ b. not (b == 60)) bytes →
+    all_from own kind 0 bytes ≡ own (markup_of opened) (kind_after (markup_of opened) kind (take (markup_len opened) opened)) (take (markup_len opened) opened) (drop (markup_len opened) opened)
+    ++ all_from own (kind_after (markup_of opened) kind (take (markup_len opened) opened)) 0 (drop (markup_len opened) opened)
+next_markup own kind bytes opened here =
     let next = kind_after (markup_of opened) kind (take (markup_len opened) opened) in
-    to_markup kind bytes ∙ ap (links_from kind 0) (sym here)
-    ∙ ap (λ more. markup_links (markup_of opened) next (take (markup_len opened) opened) (drop (markup_len opened) opened) ++ more) (past next (markup_len opened) opened)
+    to_markup own kind bytes ∙ ap (all_from own kind 0) (sym here)
+    ∙ ap (λ more. own (markup_of opened) next (take (markup_len opened) opened) (drop (markup_len opened) opened) ++ more) (past own next (markup_len opened) opened)
 
 -- likewise, with other names for what is read
-pub found_links : (kind next : Option FeedKind) (bytes opened tag more : List ℕ) (markup : Markup) (len : ℕ) → 60 ∷ opened ≡ following (λ b. not (b == 60)) bytes →
+pub next_element : {X : Type 0} (own : OfElement X) (kind next : Option FeedKind) (bytes opened tag more : List ℕ) (markup : Markup) (len : ℕ) → 60 ∷ opened ≡ following (λ b. not (b == 60)) bytes →
     markup ≡ markup_of opened → len ≡ markup_len opened → tag ≡ take len opened → more ≡ drop len opened → next ≡ kind_after markup kind tag →
-    links_from kind 0 bytes ≡ markup_links markup next tag more ++ links_from next 0 more
-found_links kind next bytes opened tag more markup len here is size front_is back_is after_is =
+    all_from own kind 0 bytes ≡ own markup next tag more ++ all_from own next 0 more
+next_element own kind next bytes opened tag more markup len here is size front_is back_is after_is =
     let tag_is : tag ≡ take (markup_len opened) opened = front_is ∙ ap (λ n. take n opened) size in
     let more_is : more ≡ drop (markup_len opened) opened = back_is ∙ ap (λ n. drop n opened) size in
     let next_is : next ≡ kind_after (markup_of opened) kind (take (markup_len opened) opened) = after_is ∙ (λ i. kind_after (is i) kind (tag_is i)) in
-    next_markup kind bytes opened here ∙ sym (λ i. markup_links (is i) (next_is i) (tag_is i) (more_is i) ++ links_from (next_is i) 0 (more_is i))
+    next_markup own kind bytes opened here ∙ sym (λ i. own (is i) (next_is i) (tag_is i) (more_is i) ++ all_from own (next_is i) 0 (more_is i))
 
 -- ---- the text of an element
 

@@ -98,14 +98,24 @@ last_name bytes = drop (length bytes - suffix_len in_name bytes) bytes
 abbrev pub name_before : List ℕ → List ℕ
 name_before bytes = last_name (trim_end is_gap bytes)
 
--- the value of the first attribute with this name. This quote is open; or it is 0, and these are the bytes since the last value
-abbrev pub value_from : List ℕ → ℕ → List ℕ → List ℕ → Option (List ℕ)
-value_from name quote since [] = None
-value_from name quote since (b ∷ bytes) =
+-- What `found` says of the value of the first attribute with this name, by its quote and the bytes after that quote, or `none`. The
+-- quote `quote` is open; or it is 0, and `since` are the bytes since the last value.
+abbrev pub at_value : {X : Type 0} → (ℕ → List ℕ → X) → X → List ℕ → ℕ → List ℕ → List ℕ → X
+at_value found none name quote since [] = none
+at_value found none name quote since (b ∷ bytes) =
     if quote == 0 then
-    (if is_quote b then (if bytes_eq (name_before since) name then Some (front (λ c. not (c == b)) bytes) else value_from name b [] bytes)
-    else value_from name 0 (since ++ b ∷ []) bytes)
-    else value_from name (quote_after quote b) [] bytes
+    (if is_quote b then (if bytes_eq (name_before since) name then found b bytes else at_value found none name b [] bytes)
+    else at_value found none name 0 (since ++ b ∷ []) bytes)
+    else at_value found none name (quote_after quote b) [] bytes
 
+-- the bytes before this quote
+abbrev pub quoted : ℕ → List ℕ → Option (List ℕ)
+quoted quote bytes = Some (front (λ b. not (b == quote)) bytes)
+
+-- the value of the first attribute with this name
 abbrev pub value_of : List ℕ → List ℕ → Option (List ℕ)
-value_of name tag = value_from name 0 [] tag
+value_of name tag = at_value quoted None name 0 [] tag
+
+-- the number of bytes from this value on to the end of the tag, or 0 if there is no such attribute
+abbrev pub value_left : List ℕ → List ℕ → ℕ
+value_left name tag = at_value (λ quote bytes. length bytes) 0 name 0 [] tag

@@ -1,5 +1,5 @@
 -- Points in a text, by the line and the character in it, each from 1; and the locations of links in a file.
-use Rattle.std.specs.Prelude.{◌≡◌, ◌<◌, ◌≤◌, map, ℕ, ◌+◌, ◌==◌, Bool, true, false, not, if◌then◌else◌, List, [], ◌∷◌, ◌++◌, take, count_by, bit_and, length, slice_index_or, string_bytes, Option, None, Some, IfSome, IsAscii}
+use Rattle.std.specs.Prelude.{◌≡◌, ◌<◌, ◌≤◌, map, ℕ, ◌+◌, ◌==◌, Bool, true, false, not, if◌then◌else◌, List, [], ◌∷◌, ◌++◌, take, count_by, bit_and, length, slice_index_or, string_bytes, Option, None, Some, IsAscii}
 use Rattle.std.specs.List.{list_any}
 use Rattle.std.specs.Str.Lossy.{utf8_lossy}
 use Rattle.document_links.specs.declared.charset.Charset.{Charset}
@@ -11,6 +11,7 @@ use Rattle.document_links.specs.declared.text_kind.TextKind.{TextKind}
 use Rattle.document_links.specs.declared.text_kind.TextKind.TheVariants.{Document, StyleSheet, Feed, UrlList}
 use Rattle.html_links.specs.Positions.{needed_positions, positions_of, url_positions}
 use Rattle.document_links.specs.Encoding.{IsTextIn, has_mark, is_in_unicode, is_known, links_in, names_encoding}
+use Rattle.document_links.specs.Feeds.{feed_positions_of}
 use Rattle.document_links.specs.UrlLists.{url_line_positions}
 use Rattle.document_links.specs.Written.{clean}
 
@@ -62,24 +63,24 @@ point_of_place place = record { line = place.line; column = place.column }
 abbrev pub written_in : TextKind → List ℕ → ℕ → List ℕ
 written_in kind text index = utf8_lossy (clean (slice_index_or (links_in kind text) index []))
 
--- the position of each link of a text. For feeds nothing is stated about it
-abbrev pub positions_in : TextKind → List ℕ → Option (List ℕ)
-positions_in (Document syntax styles) text = Some (positions_of styles syntax text)
-positions_in StyleSheet text = Some (url_positions (length text) text)
-positions_in Feed text = None
-positions_in UrlList text = Some (url_line_positions text)
+-- the position of each link of a text
+abbrev pub positions_in : TextKind → List ℕ → List ℕ
+positions_in (Document syntax styles) text = positions_of styles syntax text
+positions_in StyleSheet text = url_positions (length text) text
+positions_in Feed text = feed_positions_of text
+positions_in UrlList text = url_line_positions text
 
 -- what contracts state of the code: these are the old positions and those of the links of a text, or the first ones of them up to a
 -- number
 abbrev pub Positions : TextKind → Option ℕ → List ℕ → List ℕ → List ℕ → Type 0
-Positions kind needed text old new = IfSome (positions_in kind text) (λ positions. needed_positions needed new ≡ needed_positions needed (old ++ positions))
+Positions kind needed text old new = needed_positions needed new ≡ needed_positions needed (old ++ positions_in kind text)
 
 -- these are the locations of the links with these indices: each link has a position in the text. In a known encoding, the position is
--- that of the link, except in feeds, and the links as written are those of the text
+-- that of the link, and the links as written are those of the text
 pub record ArePlacesIn (kind : TextKind) (charset : Charset) (text indices : List ℕ) (places : List TextPlace) : Type 0 where
   pub position : ℕ → ℕ
   pub placed : map point_of_place places ≡ map (λ index. point_at text (position index)) indices
-  pub positioned : is_known charset ≡ true → IfSome (positions_in kind text) (λ positions. map position indices ≡ map (λ index. slice_index_or positions index 0) indices)
+  pub positioned : is_known charset ≡ true → map position indices ≡ map (λ index. slice_index_or (positions_in kind text) index 0) indices
   pub written : is_known charset ≡ true → map (λ place. string_bytes place.written) places ≡ map (written_in kind text) indices
 
 -- these are the locations in a file, by its text in some encoding. If all of it is ASCII, the text is the file itself

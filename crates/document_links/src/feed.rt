@@ -1,10 +1,13 @@
 //! The links of a sitemap or a feed.
-ghost use Rattle.std.specs.Prelude.{◌≡◌, ◌++◌, IfOk, OnOk, option_map};
-ghost use Rattle.document_links.specs.Feeds.{feed_links_of, kind_after, kind_of, links_from, markup_links, part_links, part_of, text_links, text_of, value_links};
+ghost use Rattle.std.specs.Prelude.{◌≡◌, ◌++◌, ◌-◌, IfOk, OnOk, option_map};
+ghost use Rattle.std.specs.Char.{is_ascii_whitespace};
+ghost use Rattle.std.specs.Option.{option_map_or};
+ghost use Rattle.url.specs.Input.{trim_start};
+ghost use Rattle.document_links.specs.Feeds.{feed_links_of, feed_positions_of, kind_after, kind_of, markup_links, markup_positions, part_links, part_of, part_positions, text_links, text_of, value_links, visible_text};
 ghost use Rattle.html_links.specs.Positions.{all_at};
 ghost use Rattle.document_links.specs.Markup.{value_of};
 
-use crate::bytes::split_byte;
+use crate::bytes::{after_front, split_byte};
 use crate::cleaning::trimmed;
 use crate::markup::{Markup, is_tag, markup_len, markup_of, section_of};
 use crate::raw_links::RawLinks;
@@ -42,7 +45,8 @@ pub(crate) enum LinkPart {
 /// Appends the links of a sitemap or a feed. Other documents have none.
 #[tactic(auto, using(html_links::proofs::Documents::cut_shorter))]
 pub(crate) fn push_feed_links(text: &[u8], raw: &mut RawLinks) -> Result<(), AllocError>
-    ensures { OnOk result (raw.new.texts ≡ raw.old.texts ++ feed_links_of text.now) }
+    ensures texts { OnOk result (raw.new.texts ≡ raw.old.texts ++ feed_links_of text.now) }
+    ensures positions { OnOk result (raw.new.positions.items ≡ raw.old.positions.items ++ feed_positions_of text.now) }
 {
     let mut kind = None;
     let mut rest = text;
@@ -133,7 +137,8 @@ fn push_markup_links(
     length: usize,
     raw: &mut RawLinks,
 ) -> Result<(), AllocError>
-    ensures { OnOk result (raw.new.texts ≡ raw.old.texts ++ markup_links markup kind element.entry.tag.now element.entry.more.now) }
+    ensures texts { OnOk result (raw.new.texts ≡ raw.old.texts ++ markup_links markup kind element.entry.tag.now element.entry.more.now) }
+    ensures positions { OnOk result (raw.new.positions.items ≡ raw.old.positions.items ++ markup_positions length markup kind element.entry.tag.now element.entry.more.now) }
 {
     match (markup, kind) {
         (Markup::StartTag, Some(kind)) => {
@@ -150,7 +155,8 @@ fn push_part_links(
     length: usize,
     raw: &mut RawLinks,
 ) -> Result<(), AllocError>
-    ensures { OnOk result (raw.new.texts ≡ raw.old.texts ++ part_links part element.entry.tag.now element.entry.more.now) }
+    ensures texts { OnOk result (raw.new.texts ≡ raw.old.texts ++ part_links part element.entry.tag.now element.entry.more.now) }
+    ensures positions { OnOk result (raw.new.positions.items ≡ raw.old.positions.items ++ part_positions length part element.entry.tag.now element.entry.more.now) }
 {
     let end = length.saturating_sub(element.more.len());
     match part {
@@ -164,7 +170,8 @@ fn push_part_links(
 
 /// Appends the value of an attribute as a link. The tag ends at the position `end`.
 fn push_value(value: Option<TagValue<'_>>, end: usize, raw: &mut RawLinks) -> Result<(), AllocError>
-    ensures { OnOk result (raw.new.texts ≡ raw.old.texts ++ value_links (option_map (λ one. one.text.now) value.entry)) }
+    ensures texts { OnOk result (raw.new.texts ≡ raw.old.texts ++ value_links (option_map (λ one. one.text.now) value.entry)) }
+    ensures positions { OnOk result (raw.new.positions.items ≡ raw.old.positions.items ++ all_at (end - option_map_or (λ one. one.left) value.entry 0) (value_links (option_map (λ one. one.text.now) value.entry))) }
 {
     let Some(value) = value else {
         return Ok(());
@@ -176,24 +183,34 @@ fn push_value(value: Option<TagValue<'_>>, end: usize, raw: &mut RawLinks) -> Re
 
 /// Appends the text of an element as a link, in a document of this length.
 fn push_content(element: Element<'_>, length: usize, raw: &mut RawLinks) -> Result<(), AllocError>
-    ensures { OnOk result (raw.new.texts ≡ raw.old.texts ++ part_links LinkPart.Content element.entry.tag.now element.entry.more.now) }
+    ensures texts { OnOk result (raw.new.texts ≡ raw.old.texts ++ part_links LinkPart.Content element.entry.tag.now element.entry.more.now) }
+    ensures positions { OnOk result (raw.new.positions.items ≡ raw.old.positions.items ++ part_positions length LinkPart.Content element.entry.tag.now element.entry.more.now) }
 {
     if closes(element.tag) {
         return Ok(());
     }
     let text = content_of(raw.allocator(), element.more)?;
-    let begin = length.saturating_sub(content_left(element.more));
+    let begin = length.saturating_sub(visible_text(element.more).len());
     push_text(begin, text.as_slice(), raw)
 }
 
-/// The number of bytes from the first byte of an element's text that is not white space to the end. The text may be in a CDATA
-/// section.
-fn content_left(bytes: &[u8]) -> usize {
-    let text = bytes.trim_ascii_start();
-    match text.strip_prefix(b"<![CDATA[") {
-        Some(section) => section.trim_ascii_start().len(),
-        None => text.len(),
+/// The bytes of an element's text from the first one that is not white space. The text may be in a CDATA section.
+fn visible_text(bytes: &[u8]) -> &[u8]
+    ensures { result.now ≡ visible_text bytes.now }
+{
+    let text = after_space(bytes);
+    if text.starts_with(b"<![CDATA[") {
+        after_space(after_front(9, text))
+    } else {
+        text
     }
+}
+
+/// The bytes after the white space at the start.
+fn after_space(bytes: &[u8]) -> &[u8]
+    ensures { result.now ≡ trim_start is_ascii_whitespace bytes.now }
+{
+    bytes.trim_ascii_start()
 }
 
 /// The text from here to the next tag, without comments, instructions and declarations.

@@ -1,9 +1,10 @@
 //! A start tag of XML, from after its `<` to its `>`.
 ghost use Rattle.std.specs.Prelude.{◌≡◌, ◌<◌, ◌==◌, ℕ, List, [], drop, length, not, MatchOption, if◌then◌else◌, option_map, take_while};
+ghost use Rattle.std.specs.Option.{option_map_or};
 ghost use Rattle.std.specs.Str.{bytes_eq};
 ghost use Rattle.url.specs.Input.{rsplit_once, trim_end};
 ghost use Rattle.html_links.specs.Shown.{Stopped, following, front};
-ghost use Rattle.document_links.specs.Markup.{closes, in_name, is_gap, is_unquoted, last_name, local_name, name_before, value_from, value_of};
+ghost use Rattle.document_links.specs.Markup.{closes, in_name, is_gap, is_unquoted, last_name, local_name, name_before, value_left, value_of};
 
 use crate::bytes::{parts, split_byte};
 use memchr::memchr2;
@@ -70,7 +71,8 @@ pub(crate) struct TagValue<'a> {
 
 /// The value of the first attribute with this name.
 pub(crate) fn value_of<'a>(name: &[u8], tag: &'a [u8]) -> Option<TagValue<'a>>
-    ensures { option_map (λ value. value.text.now) result ≡ value_of name.now tag.now }
+    ensures text { option_map (λ value. value.text.now) result ≡ value_of name.now tag.now }
+    ensures left { option_map_or (λ value. value.left) result 0 ≡ value_left name.now tag.now }
 {
     let mut rest = tag;
     'values: while let Some(found) = next_value(rest) {
@@ -93,9 +95,11 @@ struct Quoted<'a> {
 /// The next text in quotes.
 #[tactic(auto, using(crate::proofs::Marking::no_value))]
 fn next_value(bytes: &[u8]) -> Option<Quoted<'_>>
-    ensures reads { MatchOption result ((name : List ℕ) → value_from name 0 [] bytes.now ≡ None)
-        (λ found. (name : List ℕ) → value_from name 0 [] bytes.now ≡ (if bytes_eq (name_before found.since.now) name then Some found.value.text.now else value_from name 0 [] found.following.now)) }
-    ensures leaves { MatchOption result ((name : List ℕ) → value_from name 0 [] bytes.now ≡ None) (λ found. length found.following.now < length bytes.now) }
+    ensures reads { MatchOption result ((name : List ℕ) → value_of name bytes.now ≡ None)
+        (λ found. (name : List ℕ) → value_of name bytes.now ≡ (if bytes_eq (name_before found.since.now) name then Some found.value.text.now else value_of name found.following.now)) }
+    ensures lefts { MatchOption result ((name : List ℕ) → value_left name bytes.now ≡ 0)
+        (λ found. (name : List ℕ) → value_left name bytes.now ≡ (if bytes_eq (name_before found.since.now) name then found.value.left else value_left name found.following.now)) }
+    ensures leaves { MatchOption result ((name : List ℕ) → value_of name bytes.now ≡ None) (λ found. length found.following.now < length bytes.now) }
 {
     let (since, quoted) = split_quote(bytes);
     let Some((quote, inner)) = parts(quoted) else {

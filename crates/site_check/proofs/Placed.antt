@@ -11,7 +11,7 @@ use Rattle.std.proofs.lemmas.List.Sums.{prefix_len_passes, prefix_len-le-length}
 use Rattle.std.specs.List.{All, Contains, prefix_len}
 use Rattle.std.specs.Slice.{IsItemAt}
 use Rattle.std.specs.Borrow.{Bor}
-use Rattle.std.specs.Prelude.{Err, IfSome, Ok, Result, slice_index_or, if◌then◌else◌, is_some}
+use Rattle.std.specs.Prelude.{Err, Ok, Result, slice_index_or, if◌then◌else◌, is_some}
 use Rattle.check_report.specs.declared.value.Place.{Place}
 use Rattle.document_links.specs.Places.{ArePlaces, point_at, point_of_place, positions_in, written_in}
 use Rattle.document_links.specs.declared.places.TextPlace.{TextPlace}
@@ -93,12 +93,6 @@ same_at : {X Y Z : Type 0} (f : X → Z) (g : Y → Z) (xs : List X) (ys : List 
 same_at f g xs ys k x y same at_x at_y =
     some_same (f x) (g y) (sym (slice_get-map f xs k ∙ ap (λ o. option_map f o) at_x) ∙ ap (λ l. slice_get l k) same ∙ slice_get-map g ys k ∙ ap (λ o. option_map g o) at_y)
 
--- of the positions of several links that of one
-one_position : (all : Option (List ℕ)) (position : ℕ → ℕ) (indices : List ℕ) (k index : ℕ) → slice_get indices k ≡ Some index →
-    IfSome all (λ positions. map position indices ≡ map (λ i. slice_index_or positions i 0) indices) → IfSome all (λ positions. map position (index ∷ []) ≡ map (λ i. slice_index_or positions i 0) (index ∷ []))
-one_position None position indices k index at same = tt
-one_position (Some all) position indices k index at same = ap (λ p. p ∷ []) (same_at position (λ i. slice_index_or all i 0) indices indices k index index same at at)
-
 -- of the places of several links that of one
 pub one_place : (kind : TextKind) (body : List ℕ) (leads : List ListedLead) (places : List TextPlace) (k : ℕ) (one : ListedLead) (place : TextPlace) → ArePlaces kind body (map index_of leads) places →
     slice_get leads k ≡ Some one → slice_get places k ≡ Some place → ArePlaces kind body (one.lead.index ∷ []) (place ∷ [])
@@ -117,7 +111,7 @@ one_place kind body leads places k one place are at_one at_place =
       has = record {
         position = has.position;
         placed = ap (λ p. p ∷ []) (same_at point_of_place (λ index. point_at are.text (has.position index)) places indices k place one.lead.index has.placed at_place at_index);
-        positioned = λ is. one_position (positions_in kind are.text) has.position indices k one.lead.index at_index (has.positioned is);
+        positioned = λ is. ap (λ p. p ∷ []) (same_at has.position (λ i. slice_index_or (positions_in kind are.text) i 0) indices indices k one.lead.index one.lead.index (has.positioned is) at_index at_index);
         written = λ is. ap (λ w. w ∷ []) (same_at (λ (p : TextPlace). string_bytes p.written) (written_in kind are.text) places indices k place one.lead.index (has.written is) at_place at_index);
       };
     }

@@ -1,6 +1,6 @@
 use Rattle.document_links.proofs.Prelude.{◌≡◌, ◌∙◌, ℕ, Option, None, Some, true, List, [], ◌∷◌, ◌++◌, Result, IfOk, ap, arith, map, refl, sym, clean, point_at}
 use Rattle.std.specs.List.{All}
-use Rattle.std.proofs.Common.{Ok, Err, IfSome, ap₂, slice_index_or, string_bytes, suc}
+use Rattle.std.proofs.Common.{Ok, Err, ap₂, slice_index_or, string_bytes, suc}
 use Rattle.std.proofs.lemmas.List.{get_or-take}
 use Rattle.std.specs.Str.Lossy.{utf8_lossy}
 use Rattle.html_links.specs.Links.{needed_texts}
@@ -29,17 +29,6 @@ same_positions found all needed (index ∷ rest) same among =
     ap₂ (λ x xs. x ∷ xs) (same_position found all needed index same (among 0 index (omega arith)))
     (same_positions found all needed rest same (λ k d within. among (suc k) d (omega arith)))
 
-if_positions : (all : Option (List ℕ)) (found : List ℕ) (needed : Option ℕ) (indices : List ℕ) → IfSome all (λ positions. needed_positions needed found ≡ needed_positions needed positions) → All (IsAmong needed) indices →
-    IfSome all (λ positions. map (λ index. slice_index_or found index 0) indices ≡ map (λ index. slice_index_or positions index 0) indices)
-if_positions None found needed indices same among = tt
-if_positions (Some all) found needed indices same among = same_positions found all needed indices same among
-
--- nothing was there before
-from_none : (all : Option (List ℕ)) (old found : List ℕ) (needed : Option ℕ) → old ≡ [] → IfSome all (λ positions. needed_positions needed found ≡ needed_positions needed (old ++ positions)) →
-    IfSome all (λ positions. needed_positions needed found ≡ needed_positions needed positions)
-from_none None old found needed none same = tt
-from_none (Some all) old found needed none same = same ∙ ap (λ l. needed_positions needed (l ++ all)) none
-
 same_texts : (f : List ℕ → List ℕ) (texts all : List (List ℕ)) (needed : Option ℕ) (indices : List ℕ) → needed_texts needed texts ≡ needed_texts needed all → All (IsAmong needed) indices →
     map (λ index. f (slice_index_or texts index [])) indices ≡ map (λ index. f (slice_index_or all index [])) indices
 same_texts f texts all needed [] same among = refl
@@ -49,7 +38,7 @@ same_texts f texts all needed (index ∷ rest) same among =
 
 of_links : {V E : Type 0} (items : V → List TextPlace) (kind : TextKind) (charset : Charset) (text indices : List ℕ) (texts : List (List ℕ)) (positions : List ℕ) (needed : Option ℕ) (r : Result V E) →
     All (IsAmong needed) indices → (is_known charset ≡ true → needed_texts needed texts ≡ needed_texts needed (links_in kind text)) →
-    (is_known charset ≡ true → IfSome (positions_in kind text) (λ all. needed_positions needed positions ≡ needed_positions needed all)) →
+    (is_known charset ≡ true → needed_positions needed positions ≡ needed_positions needed (positions_in kind text)) →
     IfOk r (λ places. map point_of_place (items places) ≡ map (λ index. point_at text (slice_index_or positions index 0)) indices) →
     IfOk r (λ places. map (λ place. string_bytes place.written) (items places) ≡ map (λ index. utf8_lossy (clean (slice_index_or texts index []))) indices) →
     IfOk r (λ places. ArePlacesIn kind charset text indices (items places))
@@ -57,7 +46,7 @@ of_links items kind charset text indices texts positions needed (Ok places) amon
     record {
       position = λ index. slice_index_or positions index 0;
       placed = placed;
-      positioned = λ is. if_positions (positions_in kind text) positions needed indices (found is) among;
+      positioned = λ is. same_positions positions (positions_in kind text) needed indices (found is) among;
       written = λ is. written ∙ same_texts (λ link. utf8_lossy (clean link)) texts (links_in kind text) needed indices (known is) among;
     }
 of_links items kind charset text indices texts positions needed (Err e) among known found placed written = tt
@@ -69,4 +58,4 @@ returns c =
     let needed = c.needed_count.result in
     of_links (λ places. places.items) reading.kind reading.charset text c.args.indices.now c.find_links.new.raw.texts c.find_links.new.raw.positions.items needed c.places_of.result c.needed_count.ensures
     (λ known. c.in_ok-find_links.ensures.texts known ∙ ap (λ l. needed_texts needed (l ++ links_in reading.kind text)) c.new-raw.ensures.texts)
-    (λ known. from_none (positions_in reading.kind text) _ c.find_links.new.raw.positions.items needed c.new-raw.ensures.positions (c.in_ok-find_links.ensures.positions known)) c.places_of.ensures.placed c.places_of.ensures.written
+    (λ known. c.in_ok-find_links.ensures.positions known ∙ ap (λ l. needed_positions needed (l ++ positions_in reading.kind text)) c.new-raw.ensures.positions) c.places_of.ensures.placed c.places_of.ensures.written
