@@ -67,7 +67,7 @@ THEOREMS = (
     ("An HTML document", (
         Calls("html_links", "document.rt", ("tags",)), Calls("html_links", "reader.rt", ("read_page",)), Calls("html_links", "placed.rt", ("read_places",)),
         Calls("html_links", "style.rt", ("read_style",)), Calls("document_links", "document.rt", ("read_document",)),
-        Calls("document_links", "laws.rt"),
+        Calls("document_links", "document_start.rt", ("is_document",)), Calls("document_links", "laws.rt"),
     )),
     ("The program", (
         Calls("mercator", "commands.rt", ("run_words", "run_plan")),

@@ -79,7 +79,7 @@ def errors(library: Library, model: Model, files: Files, found: Dict[bytes, Read
     for name in files.names:
         document = None if name.endswith(b"/") else model.site.document(name)
         form = model.site.form(name)
-        if form == "":
+        if form == "" and not name.endswith(b"/"):
             yield from start_errors(library, name, model.site.body(name))
         if document is None or form is None:
             continue
