@@ -42,7 +42,9 @@ pub struct ReadOptions<'a> {
 
 impl ReadOptions<'_> {
     /// The kind of a document that is read with these options.
-    fn kind(self) -> TextKind {
+    fn kind(self) -> TextKind
+        ensures { result ≡ TextKind.Document self.entry.syntax self.entry.styles }
+    {
         TextKind::Document {
             syntax: self.syntax,
             styles: self.styles,
