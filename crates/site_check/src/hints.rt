@@ -24,7 +24,7 @@ pub(crate) fn hint_of(
     }
 }
 
-/// The file that is found and the option with which it is, where a symbolic link leads, or that a folder has no index file.
+/// The file that is found and the option with which it is, that a folder has no index file, or where a symbolic link leads.
 fn hint_text(alloc: Global, files: &SiteFiles<'_>, hint: Hint) -> Result<String, NoMemory>
     ensures { IfOk result (λ text. string_bytes text ≡ hint_text files.now hint) }
 {
