@@ -51,6 +51,7 @@ class Attack(NamedTuple):
 
 
 def count(usual: int) -> int:
+    """Return the environment variable COUNT as a number, or this one if it is not set."""
     return int(os.environ.get("COUNT", usual))
 
 
@@ -325,6 +326,8 @@ def write(name: str) -> None:
 
 
 def main() -> None:
+    if len(sys.argv) < 2:
+        sys.exit(__doc__)
     if sys.argv[1] == "--names":
         print("\n".join(ATTACKS))
     elif sys.argv[1] == "--expected":

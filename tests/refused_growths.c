@@ -1,4 +1,5 @@
-// Lets the allocation with the number in REFUSE, from 1, fail, and then makes the file REFUSED, which shows that it was reached.
+// A library for LD_PRELOAD. It makes one allocation of a program fail: the one whose number, from 1, is in the environment variable
+// REFUSE. Then it makes the file that REFUSED names, which shows that the program got so far. With REFUSE=0, or without it, none fails.
 #define _GNU_SOURCE
 #include <errno.h>
 #include <fcntl.h>
@@ -12,7 +13,7 @@ extern void *__libc_calloc(size_t, size_t);
 extern void *__libc_realloc(void *, size_t);
 extern void *__libc_memalign(size_t, size_t);
 
-static atomic_ulong asked;
+static atomic_ulong allocations;
 
 static int refuses(void) {
     static _Atomic long wanted = -1;
@@ -22,9 +23,9 @@ static int refuses(void) {
         number = text ? atol(text) : 0;
         atomic_store(&wanted, number);
     }
-    if (number == 0 || atomic_fetch_add(&asked, 1) + 1 != (unsigned long)number) return 0;
-    int met = open(getenv("REFUSED"), O_WRONLY | O_CREAT | O_CLOEXEC, 0600);
-    if (met >= 0) close(met);
+    if (number == 0 || atomic_fetch_add(&allocations, 1) + 1 != (unsigned long)number) return 0;
+    int reached = open(getenv("REFUSED"), O_WRONLY | O_CREAT | O_CLOEXEC, 0600);
+    if (reached >= 0) close(reached);
     errno = ENOMEM;
     return 1;
 }

@@ -3,7 +3,8 @@ use Rattle.std.specs.Prelude.{Bool, true, false}
 use Rattle.crawl_core.specs.declared.event.Event.{Event}
 use Rattle.crawl_core.specs.declared.event.Event.TheVariants.{Look, Enter, Admit, Back, EndSeeds, Take, Done, Close}
 
--- These events may add a word, a holder or a URL. All other events only remove something, and need no memory.
+-- `Look` may add a word that a sender remembers, `Enter` a sender that holds a unit, and `Admit` a URL. All other events add nothing,
+-- and need no memory.
 abbrev pub needs_memory : Event → Bool
 needs_memory (Look _) = true
 needs_memory (Enter _) = true

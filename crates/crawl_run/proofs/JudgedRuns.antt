@@ -7,6 +7,7 @@ use Rattle.crawl_run.specs.declared.run_output.RunOutput as left
 
 -- ---- one more
 
+-- losses added to those of all before are those of all together
 together_more : (all : List Losses) (l : Losses) → both_losses (together all) l ≡ together (all ++ l ∷ [])
 together_more all l = grind (arith, sum_by_push)
 
@@ -21,12 +22,12 @@ with_ends {K} all (e ∷ es) = ap (λ (l : Losses). losses_with l es) (together_
 abbrev pub Outcome : Type 0
 Outcome = Result Offer OfferError
 
--- the losses so far, together with what is lost by an offer of a seed with this result
+-- the losses so far, and what an offer of a seed with this result loses
 abbrev with_offer : Outcome → Losses → Losses
 with_offer (Ok offer) losses = losses
 with_offer (Err refusal) losses = with_refusal refusal losses
 
--- a count to which no seed adds
+-- a count, which stops at its maximum, to which a seed adds nothing
 unchanged : (kind : Losses → ℕ) (all : List Losses) → min (sum_by kind all) (2 ^ 64 - 1) ≡ min (min (sum_by kind all) (2 ^ 64 - 1) + 0) (2 ^ 64 - 1)
 unchanged kind all = grind arith
 

@@ -10,7 +10,8 @@ use crawl_pages::{Fetch, Page};
 use site_files::Alias;
 use std::alloc::{AllocError, Global};
 
-/// Returns the aliases whose page has only the link to the own URL. All have, but this is checked, because a contract promises it.
+/// Returns the aliases whose page has only the link to the file's own URL. Every alias has such a page, but no clause says so of the
+/// pages that are passed here. So each is looked up, and one without such a page would be left out.
 pub(crate) fn aliases_among(
     alloc: Global,
     pages: &LinkedPages,

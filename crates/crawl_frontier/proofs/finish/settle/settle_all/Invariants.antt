@@ -1,6 +1,8 @@
 use Rattle.crawl_frontier.proofs.Prelude.{◌≡◌, ◌≤◌, ◌+◌, ℕ, vec_len, vec_capacity, nat_cmp, get, Begins, AllSettle}
 use Rattle.crawl_frontier.proofs.finish.settle.settle_all.Given as goal
 
+-- the queues before this one have their list, and why they are in doubt, if they are. The shards of these queues were taken from the end of
+-- `shards`; the rights to pop from the other queues are left
 abbrev pub invariant-loop-queue : goal.invariant-loop-queue
 invariant-loop-queue g l =
     (vec_len l.lists ≡ l.queue) × (vec_len l.doubts ≡ l.queue)
