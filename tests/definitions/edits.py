@@ -36,6 +36,7 @@ EDITS: Tuple[Edit, ...] = (
     Edit("document_links.Written", "shortened text = if fits 5 text then text else without_fragment text", "shortened text = without_fragment text"),
     Edit("document_links.Rooted", "climbs depth segment = depth == 0 && dot_count segment == 2", "climbs depth segment = false"),
     Edit("document_links.Schemes", "is_local scheme = length scheme == 1 ||", "is_local scheme = length scheme == 2 ||"),
+    Edit("document_links.Prescan", "pragma_label tag = if option_map_or is_kind tag.header false then", "pragma_label tag = if true then"),
     # Anchors
     Edit("page_anchors.Indicated", "decoded_of fragment = utf8_lossy (percent_decode fragment)", "decoded_of fragment = utf8_lossy fragment"),
     Edit("page_anchors.Indicated", "is_route (b ∷ bs) = (b == 47) || (b == 33)", "is_route (b ∷ bs) = b == 47"),

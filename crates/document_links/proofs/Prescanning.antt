@@ -4,14 +4,14 @@ use Rattle.std.proofs.Common.{zero, suc, ⊎_elim, codes, take_while}
 use Rattle.std.specs.Char.{is_ascii_whitespace}
 use Rattle.std.specs.Option.{option_map_or}
 use Rattle.std.specs.Str.{IsTrimAsciiStart}
-use Rattle.std.proofs.lemmas.Bool.{eq-eqb, not-false, not-true}
+use Rattle.std.proofs.lemmas.Bool.{eq-eqb, not-false}
 use Rattle.std.proofs.lemmas.List.Folds.{length-prefix_len}
 use Rattle.std.proofs.lemmas.Str.Ascii.{trim_ascii_start_is}
 use Rattle.html_links.specs.Shown.{Stopped, following, front}
 use Rattle.html_links.proofs.Cuts.{front_cut, after_cut, tail_front, tail_after}
 use Rattle.html_links.proofs.Jumps.{shorter, stopped}
 use Rattle.document_links.specs.Markup.{begins, is_quote}
-use Rattle.document_links.specs.Prescan.{AfterName, BeforeName, BeforeValue, Comment, Content, Found, Go, Markup, Meta, MetaName, Name, Next, Quoted, State, TagName, Unquoted, after_spaces, begins_charset, begun, ended, first_is, follow, is_gap, new_tag, noted, opening_of, prescan, state_in, step}
+use Rattle.document_links.specs.Prescan.{AfterName, BeforeName, BeforeValue, Comment, Content, Go, Markup, Meta, MetaName, Name, Next, Quoted, State, TagName, Unquoted, after_spaces, begun, ended, first_is, follow, is_gap, new_tag, noted, opening_of, prescan, state_in, step}
 use Rattle.document_links.specs.Scans.{BeginsName, Leaves, LeavesPiece, following_name, is_inner, is_unquoted, name_front}
 use Rattle.document_links.specs.Starts.{after_word}
 use Rattle.document_links.specs.declared.prescan.Piece.{Piece}

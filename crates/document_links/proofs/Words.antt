@@ -2,7 +2,7 @@
 use Rattle.document_links.proofs.Prelude.{◌≡◌, ◌∙◌, ℕ, ◌<◌, ◌≤◌, ◌+◌, ◌||◌, Bool, true, false, cond, List, [], ◌∷◌, ◌++◌, length, length-take, take, take-append-drop, drop, Option, None, Some, refl, sym, ap, arith, cond-true, cond-false, cases_Bool, false_from_ne_true}
 use Rattle.std.proofs.Common.{◌&&◌, zero, suc, ⊎_elim, codes}
 use Rattle.std.proofs.lemmas.Slice.Eq.{bytes_eq-Decides}
-use Rattle.memchr.specs.Find.{FindsNeedle, OccursAt, Nowhere}
+use Rattle.memchr.specs.Find.{FindsNeedle, OccursAt}
 use Rattle.memchr.proofs.lemmas.MatchLemmas.{OccursAt-part, OccursAt-from_part}
 use Rattle.document_links.specs.Markup.{begins}
 use Rattle.document_links.specs.Sniffing.{after_blanks, begins_document, ends_before_document}

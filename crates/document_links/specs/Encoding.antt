@@ -1,5 +1,5 @@
 -- The text of a document in UTF-8, and its links.
-use Rattle.std.specs.Prelude.{◌≡◌, ℕ, ◌-◌, ◌%◌, nat_lt, Bool, true, false, ◌||◌, List, [], ◌∷◌, ◌++◌, codes, drop, take, slice_index, Option, None, Some, Vec, if◌then◌else◌, bytes_eq}
+use Rattle.std.specs.Prelude.{◌≡◌, ℕ, ◌-◌, ◌%◌, nat_lt, Bool, true, false, ◌||◌, List, [], ◌∷◌, drop, take, slice_index, Option, None, Some, Vec, if◌then◌else◌, bytes_eq}
 use Rattle.std.specs.Char.{encode_utf8}
 use Rattle.std.specs.Int.{is_in_range}
 use Rattle.std.specs.List.{flat_map}

@@ -1,6 +1,6 @@
 -- Whether a file without a known suffix is a document, by its first bytes: after blanks, an XML declaration and a comment it begins with
 -- `<html` or `<!doctype html`.
-use Rattle.std.specs.Prelude.{ℕ, ◌==◌, ◌&&◌, ◌||◌, nat_le, Bool, true, false, not, List, [], ◌∷◌, codes, length, take, drop, if◌then◌else◌}
+use Rattle.std.specs.Prelude.{ℕ, ◌==◌, ◌&&◌, ◌||◌, nat_le, Bool, false, not, List, [], ◌∷◌, codes, length, take, drop, if◌then◌else◌}
 use Rattle.std.specs.Char.{is_ascii_alphanumeric}
 use Rattle.std.specs.List.{list_any}
 use Rattle.html_links.specs.Shown.{following}

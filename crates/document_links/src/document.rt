@@ -104,6 +104,7 @@ impl Document {
 ///
 /// # Errors
 /// Out of memory.
+#[tactic(auto, using(crate::proofs::Encoded::of_kind))]
 pub fn read_document(
     alloc: Global,
     body: &[u8],

@@ -1,4 +1,4 @@
-use Rattle.document_links.proofs.Prelude.{◌∙◌, ap, Some, sym, take_rest}
+use Rattle.document_links.proofs.Prelude.{take_rest}
 use Rattle.document_links.proofs.Words.{first_word, nowhere}
 use Rattle.document_links.proofs.document_start.after_first.Goals as goal
 
