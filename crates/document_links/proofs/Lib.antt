@@ -3,6 +3,7 @@ pub mod Encoded
 pub mod Feeding
 pub mod Fitting
 pub mod Marking
+pub mod Occurrences
 pub mod Parsing
 pub mod Prelude
 pub mod Prescanning
@@ -13,4 +14,3 @@ pub mod Slashless
 pub mod Trimming
 pub mod Unescaping
 pub mod WindowsBytes
-pub mod Words

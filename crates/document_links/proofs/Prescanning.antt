@@ -17,7 +17,7 @@ use Rattle.document_links.specs.Starts.{after_word}
 use Rattle.document_links.specs.declared.prescan.Piece.{Piece}
 use Rattle.document_links.specs.declared.prescan.Scan.{Scan}
 use Rattle.document_links.proofs.Runs.{collects_run, fails}
-use Rattle.document_links.proofs.Words.{ending}
+use Rattle.document_links.proofs.Occurrences.{ending}
 
 -- ---- runs
 

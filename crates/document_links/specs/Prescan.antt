@@ -93,7 +93,7 @@ pub data State : Type 0 where
   Quoted : ℕ → Meta → List ℕ → List ℕ → State
   Unquoted : Meta → List ℕ → List ℕ → State
 
--- Go on in a state, or stop with a name.
+-- the next state, or the name that was found
 pub data Next : Type 0 where
   Go : State → Next
   Found : List ℕ → Next
@@ -160,7 +160,7 @@ abbrev pub follow : Next → (State → Option (List ℕ)) → Option (List ℕ)
 follow (Go state) on = on state
 follow (Found name) on = Some name
 
--- Where the bytes end, nothing is declared.
+-- If the bytes end, nothing is declared.
 abbrev pub prescan : State → List ℕ → Option (List ℕ)
 prescan state [] = None
 prescan state (b ∷ bytes) = follow (step state b bytes) (λ state. prescan state bytes)

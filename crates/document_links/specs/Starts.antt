@@ -1,4 +1,4 @@
--- The start of a file, and words in it.
+-- The start of a file, and texts in any case.
 use Rattle.std.specs.Prelude.{ℕ, Bool, List, [], ◌∷◌, length, take, drop, Option, None, Some, if◌then◌else◌}
 use Rattle.std.specs.Str.{str_eq_ignore_ascii_case}
 use Rattle.document_links.specs.Markup.{begins}

@@ -79,7 +79,7 @@ fn is_blank(byte: u8) -> bool
 }
 
 /// Whether a document starts after some `-->` in the text.
-#[tactic(auto, using(crate::proofs::Words::no_end, crate::proofs::Words::next_end))]
+#[tactic(auto, using(crate::proofs::Occurrences::no_end, crate::proofs::Occurrences::next_end))]
 fn ends_before_document(text: &[u8]) -> bool
     ensures { result ≡ ends_before_document text.now }
 {

@@ -1,5 +1,5 @@
 use Rattle.document_links.proofs.Prelude.{take_rest}
-use Rattle.document_links.proofs.Words.{first_word, nowhere}
+use Rattle.document_links.proofs.Occurrences.{first_word, nowhere}
 use Rattle.document_links.proofs.document_start.after_first.Goals as goal
 
 pub returns-in-Some-clause-value : goal.returns-in-Some-clause-value
