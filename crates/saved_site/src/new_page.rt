@@ -1,6 +1,6 @@
 //! Makes the page of a task from the contents of its file.
 ghost use Rattle.std.specs.Prelude.{◌≡◌, [], IfOk, IfSome, option_map, string_bytes};
-ghost use Rattle.saved_site.specs.FileLinks.{IsFilePage, IsPageOf};
+ghost use Rattle.saved_site.specs.FileLinks.{IsFilePage, IsPageOf, is_read};
 ghost use Rattle.saved_site.specs.SiteTexts.{begins_slash, is_path, is_url, link_to, redirect_to, target_at, text_to, with_query, without_origin};
 ghost use Rattle.saved_site.specs.TaskPages.{IsReadPage};
 ghost use Rattle.saved_site.specs.declared.page.Under.TheVariants.{Links};
@@ -61,11 +61,26 @@ fn file_page(
 ) -> Result<NewPage, AllocError>
     ensures { IfOk result (λ new. IfSome new.page (IsFilePage files.now task.now.url kind body.now)) }
 {
-    if kind == FileKind::Unknown && !is_document(body) {
+    if !is_read(kind, body) {
         return empty_page(alloc, task);
     }
     let document = file_document(alloc, files, &task.url, kind, body, room)?;
     document_page(alloc, files, task, document)
+}
+
+/// Whether the links of a file of this kind with these contents are read.
+fn is_read(kind: FileKind, body: &[u8]) -> bool
+    ensures { result ≡ is_read kind body.now }
+{
+    match kind {
+        FileKind::Html
+        | FileKind::Xml
+        | FileKind::Svg
+        | FileKind::Style
+        | FileKind::Feed
+        | FileKind::UrlList => true,
+        FileKind::Unknown => is_document(body),
+    }
 }
 
 /// Makes the page at the own URL of a file of this kind, of which this was read. If it cannot be read, the page has no links.
