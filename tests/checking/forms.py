@@ -94,7 +94,7 @@ def target_fields(target: Target) -> List[List[str]]:
     row = target.row
     lines = [[named(row), message(row) + advice(row)]]
     for place in target.places:
-        notes = [as_written(row, place).lstrip(" "), question(row, place).lstrip(" ")]
+        notes = [as_written(place, named(row)).lstrip(" "), question(row, place).lstrip(" ")]
         lines.append(["", f"{place['file']}:{place['line']}:{place['column']}", *filter(None, notes)])
     return lines
 

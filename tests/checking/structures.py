@@ -81,7 +81,7 @@ class Link(NamedTuple):
 
     def text(self) -> str:
         """What is wrong."""
-        notes = as_written(self.row, self.place) + question(self.row, self.place) if self.place else ""
+        notes = as_written(self.place, named(self.row)) + question(self.row, self.place) if self.place else ""
         return f"{named(self.row)}: {message(self.row)}{notes}{advice(self.row)}"
 
     def suite(self) -> str:
