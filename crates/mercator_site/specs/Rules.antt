@@ -9,12 +9,12 @@ abbrev pub index_names : List (List ℕ) → List (List ℕ)
 index_names [] = codes "index.html" ∷ codes "index.htm" ∷ codes "index.xhtml" ∷ []
 index_names (name ∷ names) = name ∷ names
 
--- the rules are those of the options; `exact` is whether only the exact URL of a page is accepted
-pub record AreRulesWith (exact : Bool) (options : SiteOptions) (rules : Rules) : Type 0 where
+-- the rules are those of the options; `strict` is whether only the exact URL of a page is accepted
+pub record AreRulesWith (strict : Bool) (options : SiteOptions) (rules : Rules) : Type 0 where
   pub index_files : map string_bytes rules.index_files.items ≡ index_names (map string_bytes options.index_files.items)
   pub html_fallback : rules.html_fallback ≡ options.html_fallback
   pub queries : rules.queries ≡ options.queries
-  pub exact : rules.exact ≡ exact
+  pub exact : rules.exact ≡ strict
   pub follow : rules.follow ≡ options.follow
   pub styles : rules.styles ≡ options.styles
   pub sniff : rules.sniff ≡ (options.sniff || is_some options.index)
