@@ -1,5 +1,5 @@
 -- A check, from the arguments to the exit status and what was written.
-use Rattle.std.specs.Prelude.{◌≡◌, ◌==◌, ◌⊎◌, ℕ, Bool, true, false, not, ◌&&◌, ◌||◌, List, [], ◌∷◌, Option, bytes_eq, codes, count_by, is_some, length, nat_eq, String, string_bytes}
+use Rattle.std.specs.Prelude.{◌≡◌, ◌==◌, ◌⊎◌, ℕ, Bool, true, false, not, ◌&&◌, ◌||◌, List, [], ◌∷◌, Option, bytes_eq, codes, count_by, if◌then◌else◌, is_some, length, nat_eq, String, string_bytes}
 use Rattle.std.specs.Io.KnownBytes.{Appends}
 use Rattle.std.specs.List.{list_any, starts_with}
 use Rattle.std.specs.declared.alloc.Global.{Global}
@@ -73,7 +73,7 @@ word_count arguments = count_by (λ word. not (bytes_eq (string_bytes word) (cod
 
 -- the report has paths if and only if there is no BASE after `check` and FOLDER
 abbrev pub has_paths_without_base : List (String Global) → CheckOptions → Bool
-has_paths_without_base arguments options = options.paths == (word_count arguments == 2)
+has_paths_without_base arguments options = if word_count arguments == 2 then options.paths else not options.paths
 
 -- there is no BASE, or BASE is one of the arguments, or a configuration file may set it
 abbrev pub agrees_with_base : List (String Global) → CheckOptions → Bool

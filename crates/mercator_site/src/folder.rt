@@ -51,14 +51,21 @@ fn rules_of(alloc: Global, options: &SiteOptions) -> Result<Rules, AllocError>
 fn index_files(alloc: Global, given: &[String]) -> Result<Vec<String>, AllocError>
     ensures { IfOk result (λ names. map string_bytes names.items ≡ index_names (map string_bytes given.now)) }
 {
-    if given.is_empty() {
-        return usual_index_files(alloc);
+    match given {
+        [] => usual_index_files(alloc),
+        [_, ..] => copies(alloc, given),
     }
-    let mut names = Vec::new(alloc);
-    for name in given {
-        names.push(name.clone()?)?;
+}
+
+/// Copies of these texts.
+fn copies(alloc: Global, texts: &[String]) -> Result<Vec<String>, AllocError>
+    ensures { IfOk result (λ copies. map string_bytes copies.items ≡ map string_bytes texts.now) }
+{
+    let mut copies = Vec::new(alloc);
+    for text in texts {
+        copies.push(text.clone()?)?;
     }
-    Ok(names)
+    Ok(copies)
 }
 
 /// The usual names of index files.

@@ -152,7 +152,11 @@ fn has_usual_rules(site: &SiteOptions) -> bool
 fn has_paths_without_base(arguments: &[String], options: &CheckOptions) -> bool
     ensures { result ≡ has_paths_without_base arguments.now options.now }
 {
-    options.paths == (word_count(arguments) == 2)
+    if word_count(arguments) == 2 {
+        options.paths
+    } else {
+        !options.paths
+    }
 }
 
 /// The number of arguments that are not `--no-config`.

@@ -70,7 +70,10 @@ fn push_run_args<'a>(alloc: Global, args: &mut Vec<Arg<'a>>) -> Result<(), Alloc
 
 /// Appends the arguments FOLDER and BASE.
 fn push_places<'a>(alloc: Global, args: &mut Vec<Arg<'a>>) -> Result<(), AllocError> {
-    push(args, folder(alloc, "Folder to check; nothing is read from the network"))?;
+    push(
+        args,
+        folder(alloc, "Folder to check; nothing is read from the network"),
+    )?;
     let help =
         "URL at which FOLDER is published, http or https; without it, links with a host are not checked";
     push(args, base(alloc, help))
