@@ -97,11 +97,12 @@ class Pages:
         return Page(value, None, tuple((one.encode("utf-8", "replace"), reason) for one, reason in texts), None)
 
     def invalid(self, url: bytes, read: Read) -> Iterable[Tuple[bytes, str]]:
-        """The links of a file that have no URL, and what is wrong with each."""
+        """The links of a file that have no URL or lack their slashes, and what is wrong with each."""
         link_url = self.library.function("saved_pages.SavedWeb.link_url")
         invalid_kind = self.library.function("document_links.Schemes.invalid_kind")
+        lacks_slashes = self.library.function("document_links.Schemes.lacks_slashes")
         for link in items(read.written):
-            if link_url(text(url), link) == NONE:
+            if lacks_slashes(link) or link_url(text(url), link) == NONE:
                 kind = invalid_kind(link)
                 if kind[0] == "Some":
                     yield unlisted(link), kind[1][0]
