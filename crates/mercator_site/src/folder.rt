@@ -63,7 +63,7 @@ fn copies(alloc: Global, texts: &[String]) -> Result<Vec<String>, AllocError>
 {
     let mut copies = Vec::new(alloc);
     for text in texts {
-        copies.push(text.clone()?)?;
+        copies.push(String::from_str(alloc, text.as_str())?)?;
     }
     Ok(copies)
 }
