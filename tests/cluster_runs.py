@@ -157,6 +157,8 @@ class Server:
         while True:
             try:
                 self.run_id: str = self.client.info("server")["run_id"]
+                # This fails while Redis still loads its files.
+                self.client.ping()
                 return
             except redis.RedisError:
                 is_alive = self.process.poll() is None

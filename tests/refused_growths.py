@@ -23,7 +23,9 @@ AT_ONCE = len(os.sched_getaffinity(0))
 RING = f"{DATA}/ring.web"
 SITE = f"{DATA}/site.web"
 
+# An error, after the note about a line of the site list.
 ERROR = re.compile(
+    rb"(mercator: [^\n]*: line skipped, an earlier line has the same URL\n)?"
     rb"mercator: (out of memory|cannot read [^\n]*|cannot write|bad suffix|(seed \d+|URL): [a-z A-Z]+"
     rb"|(saved web|script|seeds|index): (line \d+: )?[a-zA-Z -]+8?|incomplete(: [a-z0-9 ]+)?|BASE: [a-zA-Z ]+)\n"
 )
