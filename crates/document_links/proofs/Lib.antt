@@ -2,11 +2,15 @@ pub mod After
 pub mod Encoded
 pub mod Feeding
 pub mod Fitting
+pub mod Fragments
+pub mod Keeping
 pub mod Marking
+pub mod Numbering
 pub mod Parsing
 pub mod Prelude
 pub mod Pushing
 pub mod Rooting
+pub mod Rows
 pub mod Runs
 pub mod Trimming
 pub mod Unescaping

@@ -2,6 +2,8 @@ pub mod AnchorLinks
 pub mod Anchors
 pub mod Encoding
 pub mod Feeds
+pub mod Keeping
+pub mod KeptAnchors
 pub mod Markup
 pub mod Places
 pub mod Rooted

@@ -110,8 +110,6 @@ impl CountedLinks for RawLinks {
 #[derive(Drop)]
 pub(crate) struct RawIds {
     pub(crate) ids: Ids,
-    /// Whether one of the ids is not known.
-    pub(crate) has_unknown: bool,
 }
 
 impl RawIds {
@@ -121,7 +119,6 @@ impl RawIds {
     {
         RawIds {
             ids: Ids::new(alloc),
-            has_unknown: false,
         }
     }
 }
