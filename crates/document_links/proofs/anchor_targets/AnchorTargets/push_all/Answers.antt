@@ -21,12 +21,12 @@ targets-preserved-in_ok-push_target-in-Some-url c =
     let same : All (λ (link : MarkedLink). link.target ≡ first) run =
     subst (All (λ (link : MarkedLink). link.target ≡ first)) (sym (c.split_at.ensures.front ∙ ap (λ n. take n rest) c.run_len.ensures.value)) (run_same first rest) in
     let split : run ++ c.split_at.result.1.now ≡ rest = (λ i. c.split_at.ensures.front i ++ c.split_at.ensures.back i) ∙ take-append-drop c.run_len.result rest in
-    let wrote = c.in_ok-push_target.ensures.kept
+    let wrote = c.in_ok-push_target-in-Some-url.ensures.kept
     ∙ ap (λ own. kept_of c.targets.self ++ led url (flat_map (row_of values (bytes_eq url page) own) run)) inv.ids
     ∙ ap (λ l. kept_of c.targets.self ++ l) (sym (run_led values ids urls page first url run (sym c.in-Some-url.ensures) same)) in
     record {
-      built = c.in_ok-push_target.ensures.built;
-      ids = c.in_ok-push_target.ensures.ids ∙ inv.ids;
+      built = c.in_ok-push_target-in-Some-url.ensures.built;
+      ids = c.in_ok-push_target-in-Some-url.ensures.ids ∙ inv.ids;
       kept = passed keeps rest run c.split_at.result.1.now (kept_of c.targets.self) (kept_of c.push_target.new.self) (kept_of c.args.self.now ++ flat_map keeps c.args.links.now) split wrote inv.kept;
     }
 
