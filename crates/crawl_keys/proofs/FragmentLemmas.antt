@@ -98,7 +98,7 @@ text_of-fragment : (url : Parts) (query : Option (List ℕ)) (one other : Option
 unfolding text_of
 text_of-fragment url query one other = refl
 
-parse_parts-fragment : (scheme : List ℕ) (base : Option Parts) (body : List ℕ) (query : Option (List ℕ)) (one other : Option (List ℕ)) → text_of_parse (parse_parts scheme base body query one) ≡ text_of_parse (parse_parts scheme base body query other)
+pub parse_parts-fragment : (scheme : List ℕ) (base : Option Parts) (body : List ℕ) (query : Option (List ℕ)) (one other : Option (List ℕ)) → text_of_parse (parse_parts scheme base body query one) ≡ text_of_parse (parse_parts scheme base body query other)
 unfolding parse_parts
 parse_parts-fragment scheme base body query one other = grind (arith, text_of_parse-tail, text_of-fragment)
 
