@@ -37,7 +37,7 @@ import planted
 from mutants import applied, changes_of
 
 ROOT = Path(__file__).resolve().parent.parent
-SECONDS = 60  # the time limit for reading the arguments of a command
+SECONDS = 300  # the time limit for reading the arguments of all commands of a script, which takes seconds on a quiet machine
 
 # A path of a script or document below these folders, or of a script in the top folder.
 PATH = re.compile(
@@ -265,9 +265,12 @@ def errors_of_arguments(script: Path, lists: List[List[str]]) -> Optional[List[O
     """Return why a Python script does not accept each list of arguments, or None. Without a library that it needs, return None."""
     # A script that looks for the program finds a file.
     environment = {**os.environ, "PROGRAM": sys.executable, "MERCATOR": sys.executable, "CALLS": sys.executable}
-    done = subprocess.run(
-        [sys.executable, "-c", READ_ONLY, str(script)], cwd=ROOT, env=environment, input=json.dumps(lists),
-        stdout=subprocess.PIPE, stderr=subprocess.PIPE, encoding="utf-8", errors="replace", timeout=SECONDS)
+    try:
+        done = subprocess.run(
+            [sys.executable, "-c", READ_ONLY, str(script)], cwd=ROOT, env=environment, input=json.dumps(lists),
+            stdout=subprocess.PIPE, stderr=subprocess.PIPE, encoding="utf-8", errors="replace", timeout=SECONDS)
+    except subprocess.TimeoutExpired:
+        return [f"its arguments were not read within {SECONDS} s"] * len(lists)
     if "ModuleNotFoundError: " in done.stderr:
         return None
     if done.returncode or not done.stdout:
