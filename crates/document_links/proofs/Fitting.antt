@@ -5,12 +5,17 @@ use Rattle.std.proofs.lemmas.Bool.Decides.{nat_tests}
 use Rattle.url.specs.Input.{is_c0_control_or_space, is_tab_or_new_line, trim_end, trim_start, strip_tabs_and_new_lines, trim_c0_control_and_space}
 use Rattle.std.proofs.lemmas.Str.Ascii.{IsAscii-nil}
 use Rattle.crawl_limits.specs.Limits.{line_limit}
+use Rattle.document_links.specs.Written.{has_room}
 
 pub fits_inner : (front : ℕ) (text : List ℕ) → fits front text ≡ true → list_all is_inner text ≡ true
 fits_inner front text fit = grind (arith, and_parts)
 
 pub fits_utf8 : (front : ℕ) (text : List ℕ) → fits front text ≡ true → is_utf8 text ≡ true
 fits_utf8 front text fit = grind (arith, and_parts)
+
+-- a text that fits has room
+pub has_room_whole : (text : List ℕ) → fits 5 text ≡ true → has_room text ≡ true
+has_room_whole text fit = grind arith
 
 -- texts of visible ASCII bytes fit in a line, and a URL parser drops nothing of them
 

@@ -2,13 +2,17 @@ pub mod After
 pub mod Encoded
 pub mod Feeding
 pub mod Fitting
+pub mod Fragments
+pub mod Keeping
 pub mod Marking
+pub mod Numbering
 pub mod Occurrences
 pub mod Parsing
 pub mod Prelude
 pub mod Prescanning
 pub mod Pushing
 pub mod Rooting
+pub mod Rows
 pub mod Runs
 pub mod Slashless
 pub mod Trimming

@@ -1,5 +1,5 @@
 -- Why a link that lacks its slashes is invalid.
-use Rattle.document_links.proofs.Prelude.{◌≡◌, ℕ, true, not, List, Option, Some, None, refl, arith, and_parts}
+use Rattle.document_links.proofs.Prelude.{◌≡◌, ℕ, true, not, List, Option, Some, None, refl, and_parts}
 use Rattle.std.proofs.Common.{◌&&◌, false}
 use Rattle.url.specs.Parser.{split_scheme}
 use Rattle.std.specs.Option.{option_map, option_map_or}

@@ -23,6 +23,11 @@ pub none_dropped : (test : ℕ → Bool) (xs : List ℕ) → list_any test xs �
 none_dropped test [] none = refl
 none_dropped test (x ∷ xs) none = grind (arith, or_parts, cond-true, none_dropped test xs)
 
+-- a text without tabs and line breaks stays as it is
+pub unbroken : (text : List ℕ) → list_any is_tab_or_new_line text ≡ false → strip_tabs_and_new_lines text ≡ text
+unfolding strip_tabs_and_new_lines
+unbroken text none = none_dropped is_tab_or_new_line text none
+
 -- without tabs and line breaks, only bytes at the ends are dropped
 pub unbroken_clean : (text : List ℕ) → list_any is_tab_or_new_line (trim_c0_control_and_space text) ≡ false → clean text ≡ trim_c0_control_and_space text
 unfolding strip_tabs_and_new_lines

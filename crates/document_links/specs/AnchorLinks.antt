@@ -6,6 +6,6 @@ use Rattle.document_links.specs.declared.anchors.Anchors.{Anchors}
 -- a link to the target with this index has the fragment, and the index among the links of the document if that is known
 pub record IsLinkTo (anchors : Anchors) (target : ℕ) (fragment : List ℕ) (index : Option ℕ) : Type 0 where
   pub number : ℕ
-  pub from : begin_of anchors.ends.items (length anchors.links.items) target ≤ number
-  pub before : number < end_of anchors.ends.items (length anchors.links.items) target
-  pub is : link_at anchors.links.items anchors.fragments.items number ≡ Some (record { fragment = fragment; index = index })
+  pub from : begin_of anchors.ends.items (length anchors.indices.items) target ≤ number
+  pub before : number < end_of anchors.ends.items (length anchors.indices.items) target
+  pub is : link_at anchors.fragments anchors.indices.items number ≡ Some (record { fragment = fragment; index = index })

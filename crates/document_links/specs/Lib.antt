@@ -3,6 +3,8 @@ pub mod Anchors
 pub mod Charsets
 pub mod Encoding
 pub mod Feeds
+pub mod Keeping
+pub mod KeptAnchors
 pub mod Markup
 pub mod Places
 pub mod Prescan

@@ -1,13 +1,15 @@
 //! Reads a document.
-ghost use Rattle.std.specs.Prelude.{◌≡◌, ◌++◌, [], true, IfOk, OnOk, IfSome, IsAscii, MatchOption, None};
+ghost use Rattle.std.specs.Prelude.{◌≡◌, ◌++◌, [], true, IfOk, OnOk, IfSome, IsAscii, IsSomeAnd, MatchOption, None};
 ghost use Rattle.std.specs.Str.Lossy.{utf8_lossy};
-ghost use Rattle.html_links.specs.Links.{base_of, links_of};
+ghost use Rattle.html_links.specs.Links.{base_of, ids_of, links_of};
 ghost use Rattle.html_links.specs.Reads.{base_at};
-ghost use Rattle.document_links.specs.Encoding.{HasLinks, HasLinkTexts, HasTexts, IsTextIn, is_known, text_in};
+ghost use Rattle.document_links.specs.Encoding.{HasLinkTexts, HasTexts, IsTextIn, is_known, text_in};
+ghost use Rattle.document_links.specs.KeptAnchors.{HasAnchors, IsRead, IsReadIn};
+ghost use Rattle.document_links.specs.Keeping.{AreKept};
 ghost use Rattle.document_links.specs.Places.{keeps_ascii};
-ghost use Rattle.document_links.specs.Written.{AreWritten};
+ghost use Rattle.document_links.specs.Written.{AreWritten, has_no_base};
 
-use crate::anchors::{AnchorTargets, anchors_of};
+use crate::anchor_targets::{AnchorTargets, anchors_of};
 use crate::charset::{Charset, charset_of, from_utf16, from_windows};
 use crate::document_start::{start_of, without_mark};
 use crate::link_texts::LinkTexts;
@@ -85,7 +87,10 @@ impl Document {
 
     /// Returns the document with the links of the writer, without anchors.
     pub(crate) fn written(writer: &mut LinkWriter) -> Document
-        ensures { result.links ≡ writer.old.links }
+        ensures links { result.links ≡ writer.old.links }
+        ensures base { writer.new.base ≡ writer.old.base }
+        ensures charset { writer.new.charset ≡ writer.old.charset }
+        ensures left { writer.new.links ≡ [] }
     {
         let links = writer.take_links();
         let (positions, invalid) = writer.take_positions();
@@ -114,7 +119,10 @@ pub fn read_document(
 ) -> Result<Document, AllocError>
     // For a document in a known encoding without a `base`: the texts of each link, in order. If there is a root, paths that begin with one
     // slash are below it.
-    ensures { IfOk result (λ document. HasLinkTexts options.entry body.now document.links) }
+    ensures links { IfOk result (λ document. HasLinkTexts options.entry body.now document.links) }
+
+    // The same text has the anchors.
+    ensures read { IfOk result (λ document. IsRead options.entry url.now body.now document.links document.anchors) }
 {
     let charset = charset_of(body, options.kind());
     let encoding = unknown_encoding(alloc, body, charset)?;
@@ -133,7 +141,7 @@ fn document_in(
     room: &mut RawLinks,
 ) -> Result<Document, AllocError>
     requires { IsAscii body.now → keeps_ascii charset ≡ true }
-    ensures { IfOk result (λ document. HasLinks options.entry charset body.now document.links) }
+    ensures { IfOk result (λ document. IsReadIn options.entry charset url.now body.now document.links document.anchors) }
 {
     match utf8_text(alloc, body, charset)? {
         Some(text) => text_document(alloc, text.as_slice(), charset, url, options, room),
@@ -165,47 +173,59 @@ fn text_document(
     options: ReadOptions<'_>,
     raw: &mut RawLinks,
 ) -> Result<Document, AllocError>
-    ensures { IfOk result (λ document. HasTexts options.entry charset text.now document.links) }
+    ensures links { IfOk result (λ document. HasTexts options.entry charset text.now document.links) }
+    ensures anchors { IfOk result (λ document. HasAnchors options.entry charset url.now text.now document.anchors) }
 {
     let mut ids = RawIds::new(alloc);
     raw.clear()?;
-    let base = read_known(alloc, text, charset, options, raw, &mut ids)?;
-    let base = add_root(options.root, url, base, raw)?;
+    let found = read_known(alloc, text, charset, options, raw, &mut ids)?;
+    let base = add_root(options.root, url, found, raw)?;
     // The base also applies to links before it, so all links are found first.
     let writer = written_links(alloc, charset, base, url, options, raw)?;
     // The clause is about the document, so it is taken out of the result for the prover.
-    let document = document_of(options, &ids, raw, writer, url)?;
+    let document = document_of(options, charset, &ids, raw, writer, url)?;
     Ok(document)
 }
 
 /// The document with the links of the writer, and with its anchors if the options ask for them.
 fn document_of(
     options: ReadOptions<'_>,
+    charset: Charset,
     ids: &RawIds,
     raw: &RawLinks,
     mut writer: LinkWriter,
     url: &CanonUrl,
 ) -> Result<Document, AllocError>
-    ensures { IfOk result (λ document. document.links ≡ writer.links) }
+    ensures links { IfOk result (λ document. document.links ≡ writer.links) }
+    ensures anchors { is_known charset ≡ true → options.entry.anchors ≡ true → IfOk result (λ document. IsSomeAnd document.anchors (AreKept writer.base writer.charset url.now ids.now.ids raw.now.texts)) }
 {
     let mut document = Document::written(&mut writer);
-    if options.anchors {
-        document.anchors = known_anchors(ids, raw, writer, url)?;
+    if !options.anchors {
+        return Ok(document);
     }
+    let anchors = known_anchors(charset, ids, raw, writer, url)?;
+    document.anchors = anchors;
     Ok(document)
 }
 
 /// The anchors of a document, if all its ids are known. Otherwise no link to an anchor is known to be broken.
 fn known_anchors(
+    charset: Charset,
     ids: &RawIds,
     raw: &RawLinks,
     writer: LinkWriter,
     url: &CanonUrl,
-) -> Result<Option<AnchorTargets>, AllocError> {
-    if ids.has_unknown {
-        return Ok(None);
+) -> Result<Option<AnchorTargets>, AllocError>
+    requires { writer.links ≡ [] }
+    ensures { is_known charset ≡ true → IfOk result (λ anchors. IsSomeAnd anchors (AreKept writer.base writer.charset url.now ids.now.ids raw.now.texts)) }
+{
+    match charset {
+        Charset::Other if has_unknown(&ids.ids) => Ok(None),
+        _ => {
+            let anchors = anchors_of(raw.allocator(), &ids.ids, raw, writer, url)?;
+            Ok(Some(anchors))
+        }
     }
-    Ok(Some(anchors_of(raw.allocator(), &ids.ids, raw, writer, url)?))
 }
 
 /// Writes the texts of these links of a page with this base.
@@ -217,7 +237,9 @@ pub(crate) fn written_links(
     options: ReadOptions<'_>,
     raw: &RawLinks,
 ) -> Result<LinkWriter, AllocError>
-    ensures { base_at base ≡ None → IfOk result (λ writer. AreWritten charset [] raw.now.texts writer.links options.entry.byte_limit) }
+    ensures texts { base_at base ≡ None → IfOk result (λ writer. AreWritten charset [] raw.now.texts writer.links options.entry.byte_limit) }
+    ensures unbased { base_at base ≡ None → IfOk result (λ writer. has_no_base writer.base ≡ true) }
+    ensures charset { IfOk result (λ writer. writer.charset ≡ charset) }
 {
     let mut writer = LinkWriter::new(alloc, charset, base, url)?;
     writer.make_room(url, raw, options.places)?;
@@ -235,14 +257,12 @@ fn read_known(
     ids: &mut RawIds,
 ) -> Result<Base, AllocError>
     ensures links { is_known charset ≡ true → OnOk result (raw.new.texts ≡ raw.old.texts ++ links_of options.entry.styles options.entry.syntax text.now) }
+    ensures ids { options.entry.anchors ≡ true → OnOk result (ids.new.ids ≡ ids.old.ids ++ ids_of options.entry.syntax text.now) }
     ensures base { is_known charset ≡ true → IfOk result (λ base. base_at base ≡ base_of options.entry.syntax text.now) }
 {
     let base = read_all(alloc, text, options, raw, ids)?;
     match charset {
-        Charset::Other => {
-            ids.has_unknown = has_unknown(&ids.ids);
-            keep_known(base, raw)
-        }
+        Charset::Other => keep_known(base, raw),
         _ => Ok(base),
     }
 }
@@ -256,6 +276,7 @@ fn read_all(
     ids: &mut RawIds,
 ) -> Result<Base, AllocError>
     ensures links { OnOk result (raw.new.texts ≡ raw.old.texts ++ links_of options.entry.styles options.entry.syntax text.now) }
+    ensures ids { options.entry.anchors ≡ true → OnOk result (ids.new.ids ≡ ids.old.ids ++ ids_of options.entry.syntax text.now) }
     ensures base { IfOk result (λ base. base_at base ≡ base_of options.entry.syntax text.now) }
 {
     if options.anchors {

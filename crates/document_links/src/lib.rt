@@ -1,6 +1,7 @@
 //! Reads one HTML document, style sheet, feed or list of URLs: its encoding, its links and their locations, and its anchors.
 #![tactic(auto)]
 
+mod anchor_targets;
 mod anchors;
 mod bytes;
 mod charset;
@@ -13,6 +14,7 @@ pub mod laws;
 mod line_text;
 mod link_texts;
 mod link_writer;
+mod marked_links;
 mod markup;
 mod name_list;
 mod page_base;
@@ -31,7 +33,8 @@ mod unescaped;
 mod unknown;
 mod url_list;
 
-pub use anchors::{AnchorLink, AnchorTargets, Anchors, PageAnchors, Target};
+pub use anchor_targets::AnchorTargets;
+pub use anchors::{AnchorLink, Anchors, PageAnchors, Target};
 pub use document::{Document, ReadOptions, read_document};
 pub use document_start::{START_LENGTH, is_document};
 pub use file_links::{read_feed, read_style_sheet, read_url_list};

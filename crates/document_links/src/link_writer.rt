@@ -81,7 +81,9 @@ impl LinkWriter {
     /// Appends these links, up to and with the one that makes the texts longer than `limit` bytes.
     #[tactic(auto, using(crate::proofs::Pushing::none_written, crate::proofs::Pushing::all_written, crate::proofs::Pushing::past_limit))]
     pub(crate) fn push_all(&mut self, raw: &RawLinks, limit: usize) -> Result<(), AllocError>
-        ensures { has_no_base self.old.base ≡ true → OnOk result (AreWritten self.old.charset self.old.links raw.now.texts self.new.links limit) }
+        ensures base { self.new.base ≡ self.old.base }
+        ensures charset { self.new.charset ≡ self.old.charset }
+        ensures written { has_no_base self.old.base ≡ true → OnOk result (AreWritten self.old.charset self.old.links raw.now.texts self.new.links limit) }
     {
         for index in 0..raw.len() {
             if self.links.byte_count() > limit {
@@ -96,7 +98,11 @@ impl LinkWriter {
     }
 
     /// Takes the indices of the links, and the invalid links. After that no more are stored.
-    pub(crate) fn take_positions(&mut self) -> (Vec<u32>, Vec<InvalidLink>) {
+    pub(crate) fn take_positions(&mut self) -> (Vec<u32>, Vec<InvalidLink>)
+        ensures base { self.new.base ≡ self.old.base }
+        ensures charset { self.new.charset ≡ self.old.charset }
+        ensures links { self.new.links ≡ self.old.links }
+    {
         match self.positions.take() {
             Some(positions) => positions.into_lists(),
             None => (Vec::new(self.alloc), Vec::new(self.alloc)),
@@ -105,13 +111,21 @@ impl LinkWriter {
 
     /// Takes the texts of the links.
     pub(crate) fn take_links(&mut self) -> LinkTexts
-        ensures { result ≡ self.old.links }
+        ensures base { self.new.base ≡ self.old.base }
+        ensures charset { self.new.charset ≡ self.old.charset }
+        ensures taken { result ≡ self.old.links }
+        ensures left { self.new.links ≡ [] }
     {
         mem::replace(&mut self.links, LinkTexts::new(self.alloc))
     }
 
     /// The text of a link as it is written: one text, or none if it is too long.
-    pub(crate) fn texts_of(&mut self, text: &[u8]) -> Result<LinkTexts, AllocError> {
+    pub(crate) fn texts_of(&mut self, text: &[u8]) -> Result<LinkTexts, AllocError>
+        ensures base { self.new.base ≡ self.old.base }
+        ensures charset { self.new.charset ≡ self.old.charset }
+        ensures left { OnOk result (self.new.links ≡ []) }
+        ensures written { has_no_base self.old.base ≡ true → has_room (clean text.now) ≡ true → keeps_query self.old.charset (clean text.now) ≡ true → IfOk result (λ texts. texts ≡ self.old.links ++ written text.now ∷ []) }
+    {
         self.push(text)?;
         Ok(self.take_links())
     }

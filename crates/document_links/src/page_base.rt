@@ -1,5 +1,8 @@
 //! The base of a page, and what its links mean.
 ghost use Rattle.std.specs.Prelude.{◌≡◌, true, IfOk};
+ghost use Rattle.std.specs.Result.{result_ok};
+ghost use Rattle.std.specs.Str.{is_utf8};
+ghost use Rattle.crawl_keys.specs.CanonicalText as spec;
 ghost use Rattle.document_links.specs.Written.{has_no_base};
 
 use crate::cleaning::{trimmed, without_breaks};
@@ -108,7 +111,9 @@ pub(crate) fn resolved(
     alloc: Global,
     base: &Base,
     text: &[u8],
-) -> Result<Option<CanonUrl>, AllocError> {
+) -> Result<Option<CanonUrl>, AllocError>
+    ensures { is_utf8 text.now ≡ true → IfOk result (λ url. url ≡ result_ok (spec.resolve base.now text.now)) }
+{
     match str::from_utf8(text) {
         Ok(text) => base.link(alloc, text),
         Err(_) => Ok(None),

@@ -86,7 +86,7 @@ fn places_of(
     let mut places = Vec::new(alloc);
     for index in indices {
         let point = point_in(text, table.as_slice(), raw.position(*index));
-        let written = written(alloc, link_text(raw, *index))?;
+        let written = written(alloc, raw.text_or_empty(*index))?;
         places.push(TextPlace {
             line: point.line,
             column: point.column,
@@ -103,18 +103,6 @@ fn last_position(raw: &RawLinks, indices: &[usize]) -> usize {
         last = last.max(raw.position(*index));
     }
     last
-}
-
-/// The text of the link with this index; empty if there is none.
-#[tactic(auto, using(std::proofs::lemmas::List::get_or_default))]
-fn link_text(raw: &RawLinks, index: usize) -> &[u8]
-    ensures { result.now ≡ slice_index_or raw.now.texts index [] }
-{
-    if index < raw.len() {
-        raw.text(index)
-    } else {
-        &[]
-    }
 }
 
 /// A link as it is shown: without white space around it, and without tabs and line breaks.

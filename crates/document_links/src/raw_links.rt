@@ -73,6 +73,18 @@ impl RawLinks {
         self.texts.id(index)
     }
 
+    /// The text of the link with this index; empty if there is none.
+    #[tactic(auto, using(std::proofs::lemmas::List::get_or_default))]
+    pub(crate) fn text_or_empty(&self, index: usize) -> &[u8]
+        ensures { result.now ≡ slice_index_or self.now.texts index [] }
+    {
+        if index < self.len() {
+            self.text(index)
+        } else {
+            &[]
+        }
+    }
+
     /// The position of the link with this index.
     pub(crate) fn position(&self, index: usize) -> usize
         ensures { result ≡ slice_index_or self.now.positions.items index 0 }
@@ -110,8 +122,6 @@ impl CountedLinks for RawLinks {
 #[derive(Drop)]
 pub(crate) struct RawIds {
     pub(crate) ids: Ids,
-    /// Whether one of the ids is not known.
-    pub(crate) has_unknown: bool,
 }
 
 impl RawIds {
@@ -121,7 +131,6 @@ impl RawIds {
     {
         RawIds {
             ids: Ids::new(alloc),
-            has_unknown: false,
         }
     }
 }

@@ -1,4 +1,7 @@
 //! The URLs to which a document's links lead.
+ghost use Rattle.std.specs.Prelude.{◌≡◌, [], None, IfOk, IfSome, OnOk, option_map, slice_index_or};
+ghost use Rattle.document_links.specs.Keeping.{AreTargets, GivesNumber, HasNumber, IsTarget};
+
 use crate::link_writer::LinkWriter;
 use crate::page_base::resolved;
 use crawl_keys::{Base, CanonUrl};
@@ -24,7 +27,13 @@ impl<'t> Targets<'t> {
         alloc: Global,
         writer: LinkWriter,
         url: &CanonUrl,
-    ) -> Result<Targets<'t>, AllocError> {
+    ) -> Result<Targets<'t>, AllocError>
+        requires { writer.links ≡ [] }
+        ensures targets { IfOk result (λ targets. AreTargets targets) }
+        ensures base { IfOk result (λ targets. targets.writer.base ≡ writer.base) }
+        ensures charset { IfOk result (λ targets. targets.writer.charset ≡ writer.charset) }
+        ensures page { IfOk result (λ targets. targets.base ≡ url.now) }
+    {
         Ok(Targets {
             alloc,
             writer,
@@ -35,45 +44,78 @@ impl<'t> Targets<'t> {
         })
     }
 
-    /// The number of links with this text, which ends at their first `#`. The first number is 0.
-    pub(crate) fn number_of(&mut self, text: &'t [u8]) -> Result<usize, AllocError> {
+    /// The number of links with this text, which ends at their first `#`. The first number is 0. A new text is resolved, and gets the
+    /// next number.
+    pub(crate) fn number_of(&mut self, text: &'t [u8]) -> Result<usize, AllocError>
+        requires { AreTargets self.old }
+        ensures { IfOk result (λ number. GivesNumber self.old self.new text.now number) }
+    {
+        match self.find(text) {
+            Some(number) => {
+                self.last = Some((text, number));
+                Ok(number)
+            }
+            None => self.insert(text),
+        }
+    }
+
+    /// The number of links with this text, if it has one.
+    fn find(&self, text: &[u8]) -> Option<usize>
+        requires { AreTargets self.now }
+        ensures { IfSome result (λ number. HasNumber self.now text.now number) }
+    {
         if let Some((last, number)) = self.last
             && last == text
         {
-            return Ok(number);
+            return Some(number);
         }
-        let number = self.find_or_insert(text)?;
+        self.numbers.get(text).copied()
+    }
+
+    /// Gives the next number to this text.
+    fn insert(&mut self, text: &'t [u8]) -> Result<usize, AllocError>
+        requires { AreTargets self.old }
+        ensures { IfOk result (λ number. GivesNumber self.old self.new text.now number) }
+    {
+        let number = self.urls.len();
+        let url = url_of(self.alloc, &mut self.writer, &self.base, text)?;
+        self.urls.push(url)?;
+        self.numbers.insert(text, number)?;
         self.last = Some((text, number));
         Ok(number)
     }
 
-    /// Returns the number of links with this text. A new text is resolved, and gets the next number.
-    fn find_or_insert(&mut self, text: &'t [u8]) -> Result<usize, AllocError> {
-        if let Some(number) = self.numbers.get(text) {
-            return Ok(*number);
+    /// The URL for a number.
+    pub(crate) fn url(&self, number: usize) -> Option<&CanonUrl>
+        ensures { option_map (λ url. url.now) result ≡ slice_index_or self.now.urls.items number None }
+    {
+        match self.urls.get(number) {
+            Some(Some(url)) => Some(url),
+            _ => None,
         }
-        let number = self.urls.len();
-        self.numbers.insert(text, number)?;
-        let url = self.url_of(text)?;
-        self.urls.push(url)?;
-        Ok(number)
     }
+}
 
-    /// The URL to which a link leads, by its text as it is written.
-    fn url_of(&mut self, link: &[u8]) -> Result<Option<CanonUrl>, AllocError> {
-        if self.writer.keeps(link) {
-            return resolved(self.alloc, &self.base, link);
-        }
-        let texts = self.writer.texts_of(link)?;
-        if texts.len() != 1 {
-            return Ok(None);
-        }
-        resolved(self.alloc, &self.base, texts.text(0).as_bytes())
+/// The URL to which a link leads, by its text as it is written.
+#[tactic(auto, using(crate::proofs::Fitting::fits_utf8, crate::proofs::Fitting::plain_clean, crate::proofs::Parsing::resolve_written, crate::proofs::Fitting::has_room_whole))]
+fn url_of(
+    alloc: Global,
+    writer: &mut LinkWriter,
+    base: &Base,
+    link: &[u8],
+) -> Result<Option<CanonUrl>, AllocError>
+    requires { writer.old.links ≡ [] }
+    ensures base { writer.new.base ≡ writer.old.base }
+    ensures charset { writer.new.charset ≡ writer.old.charset }
+    ensures links { OnOk result (writer.new.links ≡ []) }
+    ensures url { IfOk result (λ url. IsTarget writer.old.base writer.old.charset base.now link.now url) }
+{
+    if writer.keeps(link) {
+        return resolved(alloc, base, link);
     }
-
-    /// The URL for each number.
-    pub(crate) fn into_urls(self) -> Vec<Option<CanonUrl>> {
-        let Targets { urls, .. } = self;
-        urls
+    let texts = writer.texts_of(link)?;
+    if texts.len() != 1 {
+        return Ok(None);
     }
+    resolved(alloc, base, texts.text(0).as_bytes())
 }

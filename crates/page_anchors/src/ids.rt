@@ -97,6 +97,14 @@ impl Ids {
         }
     }
 
+    /// Frees unused memory.
+    pub fn shrink_to_fit(&mut self)
+        ensures { self.new ≡ self.old }
+    {
+        self.bytes.shrink_to_fit();
+        self.ends.shrink_to_fit();
+    }
+
     /// Returns the same ids in ascending byte order, in exactly the memory that they need.
     ///
     /// # Errors

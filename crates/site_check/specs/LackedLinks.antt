@@ -54,7 +54,7 @@ lack_if l (Some link) = if is_indicated l.to.document.anchors.ids link.fragment 
 
 -- the kept link with this number
 abbrev pub link_in : TargetLinks → ℕ → Option Link
-link_in l number = link_at l.anchors.links.items l.anchors.fragments.items number
+link_in l number = link_at l.anchors.fragments l.anchors.indices.items number
 
 -- those of the given number of links, the first of which has this number
 abbrev pub lacks_from : TargetLinks → ℕ → ℕ → List Lack
@@ -62,10 +62,10 @@ lacks_from l number zero = []
 lacks_from l number (suc more) = lack_if l (link_in l number) ++ lacks_from l (number + 1) more
 
 abbrev pub first_link : TargetLinks → ℕ
-first_link l = begin_of l.anchors.ends.items (length l.anchors.links.items) l.target
+first_link l = begin_of l.anchors.ends.items (length l.anchors.indices.items) l.target
 
 abbrev pub last_link : TargetLinks → ℕ
-last_link l = end_of l.anchors.ends.items (length l.anchors.links.items) l.target
+last_link l = end_of l.anchors.ends.items (length l.anchors.indices.items) l.target
 
 abbrev pub lacks_of : TargetLinks → List Lack
 lacks_of l = lacks_from l (first_link l) (last_link l - first_link l)

@@ -1,6 +1,6 @@
 use Rattle.document_links.proofs.Prelude.{◌≡◌, ◌∙◌, ◌++◌, List, [], length, ap, sym}
 use Rattle.std.proofs.Common.{append-nil}
-use Rattle.document_links.specs.Feeds.{OfElement, all_from, markup_links, markup_positions}
+use Rattle.document_links.specs.Feeds.{markup_links, markup_positions}
 use Rattle.document_links.proofs.Feeding.{next_element, no_markup}
 use Rattle.document_links.proofs.Runs.{appended}
 use Rattle.document_links.proofs.feed.push_feed_links.Goals as goal
