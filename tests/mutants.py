@@ -120,12 +120,17 @@ def functions_of(changes: Sequence[Change], texts: Texts) -> Dict[str, str]:
 
 
 def path_of(function: re.Match[str], text: str, module: str) -> str:
-    """Return the path of a function of this module, as a check names it. For a method of a trait it is that of the module."""
+    """Return the path of a function of this module, as a check names it or at least the end of that. For a method of a trait it is
+    that of the module. A check names the methods of a type by the module that declares the type.
+    """
     if not function[1]:
         return f"{module}::{function[2]}"
     *_, opened = re.findall(r"^\S.*\{$|^\{$", text[: function.start()], re.MULTILINE)
     methods = METHODS.fullmatch(opened)
-    return f"{module}::{methods[1]}::{function[2]}" if methods else module
+    if not methods:
+        return module
+    is_here = re.search(rf"^(?:pub(?:\([^)]*\))? )?(?:struct|enum) {methods[1]}\b", text, re.MULTILINE)
+    return f"{module}::{methods[1]}::{function[2]}" if is_here else f"{methods[1]}::{function[2]}"
 
 
 def batches(edits: Sequence[Edit], texts: Texts) -> Iterator[List[Edit]]:
