@@ -95,9 +95,9 @@ FOLDERS = {
 # Missing pages, and the page that is suggested for each
 SUGGESTED: Dict[str, Optional[str]] = {
     "old/a.html": "n/a.html", "b.html": None, "c.html?x": "n/c.html", "gone.html": None, "n/": None, "x/sub": None, "N/A.html": "n/a.html", "c.HTML?x": "n/c.html",
-    "img/LOGO.png": "img/logo.png", "M/B.html": None, "x/readme.html": "o/readme.html", "x/README.html": "README.html", "Readme.html": None, "x/Sub": None, "x/index.html": None,
+    "img/LOGO.png": "img/logo.png", "M/B.html": "m/b.html", "x/B.html": None, "N/b.html?x": "n/b.html", "x/readme.html": "o/readme.html", "x/README.html": "README.html", "Readme.html": "README.html", "x/Sub": None, "x/index.html": None,
     "x/Index.html": None, "x/INDEX.htm": "o/index.htm", "%C3%BC.html": None, "x/%c3%9c.HTML": "%C3%9C.html", "x/e.HTML/": "e.html", "Q/": "q/", "x/q/": "q/", "x/q/?y": "q/", "Q": "q/", "x/Q.HTML": None,
-    "T/": None, "T/U/": "t/u/", "x/U": "t/u/", "w/t": None, "p/t/": None, "X/T": None, "v/": "o/v",
+    "T/": "t/", "T": None, "T/U/": "t/u/", "x/U": "t/u/", "w/t": None, "p/t/": None, "P/T": "p/t", "X/T": None, "v/": "o/v",
 }
 NAMESAKES: Dict[str, Union[str, bytes, To, Zeros]] = {
     "index.html": "\n".join(f"<a href={link}>" for link in SUGGESTED),

@@ -258,6 +258,11 @@ def name_of(url: str) -> str:
     return re.split("[?]", url)[0].removesuffix("/").rpartition("/")[2]
 
 
+def path_of(url: str) -> str:
+    """A URL without its query."""
+    return url.partition("?")[0]
+
+
 def in_lower_case(text: str) -> bytes:
     """A text with its ASCII letters in lower case. No other letter is changed."""
     return text.encode("utf-8", "surrogateescape").lower()
@@ -946,10 +951,15 @@ class Model:
         return None if file is None else Namesake(self.settings.front + other, file)
 
     def namesake(self, url: str) -> Optional[Namesake]:
-        """The only page with the name of a URL or, if no page has that, the only one with it in another case."""
+        """The only page with the name of a URL or, if no page has that, the only one with it in another case.
+
+        If there are several, it is the only one whose path differs from that of the URL in nothing but case.
+        """
         name = name_of(self.shown(url))
         pages = self.namesakes.get(in_lower_case(name), []) if name else []
         found = [page for page in pages if name_of(page.url) == name] or pages
+        if len(found) > 1:
+            found = [page for page in pages if in_lower_case(path_of(page.url)) == in_lower_case(path_of(url))]
         return found[0] if len(found) == 1 else None
 
     def unreached(self) -> Iterator[str]:
