@@ -1008,6 +1008,12 @@ KNOWN = [
         settings=(("sitemap", True),),
     ),
     Known(
+        "documents that no sitemap lists, and entries that match some",
+        {"index.html": "<a href=a.html>", "a.html": "", "b.html": "", "c/index.html": "", "d.html": "<a href=e.html>", "sitemap.txt": "http://docs.test/\n"},
+        [], (*unlisted("b.html"), {"kind": "total", "unlisted": 1, "missing_pages": 0}, *({"kind": "unused", "name": name} for name in ("b.html: *", "index", "x"))),
+        settings=(("sitemap", True), ("ignores", ("a.html", "c*", "d", "b.html: *", "index", "x", "e.html"))),
+    ),
+    Known(
         "documents that a list of URLs names", {"index.html": "", "a.html": "", "sitemap.txt": "http://docs.test/\n", "feed.rss": "<rss><link>a.html</link></rss>"},
         [], (*unlisted("a.html"), {"kind": "total", "unlisted": 1, "broken": 0}), settings=(("sitemap", True),),
     ),

@@ -753,7 +753,7 @@ class Model:
         ]
         files = sorted(Counter(row["file"] for row in places).items(), key=lambda row: (-row[1], row[0].encode()))
         unreached = list(self.unreached()) if self.settings.unreached else []
-        unlisted = list(self.unlisted()) if self.settings.sitemap else []
+        unlisted = [name for name in self.unlisted() if not matches_any(self.settings.ignores, name)] if self.settings.sitemap else []
         external = self.external() if self.settings.external else []
         counts = {"unreached": len(unreached)} if self.settings.unreached else {}
         counts.update({"unlisted": len(unlisted)} if self.settings.sitemap else {})
@@ -1000,8 +1000,9 @@ class Model:
         return [{"kind": "external", "url": url, "links": count} for url, count in sorted(urls.items(), key=lambda row: row[0].encode())]
 
     def unused(self) -> Iterator[Row]:
-        """The rows of ignore entries that match nothing. Those for some files match nothing that one for all files matches."""
+        """The rows of ignore entries that match nothing. Those for some files match nothing that one for all files matches, and no document that no sitemap lists."""
         broken = list(self.targets())
+        broken += [(name, {}) for name in self.unlisted()] if self.settings.sitemap else []
         left = [one for one in broken if not matches_any(self.settings.ignores, one[0])]
         for entry in self.settings.ignores:
             if not any(is_used(entry, target, places) for target, places in (broken if is_everywhere(entry) else left)):
