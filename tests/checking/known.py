@@ -761,10 +761,23 @@ KNOWN = [
         ],
         (
             {"kind": "total", "links": 9, "broken": 2, "leaving": 5, "external": 2},
-            {"kind": "leaving", "target": "http://docs.test/x", "reason": "outside_base", "pages": 1},
+            {"kind": "leaving", "target": "http://docs.test/x", "reason": "outside_base", "pages": 1, "same_name": None},
             {"kind": "external", "url": "http://docs.test:8080/x", "links": 1}, {"kind": "external", "url": "https://docs.test/x", "links": 1},
         ),
         settings=(("base", "http://docs.test/project/"), ("external", True)),
+    ),
+    Known(
+        "links outside BASE to paths that the folder has",
+        {"index.html": "<a href=/><a href=/a.html><a href=/d/?x><a href=/d><a href=/A.html>", "a.html": "<a href=/a.html>", "d/index.html": ""},
+        [
+            "http://docs.test/ index.html:1:9", "http://docs.test/A.html index.html:1:62", "http://docs.test/a.html a.html:1:9", "http://docs.test/a.html index.html:1:19",
+            "http://docs.test/d index.html:1:51", "http://docs.test/d/?x index.html:1:36",
+        ],
+        tuple(
+            {"kind": "leaving", "target": f"http://docs.test/{path}", "same_name": None if page is None else f"http://docs.test/project/{page}"}
+            for path, page in {"": "", "a.html": "a.html", "d/?x": "d/", "d": None, "A.html": None}.items()
+        ),
+        settings=(("base", "http://docs.test/project/"),),
     ),
     Known(
         "links that leave and are ignored",

@@ -847,8 +847,14 @@ class Model:
                 folder = self.mapped.folder_of(url)
                 usual = "above_folder" if self.settings.is_rooted() else "outside_base"
                 shown = {"target": target, "reason": "not_in_map" if folder else usual}
-                yield {"kind": "leaving", **shown, "pages": len(linking[url]), **({"hint": folder} if folder else {})}
+                page = {"same_name": self.page_below(url)} if shown["reason"] == "outside_base" else {}
+                yield {"kind": "leaving", **shown, "pages": len(linking[url]), **page, **({"hint": folder} if folder else {})}
                 yield from self.place_rows({"kind": "leaving_place", **shown}, left)
+
+    def page_below(self, url: str) -> Optional[str]:
+        """The page that has the same path below the top as this URL has below the host."""
+        page = str(self.site.base) + path_of(url)[len(origin_of(self.site.base)):]
+        return page if self.files.get(page) else None
 
     def shown_outside(self, url: str) -> str:
         """A URL that is not below the top as the report prints it: without BASE, as a path from the top."""

@@ -1,5 +1,5 @@
 -- The page of a site that has the name of one that is not there.
-use Rattle.std.specs.Prelude.{◌≡◌, ◌==◌, ◌-◌, ◌++◌, ℕ, Bool, ◌&&◌, if◌then◌else◌, List, [], ◌∷◌, codes, drop, take, length, map, filter, Option, Some, None, is_some, slice_get, unwrap_or, string_bytes, option_map, bytes_eq, Vec}
+use Rattle.std.specs.Prelude.{◌≡◌, ◌==◌, ◌-◌, ◌++◌, ℕ, Bool, true, false, ◌&&◌, if◌then◌else◌, List, [], ◌∷◌, codes, drop, take, length, map, filter, Option, Some, None, is_some, slice_get, unwrap_or, string_bytes, option_map, bytes_eq, Vec}
 use Rattle.std.specs.Borrow.{Bor}
 use Rattle.std.specs.BTreeMap.{BTreeMap, get_by}
 use Rattle.std.specs.Cmp.Lexicographic.{slice_cmp}
@@ -18,6 +18,7 @@ use Rattle.site_files.specs.Pages.{found_file}
 use Rattle.site_files.specs.Server.{before_query}
 use Rattle.site_files.specs.declared.files.SiteFiles.{SiteFiles}
 use Rattle.site_check.specs.Broken.{shown}
+use Rattle.site_check.specs.Totals.{is_leaving}
 use Rattle.site_check.specs.declared.names.Key.{Key}
 use Rattle.site_check.specs.declared.names.Key.TheVariants.{Name, Path}
 use Rattle.site_check.specs.declared.names.LowerNames.{LowerNames}
@@ -132,16 +133,17 @@ other_form front files places path =
 abbrev pub same_name : List ℕ → SiteFiles → List ℕ → List Place → Option (List ℕ)
 same_name front files target places = option_or (named_page front files places target) (other_form front files places (before_query target))
 
--- this is reported only of pages
-abbrev pub name_for : Kind → Option (List ℕ) → Option (List ℕ)
-name_for NoPage name = name
-name_for _ name = None
-
-abbrev pub own_name : List ℕ → SiteFiles → Broken → Option (List ℕ)
-own_name front files b = name_for b.kind (same_name front files (string_bytes b.target) b.places.items)
-
 abbrev pub reported_name : Broken → Option (List ℕ)
 reported_name b = option_map string_bytes b.same_name
+
+-- this is reported only of pages. What is reported of a link that leads out of the site is said elsewhere
+abbrev pub name_for : Bool → Kind → Option (List ℕ) → Option (List ℕ) → Option (List ℕ)
+name_for true kind name reported = reported
+name_for false NoPage name reported = name
+name_for false _ name reported = None
+
+abbrev pub own_name : List ℕ → SiteFiles → Broken → Option (List ℕ)
+own_name front files b = name_for (is_leaving b.kind) b.kind (same_name front files (string_bytes b.target) b.places.items) (reported_name b)
 
 -- each row has that name
 abbrev pub AreNamed : List ℕ → SiteFiles → List Broken → Type 0
