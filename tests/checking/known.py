@@ -770,8 +770,8 @@ KNOWN = [
         "links outside BASE to paths that the folder has",
         {"index.html": "<a href=/><a href=/a.html><a href=/d/?x><a href=/d><a href=/A.html>", "a.html": "<a href=/a.html>", "d/index.html": ""},
         [
-            "http://docs.test/ index.html:1:9", "http://docs.test/A.html index.html:1:62", "http://docs.test/a.html a.html:1:9", "http://docs.test/a.html index.html:1:19",
-            "http://docs.test/d index.html:1:51", "http://docs.test/d/?x index.html:1:36",
+            "http://docs.test/ index.html:1:9", "http://docs.test/A.html index.html:1:60", "http://docs.test/a.html a.html:1:9", "http://docs.test/a.html index.html:1:19",
+            "http://docs.test/d index.html:1:49", "http://docs.test/d/?x index.html:1:35",
         ],
         tuple(
             {"kind": "leaving", "target": f"http://docs.test/{path}", "same_name": None if page is None else f"http://docs.test/project/{page}"}
