@@ -175,7 +175,7 @@ module _ (files : SiteFiles) (results : List PageResult) (reads : ℕ → Option
       has_on (map placed_at own.items) total one more ((All-contains (HasTaken files results reads count rest (map placed_at own.items)) leads one all contained).has taken)
   chunk_has count rest leads total one (Err e) ok all contained taken more = absurd (not_true ok)
 
-in_flat : {X Y E : Type 0} (f : X → Y) (chunks : List (Result (Vec X Global) E)) (k : ℕ) (d : Result (Vec X Global) E) (y : Y) → k < length chunks → Contains (map f (items_of (get_or chunks k d))) y → Contains (map f (flat_map items_of chunks)) y
+pub in_flat : {X Y E : Type 0} (f : X → Y) (chunks : List (Result (Vec X Global) E)) (k : ℕ) (d : Result (Vec X Global) E) (y : Y) → k < length chunks → Contains (map f (items_of (get_or chunks k d))) y → Contains (map f (flat_map items_of chunks)) y
 in_flat f [] k d y below has = absurd (omega (arith, below))
 in_flat f (chunk ∷ more) zero d y below has =
     subst (λ l. Contains l y) (sym (map-append f (items_of chunk) (flat_map items_of more))) (Contains-append_left (map f (items_of chunk)) (map f (flat_map items_of more)) y has)
@@ -187,7 +187,7 @@ both : (a b : Bool) → a ≡ true → b ≡ true → (a && b) ≡ true
 both a b is_a is_b = (λ i. is_a i && is_b i)
 
 -- some thread takes each result
-taken_by : (count source : ℕ) → 0 < count → is_taken count (source % count) source ≡ true
+pub taken_by : (count source : ℕ) → 0 < count → is_taken count (source % count) source ≡ true
 taken_by count source some = both (nat_lt 0 count) (source % count == source % count) (lt-ltb 0 count some) (eq-eqb (source % count) (source % count) refl)
 
 pub all_placed : (files : SiteFiles) (results : List PageResult) (reads : ℕ → Option (List ℕ) → Type 0) (leads : List ListedLead) (count : ℕ) (chunks : List (Result (Vec TargetPlace Global) CheckError)) (places sorted : List TargetPlace) → 0 < count →

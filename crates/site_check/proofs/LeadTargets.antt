@@ -50,7 +50,7 @@ contains_had (y ∷ xs) x has =
       | inr more ↦ let at = contains_had xs x more in let below : at.0 < length xs = at.1 in (suc at.0, omega (arith, below), at.2)
     ]
 
-has_append : {X : Type 0} (xs ys : List X) (x : X) → Has (xs ++ ys) x → Has xs x ⊎ Has ys x
+pub has_append : {X : Type 0} (xs ys : List X) (x : X) → Has (xs ++ ys) x → Has xs x ⊎ Has ys x
 has_append [] ys x has = inr has
 has_append (y ∷ xs) ys x has =
     elim has [

@@ -1,13 +1,17 @@
 pub mod Prelude
+pub mod AllLacked
 pub mod AllPlaced
 pub mod AllReported
 pub mod AllRows
+pub mod AnchorGroups
 pub mod Counting
+pub mod DocumentsFound
 pub mod FileEntries
 pub mod FileNames
 pub mod Forms
 pub mod Fronts
 pub mod KeptLinks
+pub mod LackedFound
 pub mod LeadsFound
 pub mod LeadTargets
 pub mod LeavingRows

@@ -63,14 +63,14 @@ contains_slice_get (y ∷ xs) (suc k) x below is = contains_slice_get xs k x (om
 -- ---- the links of a page
 
 -- the elements at the front that pass a test pass it
-passing : {X : Type 0} (p : X → Bool) (xs : List X) → All (λ x. p x ≡ true) (take_while p xs)
+pub passing : {X : Type 0} (p : X → Bool) (xs : List X) → All (λ x. p x ≡ true) (take_while p xs)
 passing p xs = λ k d below.
     let n = prefix_len p xs in
     let within : k < n = omega (arith, below, length-prefix_len p xs) in
     ap p (get_or-take n xs k d within) ∙ prefix_len_passes p xs k d within
 
 -- what is cut off there
-cut_off : {X : Type 0} (p : X → Bool) (xs : List X) → take (length (take_while p xs)) xs ≡ take_while p xs
+pub cut_off : {X : Type 0} (p : X → Bool) (xs : List X) → take (length (take_while p xs)) xs ≡ take_while p xs
 cut_off p xs = ap (λ n. take n xs) (length-prefix_len p xs)
 
 pub whole_page : (leads : List ListedLead) (first : ListedLead) (following : List ListedLead) (page : PageLeads) (n : ℕ) → leads ≡ first ∷ following → page.source ≡ first.lead.source →

@@ -7,6 +7,7 @@ use Rattle.check_report.specs.declared.value.Broken.{Broken}
 use Rattle.check_report.specs.declared.value.Place.{Place}
 use Rattle.document_links.specs.declared.positions.LinkPlaces.{LinkPlaces}
 use Rattle.site_check.proofs.AllRows.{flat_mapped, mapped}
+use Rattle.site_check.specs.Broken.{Row}
 use Rattle.site_check.specs.Hints.{hints_with}
 use Rattle.site_check.specs.Ignored.{AreUnused, if_anchor}
 use Rattle.site_check.specs.Invalid.{if_invalid}
@@ -80,10 +81,10 @@ unused_seen : (front : List ℕ) (entries : List (List ℕ)) (results : List Pag
 unused_seen front entries results links others rows whole all same own =
     record {
       anchors = own.anchors;
-      row_anchors = flat_seen (λ (row : TargetRow). if_anchor row.kind row.target) rows whole same ∙ own.row_anchors;
+      row_anchors = flat_seen (λ (row : TargetRow). if_anchor row.kind (record { text = row.target; pages = row.pages })) rows whole same ∙ own.row_anchors;
       exact =
           own.exact
-          ∙ sym (λ i. filter (λ entry. not (cond (names_file entry) (any_seen (matches_seen (file_in entry) (target_in entry)) rows whole same i) (list_any (matches entry) (((own.anchors ++ links) ++ others) ++ missing_texts front results)))) entries);
+          ∙ sym (λ i. filter (λ entry. not (cond (names_file entry) (any_seen (matches_seen (file_in entry) (target_in entry)) rows whole same i) (list_any (matches entry) (((map (λ (row : Row). row.text) own.anchors ++ links) ++ others) ++ missing_texts front results)))) entries);
     }
 
 -- the row of a link that leads out of the site

@@ -1,5 +1,5 @@
 -- The texts of a sorted list, each once.
-use Rattle.site_check.proofs.Prelude.{common_steps, ◌≡◌, ◌∙◌, ℕ, suc, ◌+◌, ◌<◌, ◌≤◌, Bool, true, false, not, ◌||◌, cond, List, [], ◌∷◌, ◌++◌, length, map, filter, drop, get_or, Option, Some, None, refl, sym, subst, ap, arith, cases_Bool, cond-true, cond-false, bytes_eq, bytes_eq-Decides, list_any, AreTexts, PageLink, PageResult, anchors_in, ascends, file_in, matches, matches_row, missing_texts, names_file, not_ignored, target_in, unused, ascends_after, link_text, next_text, once, once_after, once_next, rises, rises_after}
+use Rattle.site_check.proofs.Prelude.{common_steps, ◌≡◌, ◌∙◌, ℕ, suc, ◌+◌, ◌<◌, ◌≤◌, Bool, true, false, not, ◌||◌, cond, List, [], ◌∷◌, ◌++◌, length, map, filter, drop, get_or, Option, Some, None, refl, sym, subst, ap, arith, cases_Bool, cond-true, cond-false, bytes_eq, bytes_eq-Decides, list_any, AreTexts, PageLink, PageResult, anchors_in, ascends, file_in, matches, matches_row, missing_texts, names_file, target_in, unused, ascends_after, link_text, next_text, once, once_after, once_next, rises, rises_after}
 use Rattle.std.proofs.Common.{Less, Equal, Greater, Ordering, add-one, drop-cons, true≢false}
 use Rattle.std.specs.Cmp.Lexicographic.{slice_cmp}
 use Rattle.std.specs.List.Sorted.{IsSortedBy}
@@ -7,7 +7,8 @@ use Rattle.std.specs.Ordering.{is_eq, is_lt, nat_cmp, ordering_reverse}
 use Rattle.std.proofs.lemmas.List.{drop_all}
 use Rattle.std.proofs.lemmas.List.Folds.{list_any-append}
 use Rattle.check_report.specs.declared.value.Broken.{Broken}
-use Rattle.site_check.specs.Ignored.{AreUnused}
+use Rattle.site_check.specs.Broken.{Row}
+use Rattle.site_check.specs.Ignored.{AreUnused, anchors_left}
 use native.Mathlib.Numerals.{unary_clauses}
 use Rattle.std.proofs.lemmas.Cmp.{nat_list_cmp_total}
 use Rattle.std.proofs.lemmas.Map.Text.{is_eq-slice_cmp}
@@ -56,16 +57,16 @@ same_both : (test : List ℕ → Bool) (front texts other back more : List (List
 same_both test front texts other back more same = grind (arith, common_steps, list_any-append)
 
 -- the texts, each once, are as good as all
-pub are_unused : (front : List ℕ) (entries : List (List ℕ)) (results : List PageResult) (anchors texts all others shown pages unused_ones : List (List ℕ)) (rows : List Broken) →
-    anchors_in rows ≡ not_ignored entries anchors → unused_ones ≡ unused entries (((anchors ++ texts) ++ shown) ++ pages) rows → missing_texts front results ≡ pages → AreTexts all texts → others ≡ shown →
+pub are_unused : (front : List ℕ) (entries : List (List ℕ)) (results : List PageResult) (anchors : List Row) (texts all others shown pages unused_ones : List (List ℕ)) (rows : List Broken) →
+    anchors_in rows ≡ anchors_left entries anchors → unused_ones ≡ unused entries (((map (λ row. row.text) anchors ++ texts) ++ shown) ++ pages) rows → missing_texts front results ≡ pages → AreTexts all texts → others ≡ shown →
     AreUnused front entries results all others rows unused_ones
 are_unused front entries results anchors texts all others shown pages unused_ones rows are exact missing each same =
     record {
       anchors = anchors;
       row_anchors = are;
       exact = exact
-          ∙ (λ i. filter (λ entry. not (cond (names_file entry) (list_any (matches_row (file_in entry) (target_in entry)) rows) (same_both (matches entry) anchors texts all shown pages (each.same (matches entry)) i))) entries)
-          ∙ (λ i. unused entries (((anchors ++ all) ++ sym same i) ++ sym missing i) rows);
+          ∙ (λ i. filter (λ entry. not (cond (names_file entry) (list_any (matches_row (file_in entry) (target_in entry)) rows) (same_both (matches entry) (map (λ (row : Row). row.text) anchors) texts all shown pages (each.same (matches entry)) i))) entries)
+          ∙ (λ i. unused entries (((map (λ (row : Row). row.text) anchors ++ all) ++ sym same i) ++ sym missing i) rows);
     }
 
 -- ---- in ascending order

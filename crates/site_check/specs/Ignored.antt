@@ -1,5 +1,5 @@
 -- The entries of what is known to be broken, and which of them match nothing.
-use Rattle.std.specs.Prelude.{◌≡◌, ◌==◌, ℕ, Bool, true, not, ◌&&◌, List, [], ◌∷◌, ◌++◌, drop, filter, if◌then◌else◌, string_bytes}
+use Rattle.std.specs.Prelude.{◌≡◌, ◌==◌, ℕ, Bool, true, not, ◌&&◌, List, [], ◌∷◌, ◌++◌, drop, filter, map, if◌then◌else◌, string_bytes}
 use Rattle.std.specs.List.{list_any, flat_map}
 use Rattle.std.specs.Str.{trim}
 use Rattle.std.specs.Str.Lines.{lines}
@@ -9,7 +9,7 @@ use Rattle.check_report.specs.declared.value.Kind.{Kind}
 use Rattle.check_report.specs.declared.value.Kind.TheVariants.{NoAnchor}
 use Rattle.crawl_pages.specs.Pages.{is_missing}
 use Rattle.crawl_pages.specs.declared.page.PageResult.{PageResult}
-use Rattle.site_check.specs.Broken.{begins, file_in, fits, is_ignored, matches, names_file, shown, target_in}
+use Rattle.site_check.specs.Broken.{Row, begins, file_in, fits, is_ignored, matches, names_file, shown, target_in}
 
 -- a text that is empty or begins with `#` is no entry
 abbrev pub has_no_entry : List ℕ → Bool
@@ -52,16 +52,20 @@ text_at front r = if is_missing r.page then shown front r.url ∷ [] else []
 abbrev pub missing_texts : List ℕ → List PageResult → List (List ℕ)
 missing_texts front results = flat_map (text_at front) results
 
--- the texts of the anchors in rows
-abbrev pub if_anchor : Kind → List ℕ → List (List ℕ)
-if_anchor NoAnchor text = text ∷ []
-if_anchor _ text = []
+-- the rows of anchors
+abbrev pub if_anchor : Kind → Row → List Row
+if_anchor NoAnchor row = row ∷ []
+if_anchor _ row = []
 
-abbrev pub anchor_in : Broken → List (List ℕ)
-anchor_in b = if_anchor b.kind (string_bytes b.target)
+abbrev pub anchor_in : Broken → List Row
+anchor_in b = if_anchor b.kind (record { text = string_bytes b.target; pages = b.pages })
 
-abbrev pub anchors_in : List Broken → List (List ℕ)
+abbrev pub anchors_in : List Broken → List Row
 anchors_in all = flat_map anchor_in all
+
+-- those that no entry matches
+abbrev pub anchors_left : List (List ℕ) → List Row → List Row
+anchors_left entries rows = filter (λ row. not (is_ignored entries row.text)) rows
 
 -- the texts that no entry matches
 abbrev pub not_ignored : List (List ℕ) → List (List ℕ) → List (List ℕ)
@@ -70,6 +74,6 @@ not_ignored entries texts = filter (λ text. not (is_ignored entries text)) text
 -- of all anchors that documents lack those have rows that no entry matches; these of the entries match none of them, no invalid link with
 -- one of the texts `links`, none of the other texts, no page that is not there, and no location of the rows
 pub record AreUnused (front : List ℕ) (entries : List (List ℕ)) (results : List PageResult) (links others : List (List ℕ)) (rows : List Broken) (all : List (List ℕ)) : Type 0 where
-  pub anchors : List (List ℕ)
-  pub row_anchors : anchors_in rows ≡ not_ignored entries anchors
-  pub exact : all ≡ unused entries (((anchors ++ links) ++ others) ++ missing_texts front results) rows
+  pub anchors : List Row
+  pub row_anchors : anchors_in rows ≡ anchors_left entries anchors
+  pub exact : all ≡ unused entries (((map (λ row. row.text) anchors ++ links) ++ others) ++ missing_texts front results) rows

@@ -1,11 +1,15 @@
 pub mod Aliases
+pub mod AnchorGroups
 pub mod Anchors
 pub mod Base
 pub mod Broken
 pub mod Complete
+pub mod Documents
 pub mod Hints
 pub mod Ignored
 pub mod Invalid
+pub mod LackedLinks
+pub mod Lacks
 pub mod Leads
 pub mod Leaving
 pub mod LinkBase

@@ -4,12 +4,15 @@ use Rattle.check_report.specs.declared.value.Broken.{Broken}
 use Rattle.check_report.specs.declared.value.Kind.{Kind}
 use Rattle.check_report.specs.declared.value.Place.{Place}
 use Rattle.crawl_pages.specs.declared.page.PageResult.{PageResult}
+use Rattle.document_links.specs.declared.anchors.PageAnchors.{PageAnchors}
 use Rattle.document_links.specs.declared.positions.LinkPlaces.{LinkPlaces}
+use Rattle.site_check.specs.AnchorGroups.{anchor_row}
 use Rattle.site_check.specs.Anchors.{anchor_text}
-use Rattle.site_check.specs.Broken.{broken_of, is_place_ignored, linked_at, result_at, rows_with}
+use Rattle.site_check.specs.Broken.{Row, broken_of, is_place_ignored, linked_at, result_at, rows_with}
 use Rattle.site_check.specs.Hints.{hints_at, hints_in, hints_of}
-use Rattle.site_check.specs.Ignored.{AreUnused, anchors_in, not_ignored, text_at, unused}
+use Rattle.site_check.specs.Ignored.{AreUnused, anchors_in, anchors_left, not_ignored, text_at, unused}
 use Rattle.site_check.specs.Invalid.{AreInvalid, invalid_rows_in, row_of, text_of, texts_if}
+use Rattle.site_check.specs.Lacks.{AreAnchors}
 use Rattle.site_check.specs.Leaving.{leaving_in, leaving_of, outside_at, outside_texts, row_at, shown_at}
 use Rattle.site_check.specs.Names.{AreNamed}
 use Rattle.site_check.specs.RowMeanings.{rows_in}
@@ -19,6 +22,7 @@ use Rattle.site_check.specs.declared.invalid.InvalidText.{InvalidText}
 use Rattle.site_check.specs.declared.outside.Outside.{Outside}
 use Rattle.site_check.specs.declared.linked.Linked as code
 use Rattle.site_check.specs.declared.missing_anchors.MissingAnchor.{MissingAnchor}
+use Rattle.site_files.specs.declared.alias.Alias.{Alias}
 use Rattle.site_files.specs.declared.files.SiteFiles.{SiteFiles}
 
 -- a check reports all that it finds
@@ -76,6 +80,14 @@ pub record AreReported (front : List ℕ) (entries : List (List ℕ)) (scope : S
   pub all : AreAllRows front entries scope places rooted maps files results found whole unused_ones
   pub left : map target_row rows ≡ rows_left entries (map target_row whole)
 
+-- these rows are what the entries leave of rows with those of exactly the missing anchors that no entry matches
+pub record ReportsAnchors (front : List ℕ) (entries : List (List ℕ)) (documents : List PageAnchors) (aliases : List Alias) (files : SiteFiles) (results : List PageResult) (rows : List Broken) : Type 0 where
+  pub whole : List Broken
+  pub left : map target_row rows ≡ rows_left entries (map target_row whole)
+  pub anchors : List Row
+  pub are : AreAnchors front documents aliases files results anchors
+  pub exact : anchors_in whole ≡ anchors_left entries anchors
+
 -- ---- how they are found
 
 -- the same over the results that found no page and what else is broken
@@ -84,7 +96,7 @@ pub record AreRows (front : List ℕ) (entries : List (List ℕ)) (files : SiteF
   pub pages : rows_in whole ≡ flat_map (rows_with front entries) (map linked_at linked)
   pub names : AreNamed front files whole
   pub hints : hints_in whole ≡ flat_map (hints_at front entries files) (map result_at linked)
-  pub anchors_are : anchors_in whole ≡ not_ignored entries (map anchor_text anchors)
+  pub anchors_are : anchors_in whole ≡ anchors_left entries (map anchor_row anchors)
   pub texts_are : invalid_rows_in whole ≡ map row_of (not_ignored entries (map text_of invalid))
   pub leaving : leaving_in whole ≡ flat_map (row_at entries) (map outside_at outside)
   pub left : map target_row rows ≡ rows_left entries (map target_row whole)

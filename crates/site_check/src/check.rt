@@ -1,21 +1,25 @@
 //! Checks the results of a crawl of a site's saved web.
-ghost use Rattle.std.specs.Prelude.{◌≡◌, ◌==◌, ◌++◌, ℕ, List, [], true, All, Contains, IfOk, IsPermutation, OnOk, map, not, string_bytes, length, flat_map, option_map};
+ghost use Rattle.std.specs.Prelude.{◌≡◌, ◌==◌, ◌++◌, ◌<◌, ℕ, List, [], true, All, Contains, IfOk, IsPermutation, OnOk, map, not, string_bytes, length, flat_map, option_map};
 ghost use Rattle.check_report.specs.Text.{is_broken};
 ghost use Rattle.crawl_sources.specs.Tallies.{pointed};
 ghost use Rattle.site_files.specs.declared.files.SiteFiles.{SiteFiles};
 ghost use Rattle.site_check.specs.Base.{hint_at};
 ghost use Rattle.site_check.specs.Broken.{linked_at, redirects_of, result_at, rows_with, ways_with};
 ghost use Rattle.site_check.specs.Complete.{AreOnce, HasAllLinks, HasIndices, IsKeptPlace};
+ghost use Rattle.site_check.specs.Documents.{AreInOrder, AreSearchable};
 ghost use Rattle.site_check.specs.Hints.{hints_at, hints_in};
-ghost use Rattle.site_check.specs.Ignored.{not_ignored, anchors_in, text_at, unused};
+ghost use Rattle.site_check.specs.Ignored.{not_ignored, anchors_in, anchors_left, text_at, unused};
 ghost use Rattle.site_check.specs.Invalid.{AreTexts, invalid_rows_in, row_of, text_of, texts_if};
+ghost use Rattle.site_check.specs.LackedLinks.{lack_of};
+ghost use Rattle.site_check.specs.Lacks.{AreAnchors, AreLacks, is_any};
 ghost use Rattle.site_check.specs.Leads.{indices_in, leads_from, number_in, targets_of};
 ghost use Rattle.site_check.specs.Leaving.{leaving_in, outside_at, outside_linked, row_at, shown_at};
 ghost use Rattle.site_check.specs.LinkBase.{base_hint_of};
 ghost use Rattle.site_check.specs.Located.{AddsListed, IsListed, IsLocatedRow, KeepsRows, listed, located_row, page_text, placed_at, target_texts};
 ghost use Rattle.site_check.specs.Locations.{IsLocated};
 ghost use Rattle.site_check.specs.Names.{AreNamed};
-ghost use Rattle.site_check.specs.Reported.{AreReported, AreRows};
+ghost use Rattle.site_check.specs.Reported.{AreReported, AreRows, ReportsAnchors};
+ghost use Rattle.site_check.specs.AnchorGroups.{AddsGroups, anchor_row};
 ghost use Rattle.site_check.specs.Anchors.{anchor_text};
 ghost use Rattle.site_check.specs.RowMeanings.{rows_in, way_of};
 ghost use Rattle.site_check.specs.Totals.{totals_of};
@@ -121,6 +125,9 @@ pub fn check_site<'f, R: Threads + Sync, B: FileBytes + Sync>(
     // or else in another, unless a link to the missing page is in the file of that page, and the hint at what a server with other rules
     // finds. The unused entries are those that match none of these and no location.
     ensures rows { IfOk result (λ checked. AreReported input.entry.front.now (map string_bytes input.entry.ignores.now) input.entry.scope input.entry.places.now input.entry.rooted input.entry.maps.now files.now results.now input.entry.found.now checked.broken.items (map string_bytes checked.unused_ignores.items)) }
+    // If documents, aliases and results are in the order of their URLs, each URL once, the rows of anchors are those of exactly the anchors
+    // to which a link of a found page leads and that the document at its target lacks, without those that an entry matches.
+    ensures anchors { IfOk result (λ checked. AreInOrder input.entry.anchors.now input.entry.aliases.now results.now → ReportsAnchors input.entry.front.now (map string_bytes input.entry.ignores.now) input.entry.anchors.now input.entry.aliases.now files.now results.now checked.broken.items) }
     // Each location of a row is that of a link in what was read of the file of a page. If the row reports a missing page, the link leads to
     // it, directly or by a redirect.
     ensures places { IfOk result (λ checked. All (IsLocated input.entry.front.now input.entry.places.now files.now results.now (B.reads bytes.now)) checked.broken.items) }
@@ -165,6 +172,9 @@ fn site_of<'p, 'f>(
 ) -> Site<'p, 'f>
     ensures files { result.files.now ≡ files.now }
     ensures results { result.pages.results.now ≡ results.now }
+    ensures anchors { result.pages.anchors.now ≡ input.entry.anchors.now }
+    ensures aliases { result.pages.aliases.now ≡ input.entry.aliases.now }
+    ensures documents { result.pages.documents.now ≡ documents.now }
 {
     Site {
         pages: Pages {
@@ -198,6 +208,7 @@ fn sought_by<'p, R: Threads + Sync>(
     linked: &[Linked<'p>],
 ) -> Result<BrokenLinks<'p>, CheckError>
     ensures invalid { IfOk result (λ sought. AreTexts (texts_if input.entry.scope.invalid input.entry.places.now site.entry.pages.results.now) (map text_of sought.invalid.items)) }
+    ensures anchors { IfOk result (λ sought. AreSearchable site.entry.files.now site.entry.pages → AreAnchors input.entry.front.now site.entry.pages.anchors.now site.entry.pages.aliases.now site.entry.files.now site.entry.pages.results.now (map anchor_row sought.anchors.items)) }
     ensures outside { IfOk result (λ sought. map outside_at sought.outside.items ≡ outside_linked input.entry.rooted input.entry.maps.now site.entry.files.now site.entry.pages.results.now input.entry.found.now) }
     ensures whole { IfOk result (λ sought. All (Contains sought.leads.items) (map (listed 0) (leads_from (number_in (targets_of input.entry.front.now (map string_bytes input.entry.ignores.now) (map result_at linked.now))) (indices_in input.entry.places.now) 0 site.entry.pages.results.now))) }
     ensures leads { IfOk result (λ sought. All (IsListed (leads_from (number_in (targets_of input.entry.front.now (map string_bytes input.entry.ignores.now) (map result_at linked.now))) (indices_in input.entry.places.now) 0 site.entry.pages.results.now)) sought.leads.items) }
@@ -207,7 +218,10 @@ fn sought_by<'p, R: Threads + Sync>(
     let of_pages = move || -> Result<Vec<ListedLead>, CheckError>
         ensures { IfOk result (λ all. (all.items ≡ map (listed 0) (leads_from (number_in (targets_of input.entry.front.now (map string_bytes input.entry.ignores.now) (map result_at linked.entry.now))) (indices_in input.entry.places.now) 0 site.entry.pages.results.now)) × All (HasIndices site.entry.files.now.rules.now.places (number_in (targets_of input.entry.front.now (map string_bytes input.entry.ignores.now) (map result_at linked.entry.now))) (indices_in input.entry.places.now) input.entry.aliases.now) site.entry.pages.results.now) }
     { listed_leads(rt, alloc, input, site, linked) };
-    let (leads, lacked) = join(rt, of_pages, move || lacked_by(rt, alloc, site, threads));
+    let of_anchors = move || -> Result<Vec<MissingAnchorLink<'p>>, NoMemory>
+        ensures { IfOk result (λ all. 0 < threads.entry → AreSearchable site.entry.files.now site.entry.pages → AreLacks site.entry.pages.anchors.now site.entry.pages.aliases.now site.entry.files.now site.entry.pages.results.now is_any (map lack_of all.items)) }
+    { lacked_by(rt, alloc, site, threads) };
+    let (leads, lacked) = join(rt, of_pages, of_anchors);
     let mut leads = leads?;
     let mut lacked = lacked?;
     sort_by_anchor(&mut lacked)?;
@@ -257,7 +271,8 @@ fn lacked_anchors(
     links: &[MissingAnchorLink<'_>],
     all: &mut Vec<ListedLead>,
 ) -> Result<Vec<MissingAnchor>, NoMemory>
-    ensures { OnOk result (AddsListed 1 all.old.items all.new.items) }
+    ensures leads { OnOk result (AddsListed 1 all.old.items all.new.items) }
+    ensures groups { IfOk result (λ anchors. AddsGroups input.entry.front.now (map string_bytes input.entry.ignores.now) (map lack_of links.now) (map anchor_row anchors.items) all.old.items all.new.items) }
 {
     let mut leads = Vec::new(alloc);
     let anchors = missing_anchors(alloc, input, links, &mut leads)?;
@@ -468,7 +483,7 @@ fn broken_all(
     ensures rows { IfOk result (λ all. rows_in all.items ≡ flat_map (rows_with input.entry.front.now (map string_bytes input.entry.ignores.now)) (map linked_at linked.now)) }
     ensures names { IfOk result (λ all. AreNamed input.entry.front.now site.entry.files.now all.items) }
     ensures hints { IfOk result (λ all. hints_in all.items ≡ flat_map (hints_at input.entry.front.now (map string_bytes input.entry.ignores.now) site.entry.files.now) (map result_at linked.now)) }
-    ensures anchors { IfOk result (λ all. anchors_in all.items ≡ not_ignored (map string_bytes input.entry.ignores.now) (map anchor_text others.entry.anchors.now)) }
+    ensures anchors { IfOk result (λ all. anchors_in all.items ≡ anchors_left (map string_bytes input.entry.ignores.now) (map anchor_row others.entry.anchors.now)) }
     ensures invalid { IfOk result (λ all. invalid_rows_in all.items ≡ map row_of (not_ignored (map string_bytes input.entry.ignores.now) (map text_of others.entry.invalid.now))) }
     ensures leaving { IfOk result (λ all. leaving_in all.items ≡ flat_map (row_at (map string_bytes input.entry.ignores.now)) (map outside_at others.entry.outside.now)) }
     ensures located { IfOk result (λ all. All (IsLocatedRow (map placed_at places.now) (target_texts input.entry.front.now linked.now others.entry.anchors.now others.entry.invalid.now others.entry.outside.now)) (map located_row all.items)) }

@@ -92,7 +92,7 @@ pub(crate) fn every_place<B: FileBytes>(
 }
 
 /// Whether of `of` threads the one with the number `rest` reads the file of the result with this number.
-fn is_taken(of: usize, rest: usize, source: usize) -> bool
+pub(crate) fn is_taken(of: usize, rest: usize, source: usize) -> bool
     ensures { result ≡ is_taken of rest source }
 {
     0 < of && source % of == rest

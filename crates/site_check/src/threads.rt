@@ -1,12 +1,17 @@
 //! Passes over pages by several threads. Each thread takes a chunk of the pages, or of n threads the k-th takes each n-th page.
 ghost use Rattle.std.specs.Prelude.{◌≡◌, ◌++◌, ◌+◌, ◌<◌, ◌^◌, ℕ, All, IfOk, IsOk, Result, Vec, length, map, slice_index_or};
 ghost use Rattle.std.specs.List.{flat_map};
+ghost use Rattle.std.specs.declared.alloc.AllocError.{AllocError};
 ghost use Rattle.std.specs.declared.alloc.Global.{Global};
-ghost use Rattle.site_check.specs.Complete.{HasPlace, HasTaken};
+ghost use Rattle.site_check.specs.Complete.{HasPlace, HasTaken, is_taken};
+ghost use Rattle.site_check.specs.Documents.{AreSearchable};
+ghost use Rattle.site_check.specs.LackedLinks.{lack_of};
+ghost use Rattle.site_check.specs.Lacks.{AreLacks, is_any};
 ghost use Rattle.site_check.specs.Leads.{indices_at, leads_from, number_at};
 ghost use Rattle.site_check.specs.Located.{IsTargetPlace, items_of, placed_at};
 ghost use Rattle.site_check.specs.declared.check_error.CheckError.{CheckError};
 ghost use Rattle.site_check.specs.declared.located.TargetPlace.{TargetPlace};
+ghost use Rattle.site_check.specs.declared.missing_anchors.MissingAnchorLink.{MissingAnchorLink};
 
 use crate::anchors::every_lacked;
 use crate::check_error::CheckError;
@@ -111,16 +116,31 @@ pub(crate) fn lacked_by<'p, R: Threads + Sync>(
     alloc: Global,
     site: Site<'p, '_>,
     count: usize,
-) -> Result<Vec<MissingAnchorLink<'p>>, NoMemory> {
+) -> Result<Vec<MissingAnchorLink<'p>>, NoMemory>
+    ensures { IfOk result (λ all. 0 < count → AreSearchable site.entry.files.now site.entry.pages → AreLacks site.entry.pages.anchors.now site.entry.pages.aliases.now site.entry.files.now site.entry.pages.results.now is_any (map lack_of all.items)) }
+{
+    let chunks = lacked_in_parts(rt, alloc, site, count)?;
+    joined(alloc, chunks)
+}
+
+/// Those of the pages that each of this number of threads takes.
+fn lacked_in_parts<'p, R: Threads + Sync>(
+    rt: &R,
+    alloc: Global,
+    site: Site<'p, '_>,
+    count: usize,
+) -> Result<Vec<Result<Vec<MissingAnchorLink<'p>>, NoMemory>>, NoMemory>
+    ensures len { IfOk result (λ chunks. length chunks.items ≡ count) }
+    ensures lacks { IfOk result (λ chunks. (rest : ℕ) (other : Result (Vec MissingAnchorLink Global) AllocError) → rest < count → IfOk (slice_index_or chunks.items rest other) (λ all. AreSearchable site.entry.files.now site.entry.pages → AreLacks site.entry.pages.anchors.now site.entry.pages.aliases.now site.entry.files.now site.entry.pages.results.now (is_taken count rest) (map lack_of all.items))) }
+{
     let pages = site.pages;
     let files = site.files;
-    let chunks = thread::map_indices(
+    thread::map_indices(
         rt,
         alloc,
         count,
         &|rest: usize| { every_lacked(alloc, pages, files, rest, count) },
-    )?;
-    joined(alloc, chunks)
+    )
 }
 
 /// The locations of these links, which are together by their pages, sorted by their targets. Each thread reads the pages that it takes.

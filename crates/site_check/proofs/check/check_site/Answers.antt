@@ -1,5 +1,6 @@
 use Rattle.site_check.proofs.Prelude.{◌∙◌, IfOk-weaker, ap, linked_at, map, string_bytes}
-use Rattle.site_check.proofs.AllReported.{are_reported}
+use Rattle.site_check.proofs.AllReported.{anchors_reported, are_reported}
+use Rattle.site_check.proofs.DocumentsFound.{searchable}
 use Rattle.site_check.proofs.KeptLinks.{all_links}
 use Rattle.site_check.proofs.LeadTargets.{located_rows}
 use Rattle.site_check.proofs.Verdicts.{verdict_of_rows}
@@ -17,6 +18,21 @@ returns-clause-rows g c =
     (λ (checked : Checked) own. are_reported input.front.now (map string_bytes input.ignores.now) input.scope input.rooted input.maps.now input.places.now c.args.files.now site.files.now c.args.results.now site.pages.results.now input.found.now
     c.as_slice-all.result.now sought.anchors.items sought.invalid.items sought.outside.items checked.broken.items (map string_bytes checked.unused_ignores.items)
     c.site_of-site.ensures.files c.site_of-site.ensures.results (ap (map linked_at) c.as_slice-all.ensures.value ∙ c.in_ok-linked.ensures) c.in_ok-sought.ensures.invalid c.in_ok-sought.ensures.outside own)
+    c.results_of.ensures.rows
+
+-- the rows of anchors are those of links
+pub returns-clause-anchors : goal.returns-clause-anchors
+returns-clause-anchors g c =
+    let input = c.args.input in
+    let site = c.site_of-site.result in
+    let made = c.site_of-site.ensures in
+    let sought = c.in_ok-sought.sought in
+    IfOk-weaker c.results_of.result _ _
+    (λ (checked : Checked) own order. anchors_reported input.front.now (map string_bytes input.ignores.now) input.anchors.now site.pages.anchors.now input.aliases.now site.pages.aliases.now c.args.files.now site.files.now c.args.results.now site.pages.results.now
+    c.as_slice-all.result.now sought.anchors.items sought.invalid.items sought.outside.items checked.broken.items (map string_bytes checked.unused_ignores.items) made.anchors made.aliases made.files made.results
+    (c.in_ok-sought.ensures.anchors
+    (searchable c.args.files.now site.files.now site.pages input.anchors.now input.aliases.now c.args.results.now c.in_ok-documents.documents.items made.files made.anchors made.aliases made.results (made.documents ∙ c.as_slice.ensures.value) order c.in_ok-documents.ensures))
+    own)
     c.results_of.ensures.rows
 
 -- the locations of the rows are those of links

@@ -10,7 +10,10 @@ use Rattle.site_check.specs.declared.check_error.CheckError.{CheckError}
 use Rattle.site_check.specs.declared.located.ListedLead.{ListedLead}
 use Rattle.site_check.proofs.KeptLinks.{all_led}
 use Rattle.site_check.proofs.LeadTargets.{all_listed}
-use Rattle.std.proofs.Common.{string_bytes}
+use Rattle.site_check.proofs.AllLacked.{anchors_found}
+use Rattle.site_check.specs.AnchorGroups.{anchor_row}
+use Rattle.site_check.specs.Documents.{AreSearchable}
+use Rattle.std.proofs.Common.{arith, string_bytes, ◌<◌}
 use Rattle.site_check.proofs.check.sought_by.Goals as goal
 
 -- what the first closure finds
@@ -24,15 +27,25 @@ pub returns-clause-leads : goal.returns-clause-leads
 returns-clause-leads g c =
     let targets = targets_of c.args.input.front.now (map string_bytes c.args.input.ignores.now) (map result_at c.args.linked.now) in
     let pages = leads_from (number_in targets) (indices_in c.args.input.places.now) 0 c.args.site.pages.results.now in
-    all_listed pages _ _ _ _ _ _ (of_pages c.args.site.files.now.rules.now.places targets c.args.input.places.now c.args.input.aliases.now c.args.site.pages.results.now _ _ c.in_ok-leads.was c.join-leads.ensures.first).0 c.in_ok-anchors.ensures c.in_ok-invalid.ensures.leads c.in_ok-push_listed.ensures c.sort_by_page.ensures
+    all_listed pages _ _ _ _ _ _ (of_pages c.args.site.files.now.rules.now.places targets c.args.input.places.now c.args.input.aliases.now c.args.site.pages.results.now _ _ c.in_ok-leads.was c.join-leads.ensures.first).0 c.in_ok-anchors.ensures.leads c.in_ok-invalid.ensures.leads c.in_ok-push_listed.ensures c.sort_by_page.ensures
 
 pub returns-clause-whole : goal.returns-clause-whole
 returns-clause-whole g c =
     let targets = targets_of c.args.input.front.now (map string_bytes c.args.input.ignores.now) (map result_at c.args.linked.now) in
     let pages = leads_from (number_in targets) (indices_in c.args.input.places.now) 0 c.args.site.pages.results.now in
-    all_led pages _ _ _ _ _ _ (of_pages c.args.site.files.now.rules.now.places targets c.args.input.places.now c.args.input.aliases.now c.args.site.pages.results.now _ _ c.in_ok-leads.was c.join-leads.ensures.first).0 c.in_ok-anchors.ensures c.in_ok-invalid.ensures.leads c.in_ok-push_listed.ensures c.sort_by_page.ensures
+    all_led pages _ _ _ _ _ _ (of_pages c.args.site.files.now.rules.now.places targets c.args.input.places.now c.args.input.aliases.now c.args.site.pages.results.now _ _ c.in_ok-leads.was c.join-leads.ensures.first).0 c.in_ok-anchors.ensures.leads c.in_ok-invalid.ensures.leads c.in_ok-push_listed.ensures c.sort_by_page.ensures
 
 pub returns-clause-indexed : goal.returns-clause-indexed
 returns-clause-indexed g c =
     let targets = targets_of c.args.input.front.now (map string_bytes c.args.input.ignores.now) (map result_at c.args.linked.now) in
     (of_pages c.args.site.files.now.rules.now.places targets c.args.input.places.now c.args.input.aliases.now c.args.site.pages.results.now _ _ c.in_ok-leads.was c.join-leads.ensures.first).1
+
+pub returns-clause-anchors : goal.returns-clause-anchors
+returns-clause-anchors g c = λ s.
+    let site = c.args.site in
+    let pages = site.pages in
+    let input = c.args.input in
+    let count = c.max-threads.result in
+    let some : 0 < count = omega (arith, c.max-threads.ensures) in
+    anchors_found pages.anchors.now pages.aliases.now site.files.now pages.results.now input.front.now (map string_bytes input.ignores.now) (AreSearchable site.files.now pages) count c.join-leads.result.1 c.in_ok-lacked.lacked c.sort_by_anchor.new.all.items
+    c.as_slice.result.now (map anchor_row c.in_ok-anchors.anchors.items) _ _ c.in_ok-lacked.was some c.join-leads.ensures.second c.sort_by_anchor.ensures c.as_slice.ensures.value c.in_ok-anchors.ensures.groups s

@@ -1,0 +1,212 @@
+-- The rows of missing anchors are those of the links to them.
+use Rattle.site_check.proofs.Prelude.{common_steps, ◌≡◌, ◌∙◌, ℕ, zero, suc, ◌+◌, ◌<◌, ◌≤◌, Bool, true, false, List, [], ◌∷◌, ◌++◌, length, length-append, map, drop, take, take-append-drop, get_or, Option, Some, None, refl, sym, ap, subst, inl, inr, arith, append_assoc, flat_map, Lead, PageResult, SiteFiles}
+use Rattle.std.proofs.Math.Seq.{drop-append_seam}
+use Rattle.std.proofs.Common.{◌==◌, add-one, append-nil, drop-cons, length-drop, take_while}
+use Rattle.std.proofs.lemmas.Bool.{and_parts}
+use Rattle.std.proofs.lemmas.List.{drop_all, length-map, map-append}
+use Rattle.std.proofs.lemmas.List.Concat.{flat_map-append}
+use Rattle.std.proofs.lemmas.List.Elements.{All-append, All-contains, All-contains_itself, All-cons, All-map, All-nil, All-push, All-weaker}
+use Rattle.std.proofs.lemmas.Slice.Eq.{bytes_eq-Decides}
+use Rattle.std.specs.List.{All, Contains}
+use Rattle.std.specs.Str.{bytes_eq}
+use Rattle.std.specs.Prelude.{if◌then◌else◌}
+use Rattle.document_links.specs.declared.anchors.PageAnchors.{PageAnchors}
+use Rattle.site_check.proofs.AllPlaced.{contains_map, there}
+use Rattle.site_check.proofs.LeadTargets.{Has, contains_had, has_contained}
+use Rattle.site_check.proofs.LackedFound.{flat_has, has_flat}
+use Rattle.site_check.proofs.Placed.{cut_off, passing, slice_get_contains}
+use Rattle.site_check.specs.AnchorGroups.{AreGrouped, Group, IsFirstAnchor, IsGroup, anchor_at, group_leads, group_of, group_row, group_shown, leads_from, leads_to, one_unless, source_count, sources_after}
+use Rattle.site_check.specs.Broken.{Row}
+use Rattle.site_check.specs.LackedLinks.{lack_of}
+use Rattle.site_check.specs.Lacks.{Anchor, AreAnchors, AreLacks, IsLack, IsLacked, Lack, anchor_of, anchor_shown}
+use Rattle.site_check.specs.declared.missing_anchors.Anchor as code
+use Rattle.site_check.specs.declared.missing_anchors.AnchorLinks.{AnchorLinks}
+use Rattle.site_check.specs.declared.missing_anchors.MissingAnchorLink.{MissingAnchorLink}
+use Rattle.site_files.specs.declared.alias.Alias.{Alias}
+
+-- ---- one group more
+
+leads_after : (front : List ℕ) (entries : List (List ℕ)) (n : ℕ) (xs ys : List Group) → leads_from front entries n (xs ++ ys) ≡ leads_from front entries n xs ++ leads_from front entries (n + length xs) ys
+leads_after front entries n [] ys = ap (λ k. leads_from front entries k ys) (omega arith)
+leads_after front entries n (x ∷ xs) ys =
+    let here : List Lead = group_leads front entries n x in
+    let place : (n + 1) + length xs ≡ n + length (x ∷ xs) = omega arith in
+    ap (λ l. here ++ l) (leads_after front entries (n + 1) xs ys)
+    ∙ sym (append_assoc here (leads_from front entries (n + 1) xs) (leads_from front entries ((n + 1) + length xs) ys))
+    ∙ ap (λ k. (here ++ leads_from front entries (n + 1) xs) ++ leads_from front entries k ys) place
+
+pub no_groups : (front : List ℕ) (entries : List (List ℕ)) (leads : List Lead) → AreGrouped front entries [] [] leads leads
+no_groups front entries leads = record { groups = []; are = All-nil IsGroup; split = refl; exact = refl; leads = sym (append-nil leads) }
+
+pub group_more : (front : List ℕ) (entries : List (List ℕ)) (lacks : List Lack) (rows : List Row) (old before after : List Lead) (group : Group) (row : Row) (number : ℕ) → AreGrouped front entries lacks rows old before → IsGroup group →
+    row ≡ group_row front group → number ≡ length rows → after ≡ before ++ group_leads front entries number group → AreGrouped front entries (lacks ++ group.lacks) (rows ++ row ∷ []) old after
+group_more front entries lacks rows old before after group row number are is row_is counted added =
+    let groups = are.groups in
+    let same : number ≡ 0 + length groups = omega (arith, counted, ap length are.exact, length-map groups (group_row front)) in
+    record {
+      groups = groups ++ group ∷ [];
+      are = All-push IsGroup groups group are.are is;
+      split =
+          ap (λ (l : List Lack). l ++ group.lacks) are.split ∙ ap (λ (l : List Lack). flat_map (λ (g : Group). g.lacks) groups ++ l) (sym (append-nil group.lacks))
+          ∙ sym (flat_map-append (λ (g : Group). g.lacks) groups (group ∷ []));
+      exact = (λ i. are.exact i ++ row_is i ∷ []) ∙ sym (map-append (group_row front) groups (group ∷ []));
+      leads =
+          added ∙ (λ i. are.leads i ++ group_leads front entries (same i) group)
+          ∙ append_assoc old (leads_from front entries 0 groups) (group_leads front entries (0 + length groups) group)
+          ∙ ap (λ (l : List Lead). old ++ (leads_from front entries 0 groups ++ l)) (sym (append-nil (group_leads front entries (0 + length groups) group)))
+          ∙ ap (λ (l : List Lead). old ++ l) (sym (leads_after front entries 0 groups (group ∷ [])));
+    }
+
+-- the groups of the first links, so many of them
+pub record HasGrouped (front : List ℕ) (entries : List (List ℕ)) (links : List MissingAnchorLink) (begin : ℕ) (rows : List Row) (old new : List Lead) : Type 0 where
+  pub done : List MissingAnchorLink
+  pub left : List MissingAnchorLink
+  pub split : links ≡ done ++ left
+  pub count : begin ≡ length done
+  pub are : AreGrouped front entries (map lack_of done) rows old new
+
+pub grouped_none : (front : List ℕ) (entries : List (List ℕ)) (links : List MissingAnchorLink) (leads : List Lead) → HasGrouped front entries links 0 [] leads leads
+grouped_none front entries links leads = record { done = []; left = links; split = refl; count = refl; are = no_groups front entries leads }
+
+pub grouped_within : (front : List ℕ) (entries : List (List ℕ)) (links : List MissingAnchorLink) (begin : ℕ) (rows : List Row) (old new : List Lead) → HasGrouped front entries links begin rows old new → begin ≤ length links
+grouped_within front entries links begin rows old new has = omega (arith, has.count, ap length has.split, length-append has.done has.left)
+
+left_is : (links done left : List MissingAnchorLink) (begin : ℕ) → links ≡ done ++ left → begin ≡ length done → drop begin links ≡ left
+left_is links done left begin split count = (λ i. drop (count i) (split i)) ∙ drop-append_seam done left
+
+-- what is split off fits
+pub grouped_fits : (front : List ℕ) (entries : List (List ℕ)) (links left : List MissingAnchorLink) (begin : ℕ) (rows : List Row) (old new : List Lead) (first : AnchorLinks) → HasGrouped front entries links begin rows old new → left ≡ drop begin links →
+    IsFirstAnchor left first → (begin + length first.own.now ≤ length links) × (begin < begin + length first.own.now)
+grouped_fits front entries links left begin rows old new first has back is =
+    let own_left : left ≡ has.left = back ∙ left_is links has.done has.left begin has.split has.count in
+    let some : 0 < length first.own.now = omega (arith, is.own.some, length-map first.own.now lack_of) in
+    (omega (arith, has.count, ap length has.split, length-append has.done has.left, ap length own_left, ap length is.split, length-append first.own.now first.more.now), omega (arith, some))
+
+pub grouped_more : (front : List ℕ) (entries : List (List ℕ)) (links left : List MissingAnchorLink) (begin next : ℕ) (rows : List Row) (old before after : List Lead) (first : AnchorLinks) (row : Row) (number : ℕ) →
+    HasGrouped front entries links begin rows old before → left ≡ drop begin links → IsFirstAnchor left first → next ≡ begin + length first.own.now → row ≡ group_row front (group_of first) → number ≡ length rows →
+    after ≡ before ++ group_leads front entries number (group_of first) → HasGrouped front entries links next (rows ++ row ∷ []) old after
+grouped_more front entries links left begin next rows old before after first row number has back is next_is row_is counted added =
+    let own_left : has.left ≡ first.own.now ++ first.more.now = sym (left_is links has.done has.left begin has.split has.count) ∙ sym back ∙ is.split in
+    record {
+      done = has.done ++ first.own.now;
+      left = first.more.now;
+      split = has.split ∙ ap (λ (l : List MissingAnchorLink). has.done ++ l) own_left ∙ sym (append_assoc has.done first.own.now first.more.now);
+      count = omega (arith, next_is, has.count, length-append has.done first.own.now);
+      are =
+          subst (λ (ls : List Lack). AreGrouped front entries ls (rows ++ row ∷ []) old after) (sym (map-append lack_of has.done first.own.now))
+          (group_more front entries (map lack_of has.done) rows old before after (group_of first) row number has.are is.own row_is counted added);
+    }
+
+pub grouped_all : (front : List ℕ) (entries : List (List ℕ)) (links left : List MissingAnchorLink) (begin : ℕ) (rows : List Row) (old new : List Lead) → left ≡ drop begin links → left ≡ [] → HasGrouped front entries links begin rows old new →
+    AreGrouped front entries (map lack_of links) rows old new
+grouped_all front entries links left begin rows old new back none has =
+    let none_left : has.left ≡ [] = sym (left_is links has.done has.left begin has.split has.count) ∙ sym back ∙ none in
+    subst (λ (ls : List MissingAnchorLink). AreGrouped front entries (map lack_of ls) rows old new) (sym (has.split ∙ ap (λ (l : List MissingAnchorLink). has.done ++ l) none_left ∙ append-nil has.done)) has.are
+
+-- ---- the first group
+
+led : (anchor : Anchor) (link : MissingAnchorLink) → leads_to anchor link ≡ true → anchor_of (lack_of link) ≡ anchor
+led anchor link is =
+    let parts = and_parts (bytes_eq link.anchor.url.now anchor.url) (bytes_eq link.anchor.fragment.now anchor.fragment) is in
+    let url = (bytes_eq-Decides link.anchor.url.now anchor.url).0 parts.0 in
+    let fragment = (bytes_eq-Decides link.anchor.fragment.now anchor.fragment).0 parts.1 in
+    λ i. record { url = url i; fragment = fragment i }
+
+pub first_group : (links : List MissingAnchorLink) (first : MissingAnchorLink) (following : List MissingAnchorLink) (found : AnchorLinks) (n : ℕ) → links ≡ first ∷ following → found.anchor ≡ first.anchor →
+    n ≡ length (take_while (leads_to (anchor_at first.anchor)) following) → found.own.now ≡ take (suc n) links → found.more.now ≡ drop (suc n) links → IsFirstAnchor links found
+first_group links first following found n is anchor count own more =
+    let test = leads_to (anchor_at first.anchor) in
+    let front : found.own.now ≡ first ∷ take_while test following =
+    own ∙ ap (take (suc n)) is ∙ ap (λ (l : List MissingAnchorLink). first ∷ l) (ap (λ k. take k following) count ∙ cut_off test following) in
+    let same : anchor_at first.anchor ≡ anchor_at found.anchor = ap anchor_at (sym anchor) in
+    let passes : All (λ (one : MissingAnchorLink). anchor_of (lack_of one) ≡ anchor_at found.anchor) (take_while test following) =
+    All-weaker (λ (one : MissingAnchorLink). test one ≡ true) (λ (one : MissingAnchorLink). anchor_of (lack_of one) ≡ anchor_at found.anchor) (λ one passed. led (anchor_at first.anchor) one passed ∙ same) (take_while test following) (passing test following) in
+    let all : All (λ (one : MissingAnchorLink). anchor_of (lack_of one) ≡ anchor_at found.anchor) found.own.now =
+    subst (All (λ (one : MissingAnchorLink). anchor_of (lack_of one) ≡ anchor_at found.anchor)) (sym front) (All-cons (λ (one : MissingAnchorLink). anchor_of (lack_of one) ≡ anchor_at found.anchor) first (take_while test following) same passes) in
+    record {
+      split = sym ((λ i. own i ++ more i) ∙ take-append-drop (suc n) links);
+      own = record {
+        some = omega (arith, length-map found.own.now lack_of, ap length front);
+        each = All-map (λ (lack : Lack). anchor_of lack ≡ anchor_at found.anchor) lack_of found.own.now all;
+      };
+      less = omega (arith, ap length more, length-drop (suc n) links, ap length is);
+    }
+
+-- ---- the number of results
+
+abbrev pub sources_next : Option ℕ → List Lack → ℕ
+sources_next None lacks = source_count lacks
+sources_next (Some last) lacks = sources_after last lacks
+
+next_source : (last : Option ℕ) (lack : Lack) (more : List Lack) → sources_next last (lack ∷ more) ≡ one_unless last lack.source + sources_next (Some lack.source) more
+next_source None lack more = refl
+next_source (Some last) lack more = refl
+
+pub source_more : (links : List MissingAnchorLink) (i : ℕ) (link : MissingAnchorLink) (last : Option ℕ) (count next all : ℕ) → i < length links → link ≡ get_or links i link → next ≡ count + one_unless last link.source →
+    count + sources_next last (map lack_of (drop i links)) ≡ all → next + sources_next (Some link.source) (map lack_of (drop (i + 1) links)) ≡ all
+source_more links i link last count next all below is added before =
+    let here : map lack_of (drop i links) ≡ lack_of link ∷ map lack_of (drop (i + 1) links) =
+    ap (map lack_of) (drop-cons links i link below) ∙ ap (λ (l : MissingAnchorLink). lack_of l ∷ map lack_of (drop (suc i) links)) (sym is) ∙ ap (λ n. lack_of link ∷ map lack_of (drop n links)) (sym (add-one i)) in
+    let split : sources_next last (map lack_of (drop i links)) ≡ one_unless last link.source + sources_next (Some link.source) (map lack_of (drop (i + 1) links)) =
+    ap (sources_next last) here ∙ next_source last (lack_of link) (map lack_of (drop (i + 1) links)) in
+    omega (arith, added, before, split)
+
+one_or_none : (b : Bool) → (if b then 0 else 1) ≤ 1
+one_or_none true = omega arith
+one_or_none false = omega arith
+
+pub one_more : (last : Option ℕ) (source count next i : ℕ) → next ≡ count + one_unless last source → count ≤ i → next ≤ i + 1
+one_more None source count next i added below = omega (arith, added, below)
+one_more (Some last) source count next i added below = omega (arith, added, below, one_or_none (last == source))
+
+no_source : (last : Option ℕ) → sources_next last [] ≡ 0
+no_source None = refl
+no_source (Some last) = refl
+
+pub source_end : (links : List MissingAnchorLink) (i : ℕ) (last : Option ℕ) (count all : ℕ) → length links ≤ i → count + sources_next last (map lack_of (drop i links)) ≡ all → count ≡ all
+source_end links i last count all past before =
+    let none : sources_next last (map lack_of (drop i links)) ≡ 0 = ap (λ (l : List MissingAnchorLink). sources_next last (map lack_of l)) (drop_all i links past) ∙ no_source last in
+    omega (arith, none, before)
+
+-- ---- all anchors
+
+module _ (documents : List PageAnchors) (aliases : List Alias) (files : SiteFiles) (results : List PageResult) where
+  group_lacked : (lacks : List Lack) (group : Group) → All (IsLack documents aliases files results) lacks → IsGroup group → ((lack : Lack) → Contains group.lacks lack → Contains lacks lack) → IsLacked documents aliases files results group.anchor
+  group_lacked lacks group all is within =
+      let first = there group.lacks 0 is.some in
+      let own = slice_get_contains group.lacks 0 first.x first.at in
+      record {
+        lack = first.x;
+        is = All-contains (IsLack documents aliases files results) lacks first.x all (within first.x own);
+        leads = All-contains (λ (lack : Lack). anchor_of lack ≡ group.anchor) group.lacks first.x is.each own;
+      }
+
+  pub are_anchors : (front : List ℕ) (entries : List (List ℕ)) (taken : ℕ → Bool) (lacks : List Lack) (rows : List Row) (old new : List Lead) → ((n : ℕ) → taken n ≡ true) → AreLacks documents aliases files results taken lacks →
+      AreGrouped front entries lacks rows old new → AreAnchors front documents aliases files results rows
+  are_anchors front entries taken lacks rows old new all are grouped =
+      let groups = grouped.groups in
+      record {
+        anchors = map (λ (g : Group). g.anchor) groups;
+        each =
+            All-map (IsLacked documents aliases files results) (λ (g : Group). g.anchor) groups
+            (All-weaker (Contains groups) (λ (g : Group). IsLacked documents aliases files results g.anchor)
+            (λ g contained.
+            group_lacked lacks g are.each (All-contains IsGroup groups g grouped.are contained)
+            (λ lack own.
+            subst (λ (l : List Lack). Contains l lack) (sym grouped.split)
+            (contains_had (flat_map (λ (h : Group). h.lacks) groups) lack (flat_has (λ (h : Group). h.lacks) groups g lack (has_contained groups g contained) (has_contained g.lacks lack own)))))
+            groups (All-contains_itself groups));
+        whole = λ lack is.
+            let part =
+            has_flat (λ (h : Group). h.lacks) groups lack (subst (λ (l : List Lack). Has l lack) grouped.split (has_contained lacks lack (are.whole lack is (all lack.source)))) in
+            let group : Group = part.0 in
+            let contained : Contains groups group = contains_had groups group part.1 in
+            let own : IsGroup group = All-contains IsGroup groups group grouped.are contained in
+            let leads : anchor_of lack ≡ group.anchor = All-contains (λ (l : Lack). anchor_of l ≡ group.anchor) group.lacks lack own.each (contains_had group.lacks lack part.2) in
+            subst (Contains (map (λ (g : Group). g.anchor) groups)) (sym leads) (contains_map (λ (g : Group). g.anchor) groups group contained);
+        texts = ap (map (λ (row : Row). row.text)) grouped.exact ∙ both_texts groups;
+      }
+    where
+      both_texts : (gs : List Group) → map (λ (row : Row). row.text) (map (group_row front) gs) ≡ map (λ (a : Anchor). anchor_shown front a.url a.fragment) (map (λ (g : Group). g.anchor) gs)
+      both_texts [] = refl
+      both_texts (g ∷ gs) = ap (λ (l : List (List ℕ)). group_shown front g ∷ l) (both_texts gs)
