@@ -3,14 +3,14 @@ use Rattle.site_check.proofs.Prelude.{Global, IfOk, IfOk-at_ok, IfOk-weaker, Pag
 use Rattle.std.proofs.lemmas.List.Elements.{All-contains, All-contains_itself, All-weaker}
 use Rattle.std.proofs.lemmas.List.Sorted.{All-permutation, Contains-permutation, IsPermutation-map}
 use Rattle.std.specs.List.{All, Contains}
-use Rattle.std.specs.List.Sorted.{IsPermutation}
+use Rattle.std.specs.List.Sorted.{IsPermutation, IsSortedBy}
 use Rattle.std.specs.Prelude.{◌%◌, Err, IsOk, Ok, Result}
 use Rattle.std.specs.declared.alloc.AllocError.{AllocError}
 use Rattle.document_links.specs.declared.anchors.PageAnchors.{PageAnchors}
 use Rattle.site_check.proofs.AllPlaced.{in_flat, taken_by, there}
-use Rattle.site_check.proofs.AnchorGroups.{are_anchors}
+use Rattle.site_check.proofs.AnchorCounts.{are_anchors, rises_links}
 use Rattle.site_check.proofs.Placed.{all_joined}
-use Rattle.site_check.specs.AnchorGroups.{AddsGroups}
+use Rattle.site_check.specs.AnchorGroups.{AddsGroups, comes_first}
 use Rattle.site_check.specs.Broken.{Row}
 use Rattle.site_check.specs.Complete.{is_taken}
 use Rattle.site_check.specs.LackedLinks.{lack_of}
@@ -73,10 +73,11 @@ module _ (documents : List PageAnchors) (aliases : List Alias) (files : SiteFile
 
   -- the rows of what was found, sorted
   pub anchors_found : (front : List ℕ) (entries : List (List ℕ)) (S : Type 0) (count : ℕ) (r : Part) (own : Vec MissingAnchorLink Global) (sorted given : List MissingAnchorLink) (rows : List Row) (old new : List ListedLead) → r ≡ Ok own → 0 < count →
-      IfOk r (λ all. 0 < count → S → AreLacks documents aliases files results is_any (map lack_of all.items)) → IsPermutation own.items sorted → given ≡ sorted → AddsGroups front entries (map lack_of given) rows old new → S →
+      IfOk r (λ all. 0 < count → S → AreLacks documents aliases files results is_any (map lack_of all.items)) → IsPermutation own.items sorted → IsSortedBy comes_first sorted → given ≡ sorted → AddsGroups front entries (map lack_of given) rows old new → S →
       AreAnchors front documents aliases files results rows
-  anchors_found front entries S count r own sorted given rows old new is some found moved same groups s =
+  anchors_found front entries S count r own sorted given rows old new is some found moved up same groups s =
       let lacks : AreLacks documents aliases files results is_any (map lack_of own.items) =
       IfOk-at_ok (λ (all : Vec MissingAnchorLink Global). 0 < count → S → AreLacks documents aliases files results is_any (map lack_of all.items)) is found some s in
       are_anchors documents aliases files results front entries is_any (map lack_of given) rows [] groups.found (λ n. refl)
-      (subst (λ (l : List MissingAnchorLink). AreLacks documents aliases files results is_any (map lack_of l)) (sym same) (lacks_moved own.items sorted moved lacks)) groups.are
+      (subst (λ (l : List MissingAnchorLink). AreLacks documents aliases files results is_any (map lack_of l)) (sym same) (lacks_moved own.items sorted moved lacks))
+      (rises_links given (subst (IsSortedBy comes_first) (sym same) up)) groups.are

@@ -1,13 +1,14 @@
 -- The rows of missing anchors are those of the links to them.
-use Rattle.site_check.proofs.Prelude.{common_steps, ◌≡◌, ◌∙◌, ℕ, zero, suc, ◌+◌, ◌<◌, ◌≤◌, Bool, true, false, List, [], ◌∷◌, ◌++◌, length, length-append, map, drop, take, take-append-drop, get_or, Option, Some, None, refl, sym, ap, subst, inl, inr, arith, append_assoc, flat_map, Lead, PageResult, SiteFiles}
+use Rattle.site_check.proofs.Prelude.{common_steps, ◌≡◌, ◌∙◌, ℕ, zero, suc, ◌+◌, ◌<◌, ◌≤◌, Bool, true, false, List, [], ◌∷◌, ◌++◌, length, length-append, map, drop, take, take-append-drop, get_or, Option, Some, None, refl, sym, ap, subst, inl, inr, arith, append_assoc, cases_Bool, cond-true, cond-false, ◌&&◌, flat_map, Lead, PageResult, SiteFiles}
 use Rattle.std.proofs.Math.Seq.{drop-append_seam}
 use Rattle.std.proofs.Common.{◌==◌, add-one, append-nil, drop-cons, length-drop, take_while}
 use Rattle.std.proofs.lemmas.Bool.{and_parts}
 use Rattle.std.proofs.lemmas.List.{drop_all, length-map, map-append}
 use Rattle.std.proofs.lemmas.List.Concat.{flat_map-append}
-use Rattle.std.proofs.lemmas.List.Elements.{All-append, All-contains, All-contains_itself, All-cons, All-map, All-nil, All-push, All-weaker}
+use Rattle.std.proofs.lemmas.List.Elements.{All-append, All-contains, All-contains_itself, All-cons, All-head, All-map, All-nil, All-push, All-weaker}
 use Rattle.std.proofs.lemmas.Slice.Eq.{bytes_eq-Decides}
-use Rattle.std.specs.List.{All, Contains}
+use Rattle.std.proofs.lemmas.List.Folds.{length-prefix_len}
+use Rattle.std.specs.List.{All, Contains, prefix_len}
 use Rattle.std.specs.Str.{bytes_eq}
 use Rattle.std.specs.Prelude.{if◌then◌else◌}
 use Rattle.document_links.specs.declared.anchors.PageAnchors.{PageAnchors}
@@ -15,7 +16,7 @@ use Rattle.site_check.proofs.AllPlaced.{contains_map, there}
 use Rattle.site_check.proofs.LeadTargets.{Has, contains_had, has_contained}
 use Rattle.site_check.proofs.LackedFound.{flat_has, has_flat}
 use Rattle.site_check.proofs.Placed.{cut_off, passing, slice_get_contains}
-use Rattle.site_check.specs.AnchorGroups.{AreGrouped, Group, IsFirstAnchor, IsGroup, anchor_at, group_leads, group_of, group_row, group_shown, leads_from, leads_to, one_unless, source_count, sources_after}
+use Rattle.site_check.specs.AnchorGroups.{AreApart, AreGrouped, Group, IsFirstAnchor, IsGroup, anchor_at, group_leads, group_of, group_row, group_shown, leads_from, leads_to, one_unless, source_count, sources_after}
 use Rattle.site_check.specs.Broken.{Row}
 use Rattle.site_check.specs.LackedLinks.{lack_of}
 use Rattle.site_check.specs.Lacks.{Anchor, AreAnchors, AreLacks, IsLack, IsLacked, Lack, anchor_of, anchor_shown}
@@ -36,16 +37,33 @@ leads_after front entries n (x ∷ xs) ys =
     ∙ ap (λ k. (here ++ leads_from front entries (n + 1) xs) ++ leads_from front entries k ys) place
 
 pub no_groups : (front : List ℕ) (entries : List (List ℕ)) (leads : List Lead) → AreGrouped front entries [] [] leads leads
-no_groups front entries leads = record { groups = []; are = All-nil IsGroup; split = refl; exact = refl; leads = sym (append-nil leads) }
+no_groups front entries leads = record { groups = []; are = All-nil IsGroup; apart = tt; split = refl; exact = refl; leads = sym (append-nil leads) }
 
-pub group_more : (front : List ℕ) (entries : List (List ℕ)) (lacks : List Lack) (rows : List Row) (old before after : List Lead) (group : Group) (row : Row) (number : ℕ) → AreGrouped front entries lacks rows old before → IsGroup group →
+-- the last of some groups is of another anchor
+abbrev pub IsOtherThanLast : List Group → Anchor → Type 0
+IsOtherThanLast [] anchor = Unit {0}
+IsOtherThanLast (group ∷ []) anchor = group.anchor ≡ anchor → ⊥
+IsOtherThanLast (group ∷ next ∷ more) anchor = IsOtherThanLast (next ∷ more) anchor
+
+apart_more : (groups : List Group) (group : Group) → AreApart groups → IsOtherThanLast groups group.anchor → AreApart (groups ++ group ∷ [])
+apart_more [] group apart other = tt
+apart_more (g ∷ []) group apart other = (other, tt)
+apart_more (g ∷ h ∷ more) group apart other = (apart.0, apart_more (h ∷ more) group apart.1 other)
+
+last_more : (groups : List Group) (group : Group) (anchor : Anchor) → (group.anchor ≡ anchor → ⊥) → IsOtherThanLast (groups ++ group ∷ []) anchor
+last_more [] group anchor other = other
+last_more (g ∷ []) group anchor other = other
+last_more (g ∷ h ∷ more) group anchor other = last_more (h ∷ more) group anchor other
+
+pub group_more : (front : List ℕ) (entries : List (List ℕ)) (lacks : List Lack) (rows : List Row) (old before after : List Lead) (group : Group) (row : Row) (number : ℕ) → (are : AreGrouped front entries lacks rows old before) → IsGroup group → IsOtherThanLast are.groups group.anchor →
     row ≡ group_row front group → number ≡ length rows → after ≡ before ++ group_leads front entries number group → AreGrouped front entries (lacks ++ group.lacks) (rows ++ row ∷ []) old after
-group_more front entries lacks rows old before after group row number are is row_is counted added =
+group_more front entries lacks rows old before after group row number are is other row_is counted added =
     let groups = are.groups in
     let same : number ≡ 0 + length groups = omega (arith, counted, ap length are.exact, length-map groups (group_row front)) in
     record {
       groups = groups ++ group ∷ [];
       are = All-push IsGroup groups group are.are is;
+      apart = apart_more groups group are.apart other;
       split =
           ap (λ (l : List Lack). l ++ group.lacks) are.split ∙ ap (λ (l : List Lack). flat_map (λ (g : Group). g.lacks) groups ++ l) (sym (append-nil group.lacks))
           ∙ sym (flat_map-append (λ (g : Group). g.lacks) groups (group ∷ []));
@@ -64,9 +82,11 @@ pub record HasGrouped (front : List ℕ) (entries : List (List ℕ)) (links : Li
   pub split : links ≡ done ++ left
   pub count : begin ≡ length done
   pub are : AreGrouped front entries (map lack_of done) rows old new
+  pub next : (link : MissingAnchorLink) (rest : List MissingAnchorLink) → left ≡ link ∷ rest → IsOtherThanLast are.groups (anchor_of (lack_of link))
 
 pub grouped_none : (front : List ℕ) (entries : List (List ℕ)) (links : List MissingAnchorLink) (leads : List Lead) → HasGrouped front entries links 0 [] leads leads
-grouped_none front entries links leads = record { done = []; left = links; split = refl; count = refl; are = no_groups front entries leads }
+unfolding no_groups
+grouped_none front entries links leads = record { done = []; left = links; split = refl; count = refl; are = no_groups front entries leads; next = λ link rest is. tt }
 
 pub grouped_within : (front : List ℕ) (entries : List (List ℕ)) (links : List MissingAnchorLink) (begin : ℕ) (rows : List Row) (old new : List Lead) → HasGrouped front entries links begin rows old new → begin ≤ length links
 grouped_within front entries links begin rows old new has = omega (arith, has.count, ap length has.split, length-append has.done has.left)
@@ -82,19 +102,46 @@ grouped_fits front entries links left begin rows old new first has back is =
     let some : 0 < length first.own.now = omega (arith, is.own.some, length-map first.own.now lack_of) in
     (omega (arith, has.count, ap length has.split, length-append has.done has.left, ap length own_left, ap length is.split, length-append first.own.now first.more.now), omega (arith, some))
 
+-- the first of the links that are split off
+record FirstOf (first : AnchorLinks) : Type 0 where
+  link : MissingAnchorLink
+  rest : List MissingAnchorLink
+  are : first.own.now ≡ link ∷ rest
+  leads : anchor_of (lack_of link) ≡ anchor_at first.anchor
+
+first_in : (anchor : Anchor) (own : List MissingAnchorLink) → 0 < length own → All (λ lack. anchor_of lack ≡ anchor) (map lack_of own) → (link : MissingAnchorLink) × (rest : List MissingAnchorLink) × (own ≡ link ∷ rest) × (anchor_of (lack_of link) ≡ anchor)
+first_in anchor [] some each = absurd (omega (arith, some))
+first_in anchor (x ∷ xs) some each = (x, xs, refl, All-head (λ (lack : Lack). anchor_of lack ≡ anchor) (lack_of x) (map lack_of xs) each)
+
+first_of : (left : List MissingAnchorLink) (first : AnchorLinks) → IsFirstAnchor left first → FirstOf first
+first_of left first is =
+    let own = first_in (anchor_at first.anchor) first.own.now (omega (arith, is.own.some, length-map first.own.now lack_of)) is.own.each in
+    record { link = own.0; rest = own.1; are = own.2; leads = own.3 }
+
 pub grouped_more : (front : List ℕ) (entries : List (List ℕ)) (links left : List MissingAnchorLink) (begin next : ℕ) (rows : List Row) (old before after : List Lead) (first : AnchorLinks) (row : Row) (number : ℕ) →
     HasGrouped front entries links begin rows old before → left ≡ drop begin links → IsFirstAnchor left first → next ≡ begin + length first.own.now → row ≡ group_row front (group_of first) → number ≡ length rows →
     after ≡ before ++ group_leads front entries number (group_of first) → HasGrouped front entries links next (rows ++ row ∷ []) old after
+unfolding group_more
 grouped_more front entries links left begin next rows old before after first row number has back is next_is row_is counted added =
     let own_left : has.left ≡ first.own.now ++ first.more.now = sym (left_is links has.done has.left begin has.split has.count) ∙ sym back ∙ is.split in
+    let one = first_of left first is in
+    let other : IsOtherThanLast has.are.groups (anchor_at first.anchor) =
+    subst (IsOtherThanLast has.are.groups) one.leads (has.next one.link (one.rest ++ first.more.now) (own_left ∙ ap (λ (l : List MissingAnchorLink). l ++ first.more.now) one.are)) in
+    let grown = group_more front entries (map lack_of has.done) rows old before after (group_of first) row number has.are is.own other row_is counted added in
     record {
       done = has.done ++ first.own.now;
       left = first.more.now;
       split = has.split ∙ ap (λ (l : List MissingAnchorLink). has.done ++ l) own_left ∙ sym (append_assoc has.done first.own.now first.more.now);
       count = omega (arith, next_is, has.count, length-append has.done first.own.now);
-      are =
-          subst (λ (ls : List Lack). AreGrouped front entries ls (rows ++ row ∷ []) old after) (sym (map-append lack_of has.done first.own.now))
-          (group_more front entries (map lack_of has.done) rows old before after (group_of first) row number has.are is.own row_is counted added);
+      are = record {
+        groups = has.are.groups ++ group_of first ∷ [];
+        are = grown.are;
+        apart = grown.apart;
+        split = map-append lack_of has.done first.own.now ∙ grown.split;
+        exact = grown.exact;
+        leads = grown.leads;
+      };
+      next = λ link rest is_next. last_more has.are.groups (group_of first) (anchor_of (lack_of link)) (λ same. is.next link rest is_next (sym same));
     }
 
 pub grouped_all : (front : List ℕ) (entries : List (List ℕ)) (links left : List MissingAnchorLink) (begin : ℕ) (rows : List Row) (old new : List Lead) → left ≡ drop begin links → left ≡ [] → HasGrouped front entries links begin rows old new →
@@ -111,6 +158,38 @@ led anchor link is =
     let url = (bytes_eq-Decides link.anchor.url.now anchor.url).0 parts.0 in
     let fragment = (bytes_eq-Decides link.anchor.fragment.now anchor.fragment).0 parts.1 in
     λ i. record { url = url i; fragment = fragment i }
+
+nil_cons : {X : Type 0} (x : X) (xs : List X) → [] ≡ x ∷ xs → ⊥
+nil_cons x xs is = cc
+
+heads_same : {X : Type 0} (x y : X) (xs ys : List X) → x ∷ xs ≡ y ∷ ys → x ≡ y
+heads_same x y xs ys is = cc
+
+-- the first that does not pass
+past_len : {X : Type 0} (p : X → Bool) (xs : List X) (x : X) (rest : List X) → drop (prefix_len p xs) xs ≡ x ∷ rest → p x ≡ false
+past_len p [] x rest is = absurd (nil_cons x rest is)
+past_len p (y ∷ ys) x rest is =
+    elim (cases_Bool (p y)) [
+      | inl passes ↦
+          let at : prefix_len p (y ∷ ys) ≡ suc (prefix_len p ys) = cond-true (p y) (1 + prefix_len p ys) 0 passes ∙ omega arith in
+          past_len p ys x rest (ap (λ k. drop k (y ∷ ys)) (sym at) ∙ is)
+      | inr fails ↦
+          let at : prefix_len p (y ∷ ys) ≡ 0 = cond-false (p y) (1 + prefix_len p ys) 0 fails in
+          ap p (sym (heads_same y x ys rest (ap (λ k. drop k (y ∷ ys)) (sym at) ∙ is))) ∙ fails
+    ]
+
+past : {X : Type 0} (p : X → Bool) (xs : List X) (x : X) (rest : List X) → drop (length (take_while p xs)) xs ≡ x ∷ rest → p x ≡ false
+past p xs x rest is = past_len p xs x rest (ap (λ k. drop k xs) (sym (length-prefix_len p xs)) ∙ is)
+
+not_led : (anchor : Anchor) (link : MissingAnchorLink) → leads_to anchor link ≡ false → anchor_of (lack_of link) ≡ anchor → ⊥
+not_led anchor link other same =
+    let url = (bytes_eq-Decides link.anchor.url.now anchor.url).1 (ap (λ (a : Anchor). a.url) same) in
+    let fragment = (bytes_eq-Decides link.anchor.fragment.now anchor.fragment).1 (ap (λ (a : Anchor). a.fragment) same) in
+    let both : leads_to anchor link ≡ true = λ i. url i && fragment i in
+    true_false (sym both ∙ other)
+  where
+    true_false : true ≡ false → ⊥
+    true_false is = cc
 
 pub first_group : (links : List MissingAnchorLink) (first : MissingAnchorLink) (following : List MissingAnchorLink) (found : AnchorLinks) (n : ℕ) → links ≡ first ∷ following → found.anchor ≡ first.anchor →
     n ≡ length (take_while (leads_to (anchor_at first.anchor)) following) → found.own.now ≡ take (suc n) links → found.more.now ≡ drop (suc n) links → IsFirstAnchor links found
@@ -129,6 +208,10 @@ first_group links first following found n is anchor count own more =
         some = omega (arith, length-map found.own.now lack_of, ap length front);
         each = All-map (λ (lack : Lack). anchor_of lack ≡ anchor_at found.anchor) lack_of found.own.now all;
       };
+      next = λ link rest is_next.
+          not_led (anchor_at found.anchor) link
+          (subst (λ (a : Anchor). leads_to a link ≡ false) same
+          (past test following link rest (ap (λ k. drop k following) (sym count) ∙ (sym (ap (drop (suc n)) is) ∙ sym more) ∙ is_next)));
       less = omega (arith, ap length more, length-drop (suc n) links, ap length is);
     }
 
@@ -167,46 +250,3 @@ pub source_end : (links : List MissingAnchorLink) (i : ℕ) (last : Option ℕ) 
 source_end links i last count all past before =
     let none : sources_next last (map lack_of (drop i links)) ≡ 0 = ap (λ (l : List MissingAnchorLink). sources_next last (map lack_of l)) (drop_all i links past) ∙ no_source last in
     omega (arith, none, before)
-
--- ---- all anchors
-
-module _ (documents : List PageAnchors) (aliases : List Alias) (files : SiteFiles) (results : List PageResult) where
-  group_lacked : (lacks : List Lack) (group : Group) → All (IsLack documents aliases files results) lacks → IsGroup group → ((lack : Lack) → Contains group.lacks lack → Contains lacks lack) → IsLacked documents aliases files results group.anchor
-  group_lacked lacks group all is within =
-      let first = there group.lacks 0 is.some in
-      let own = slice_get_contains group.lacks 0 first.x first.at in
-      record {
-        lack = first.x;
-        is = All-contains (IsLack documents aliases files results) lacks first.x all (within first.x own);
-        leads = All-contains (λ (lack : Lack). anchor_of lack ≡ group.anchor) group.lacks first.x is.each own;
-      }
-
-  pub are_anchors : (front : List ℕ) (entries : List (List ℕ)) (taken : ℕ → Bool) (lacks : List Lack) (rows : List Row) (old new : List Lead) → ((n : ℕ) → taken n ≡ true) → AreLacks documents aliases files results taken lacks →
-      AreGrouped front entries lacks rows old new → AreAnchors front documents aliases files results rows
-  are_anchors front entries taken lacks rows old new all are grouped =
-      let groups = grouped.groups in
-      record {
-        anchors = map (λ (g : Group). g.anchor) groups;
-        each =
-            All-map (IsLacked documents aliases files results) (λ (g : Group). g.anchor) groups
-            (All-weaker (Contains groups) (λ (g : Group). IsLacked documents aliases files results g.anchor)
-            (λ g contained.
-            group_lacked lacks g are.each (All-contains IsGroup groups g grouped.are contained)
-            (λ lack own.
-            subst (λ (l : List Lack). Contains l lack) (sym grouped.split)
-            (contains_had (flat_map (λ (h : Group). h.lacks) groups) lack (flat_has (λ (h : Group). h.lacks) groups g lack (has_contained groups g contained) (has_contained g.lacks lack own)))))
-            groups (All-contains_itself groups));
-        whole = λ lack is.
-            let part =
-            has_flat (λ (h : Group). h.lacks) groups lack (subst (λ (l : List Lack). Has l lack) grouped.split (has_contained lacks lack (are.whole lack is (all lack.source)))) in
-            let group : Group = part.0 in
-            let contained : Contains groups group = contains_had groups group part.1 in
-            let own : IsGroup group = All-contains IsGroup groups group grouped.are contained in
-            let leads : anchor_of lack ≡ group.anchor = All-contains (λ (l : Lack). anchor_of l ≡ group.anchor) group.lacks lack own.each (contains_had group.lacks lack part.2) in
-            subst (Contains (map (λ (g : Group). g.anchor) groups)) (sym leads) (contains_map (λ (g : Group). g.anchor) groups group contained);
-        texts = ap (map (λ (row : Row). row.text)) grouped.exact ∙ both_texts groups;
-      }
-    where
-      both_texts : (gs : List Group) → map (λ (row : Row). row.text) (map (group_row front) gs) ≡ map (λ (a : Anchor). anchor_shown front a.url a.fragment) (map (λ (g : Group). g.anchor) gs)
-      both_texts [] = refl
-      both_texts (g ∷ gs) = ap (λ (l : List (List ℕ)). group_shown front g ∷ l) (both_texts gs)

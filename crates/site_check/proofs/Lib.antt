@@ -3,6 +3,7 @@ pub mod AllLacked
 pub mod AllPlaced
 pub mod AllReported
 pub mod AllRows
+pub mod AnchorCounts
 pub mod AnchorGroups
 pub mod Counting
 pub mod DocumentsFound

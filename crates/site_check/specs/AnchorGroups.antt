@@ -1,8 +1,10 @@
 -- The links to missing anchors, anchor by anchor, and the rows of the anchors.
 use Rattle.std.specs.Prelude.{◌≡◌, ◌==◌, ◌+◌, ◌<◌, ◌&&◌, ℕ, Bool, List, [], ◌∷◌, ◌++◌, All, if◌then◌else◌, length, map, Option, Some, None, bytes_eq, flat_map, string_bytes}
+use Rattle.std.specs.Ordering.{is_lt, nat_cmp, ordering_then}
+use Rattle.std.specs.declared.cmp.Ordering.{Ordering}
 use Rattle.site_check.specs.Broken.{Row, is_ignored}
 use Rattle.site_check.specs.LackedLinks.{lack_of}
-use Rattle.site_check.specs.Lacks.{Anchor, Lack, anchor_of, anchor_shown}
+use Rattle.site_check.specs.Lacks.{Anchor, Lack, anchor_cmp, anchor_of, anchor_shown}
 use Rattle.site_check.specs.Located.{listed}
 use Rattle.site_check.specs.declared.leads.Lead.{Lead}
 use Rattle.site_check.specs.declared.located.ListedLead.{ListedLead}
@@ -25,6 +27,12 @@ pub record Group : Type 0 where
 pub record IsGroup (group : Group) : Type 0 where
   pub some : 0 < length group.lacks
   pub each : All (λ lack. anchor_of lack ≡ group.anchor) group.lacks
+
+-- the links to an anchor come one after another
+abbrev pub AreApart : List Group → Type 0
+AreApart [] = Unit {0}
+AreApart (group ∷ []) = Unit {0}
+AreApart (group ∷ next ∷ more) = (group.anchor ≡ next.anchor → ⊥) × AreApart (next ∷ more)
 
 -- ---- what is reported of them
 
@@ -64,6 +72,7 @@ leads_from front entries number (group ∷ more) = group_leads front entries num
 pub record AreGrouped (front : List ℕ) (entries : List (List ℕ)) (lacks : List Lack) (rows : List Row) (old new : List Lead) : Type 0 where
   pub groups : List Group
   pub are : All IsGroup groups
+  pub apart : AreApart groups
   pub split : lacks ≡ flat_map (λ group. group.lacks) groups
   pub exact : rows ≡ map (group_row front) groups
   pub leads : new ≡ old ++ leads_from front entries 0 groups
@@ -75,6 +84,13 @@ pub record AddsGroups (front : List ℕ) (entries : List (List ℕ)) (lacks : Li
   pub is : new ≡ old ++ map (listed 1) found
 
 -- ---- how they are found
+
+-- by the anchors, and the links to an anchor by the results that have them
+abbrev pub lack_cmp : Lack → Lack → Ordering
+lack_cmp a b = ordering_then (anchor_cmp (anchor_of a) (anchor_of b)) (nat_cmp a.source b.source)
+
+abbrev pub comes_first : MissingAnchorLink → MissingAnchorLink → Bool
+comes_first a b = is_lt (lack_cmp (lack_of a) (lack_of b))
 
 abbrev pub anchor_row : MissingAnchor → Row
 anchor_row anchor = record { text = string_bytes anchor.text; pages = anchor.pages }
@@ -89,6 +105,7 @@ group_of links = record { anchor = anchor_at links.anchor; lacks = map lack_of l
 pub record IsFirstAnchor (all : List MissingAnchorLink) (first : AnchorLinks) : Type 0 where
   pub split : all ≡ first.own.now ++ first.more.now
   pub own : IsGroup (group_of first)
+  pub next : (link : MissingAnchorLink) (rest : List MissingAnchorLink) → first.more.now ≡ link ∷ rest → anchor_of (lack_of link) ≡ anchor_at first.anchor → ⊥
   pub less : length first.more.now < length all
 
 -- one, unless this result is the last one

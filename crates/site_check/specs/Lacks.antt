@@ -1,6 +1,11 @@
 -- Which anchors documents lack, and the links to them.
-use Rattle.std.specs.Prelude.{◌≡◌, ◌++◌, ◌∷◌, ℕ, Bool, false, true, List, All, Contains, map, Option, Some, slice_get}
+use Rattle.std.specs.Prelude.{◌≡◌, ◌++◌, ◌∷◌, ℕ, Bool, false, true, List, All, Contains, length, Option, Some, slice_get}
+use Rattle.std.specs.Cmp.Lexicographic.{slice_cmp}
+use Rattle.std.specs.List.{AllZip}
+use Rattle.std.specs.List.Sorted.{IsStrictlySortedBy}
+use Rattle.std.specs.Ordering.{nat_cmp, ordering_then}
 use Rattle.std.specs.Str.Lossy.{utf8_lossy}
+use Rattle.std.specs.declared.cmp.Ordering.{Ordering}
 use Rattle.crawl_pages.specs.declared.page.PageResult.{PageResult}
 use Rattle.document_links.specs.AnchorLinks.{IsLinkTo}
 use Rattle.document_links.specs.declared.anchors.PageAnchors.{PageAnchors}
@@ -47,18 +52,43 @@ pub record Anchor : Type 0 where
 abbrev pub anchor_of : Lack → Anchor
 anchor_of lack = record { url = lack.url; fragment = lack.fragment }
 
+-- by the URLs, and then by the texts after the `#`
+abbrev pub anchor_cmp : Anchor → Anchor → Ordering
+anchor_cmp a b = ordering_then (slice_cmp nat_cmp a.url b.url) (slice_cmp nat_cmp a.fragment b.fragment)
+
 -- a link leads to the anchor, which its document lacks
 pub record IsLacked (documents : List PageAnchors) (aliases : List Alias) (files : SiteFiles) (results : List PageResult) (anchor : Anchor) : Type 0 where
   pub lack : Lack
   pub is : IsLack documents aliases files results lack
   pub leads : anchor_of lack ≡ anchor
 
--- these are the rows of exactly the anchors to which such links lead
+-- the result with this number has such a link
+pub record HasLinkTo (documents : List PageAnchors) (aliases : List Alias) (files : SiteFiles) (results : List PageResult) (anchor : Anchor) (source : ℕ) : Type 0 where
+  pub lack : Lack
+  pub is : IsLack documents aliases files results lack
+  pub leads : anchor_of lack ≡ anchor
+  pub own : lack.source ≡ source
+
+-- this is the number of different results that have such a link
+pub record IsPageCount (documents : List PageAnchors) (aliases : List Alias) (files : SiteFiles) (results : List PageResult) (anchor : Anchor) (pages : ℕ) : Type 0 where
+  pub sources : List ℕ
+  pub once : IsStrictlySortedBy nat_cmp sources
+  pub each : All (HasLinkTo documents aliases files results anchor) sources
+  pub whole : (lack : Lack) → IsLack documents aliases files results lack → anchor_of lack ≡ anchor → Contains sources lack.source
+  pub counted : pages ≡ length sources
+
+-- the row of an anchor: its text, and the number of results that link to it
+pub record IsRowOf (front : List ℕ) (documents : List PageAnchors) (aliases : List Alias) (files : SiteFiles) (results : List PageResult) (anchor : Anchor) (row : Row) : Type 0 where
+  pub text : row.text ≡ anchor_shown front anchor.url anchor.fragment
+  pub pages : IsPageCount documents aliases files results anchor row.pages
+
+-- these are the rows of exactly the anchors to which such links lead, each once and in order
 pub record AreAnchors (front : List ℕ) (documents : List PageAnchors) (aliases : List Alias) (files : SiteFiles) (results : List PageResult) (rows : List Row) : Type 0 where
   pub anchors : List Anchor
+  pub in_order : IsStrictlySortedBy anchor_cmp anchors
   pub each : All (IsLacked documents aliases files results) anchors
   pub whole : (lack : Lack) → IsLack documents aliases files results lack → Contains anchors (anchor_of lack)
-  pub texts : map (λ row. row.text) rows ≡ map (λ anchor. anchor_shown front anchor.url anchor.fragment) anchors
+  pub rows_are : AllZip (IsRowOf front documents aliases files results) anchors rows
 
 -- ---- lists of links
 

@@ -126,7 +126,8 @@ pub fn check_site<'f, R: Threads + Sync, B: FileBytes + Sync>(
     // finds. The unused entries are those that match none of these and no location.
     ensures rows { IfOk result (λ checked. AreReported input.entry.front.now (map string_bytes input.entry.ignores.now) input.entry.scope input.entry.places.now input.entry.rooted input.entry.maps.now files.now results.now input.entry.found.now checked.broken.items (map string_bytes checked.unused_ignores.items)) }
     // If documents, aliases and results are in the order of their URLs, each URL once, the rows of anchors are those of exactly the anchors
-    // to which a link of a found page leads and that the document at its target lacks, without those that an entry matches.
+    // to which a link of a found page leads and that the document at its target lacks, each once and in the order of URLs and fragments,
+    // with the number of results that have such a link, and without those that an entry matches.
     ensures anchors { IfOk result (λ checked. AreInOrder input.entry.anchors.now input.entry.aliases.now results.now → ReportsAnchors input.entry.front.now (map string_bytes input.entry.ignores.now) input.entry.anchors.now input.entry.aliases.now files.now results.now checked.broken.items) }
     // Each location of a row is that of a link in what was read of the file of a page. If the row reports a missing page, the link leads to
     // it, directly or by a redirect.

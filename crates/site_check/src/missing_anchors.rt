@@ -1,8 +1,9 @@
 //! Links to anchors that documents lack, anchor by anchor.
 ghost use Rattle.std.specs.Prelude.{◌≡◌, ◌++◌, ◌+◌, ◌<◌, ◌^◌, [], IfOk, IsPermutation, MatchOption, OnOk, flat_map, length, map, string_bytes, take_while};
-ghost use Rattle.site_check.specs.AnchorGroups.{AreGrouped, IsFirstAnchor, anchor_at, anchor_row, group_leads, group_of, group_row, lack_lead, leads_to, one_unless, source_count};
+ghost use Rattle.std.specs.List.Sorted.{IsSortedBy};
+ghost use Rattle.site_check.specs.AnchorGroups.{AreGrouped, IsFirstAnchor, anchor_at, anchor_row, comes_first, group_leads, group_of, group_row, lack_cmp, lack_lead, leads_to, one_unless, source_count};
 ghost use Rattle.site_check.specs.LackedLinks.{lack_of};
-ghost use Rattle.site_check.specs.Lacks.{anchor_shown};
+ghost use Rattle.site_check.specs.Lacks.{anchor_cmp, anchor_shown};
 
 use crate::ignored::is_ignored;
 use crate::input::CheckInput;
@@ -22,7 +23,9 @@ pub(crate) struct Anchor<'a> {
 
 impl Anchor<'_> {
     /// Compares two anchors by their documents' URLs, and then by their fragments.
-    fn order(&self, other: &Anchor<'_>) -> Ordering {
+    fn order(&self, other: &Anchor<'_>) -> Ordering
+        ensures { result ≡ anchor_cmp (anchor_at self.now) (anchor_at other.now) }
+    {
         (self.url.as_str(), self.fragment).cmp(&(other.url.as_str(), other.fragment))
     }
 }
@@ -38,7 +41,9 @@ pub(crate) struct MissingAnchorLink<'a> {
 
 impl MissingAnchorLink<'_> {
     /// By anchors, and the links to an anchor by results.
-    fn order(&self, other: &MissingAnchorLink<'_>) -> Ordering {
+    fn order(&self, other: &MissingAnchorLink<'_>) -> Ordering
+        ensures { result ≡ lack_cmp (lack_of self.now) (lack_of other.now) }
+    {
         self.anchor
             .order(&other.anchor)
             .then(self.source.cmp(&other.source))
@@ -47,7 +52,8 @@ impl MissingAnchorLink<'_> {
 
 /// Sorts the links by their anchors, and the links to an anchor by the results that have them.
 pub(crate) fn sort_by_anchor(all: &mut Vec<MissingAnchorLink<'_>>) -> Result<(), NoMemory>
-    ensures { IsPermutation all.old.items all.new.items }
+    ensures permutation { IsPermutation all.old.items all.new.items }
+    ensures sorted { OnOk result (IsSortedBy comes_first all.new.items) }
 {
     all.sort_by(|a: &MissingAnchorLink<'_>, b: &MissingAnchorLink<'_>| a.order(b))
 }

@@ -48,4 +48,4 @@ returns-clause-anchors g c = λ s.
     let count = c.max-threads.result in
     let some : 0 < count = omega (arith, c.max-threads.ensures) in
     anchors_found pages.anchors.now pages.aliases.now site.files.now pages.results.now input.front.now (map string_bytes input.ignores.now) (AreSearchable site.files.now pages) count c.join-leads.result.1 c.in_ok-lacked.lacked c.sort_by_anchor.new.all.items
-    c.as_slice.result.now (map anchor_row c.in_ok-anchors.anchors.items) _ _ c.in_ok-lacked.was some c.join-leads.ensures.second c.sort_by_anchor.ensures c.as_slice.ensures.value c.in_ok-anchors.ensures.groups s
+    c.as_slice.result.now (map anchor_row c.in_ok-anchors.anchors.items) _ _ c.in_ok-lacked.was some c.join-leads.ensures.second c.sort_by_anchor.ensures.permutation c.in_ok-sort_by_anchor.ensures.sorted c.as_slice.ensures.value c.in_ok-anchors.ensures.groups s

@@ -1,9 +1,17 @@
 use Rattle.site_check.proofs.Prelude.{◌≡◌, ◌∙◌, ◌+◌, [], ◌∷◌, List, ap, arith, common_steps, length, length-map, map, refl, string_bytes, subst, sym}
 use Rattle.std.proofs.lemmas.List.{map-append}
-use Rattle.site_check.proofs.AnchorGroups.{HasGrouped, grouped_more}
+use Rattle.site_check.proofs.AnchorGroups.{HasGrouped, grouped_more, grouped_none}
 use Rattle.site_check.specs.AnchorGroups.{anchor_row}
 use Rattle.site_check.specs.Broken.{Row}
+use Rattle.site_check.specs.declared.missing_anchors.MissingAnchor.{MissingAnchor}
 use Rattle.site_check.proofs.missing_anchors.missing_anchors.Goals as goal
+
+pub anchors-init : goal.anchors-init
+anchors-init c =
+    let front = c.args.input.front.now in
+    let entries = map string_bytes c.args.input.ignores.now in
+    subst (λ (l : List MissingAnchor). HasGrouped front entries c.args.links.now 0 (map anchor_row l) c.args.leads.now.items c.args.leads.now.items) (sym c.new-anchors.ensures.items)
+    (grouped_none front entries c.args.links.now c.args.leads.now.items)
 
 pub anchors-preserved : goal.anchors-preserved
 anchors-preserved c =
