@@ -75,7 +75,7 @@ group_more front entries lacks rows old before after group row number are is oth
           ∙ ap (λ (l : List Lead). old ++ l) (sym (leads_after front entries 0 groups (group ∷ [])));
     }
 
--- the groups of the first links, so many of them
+-- the groups of the links before this index
 pub record HasGrouped (front : List ℕ) (entries : List (List ℕ)) (links : List MissingAnchorLink) (begin : ℕ) (rows : List Row) (old new : List Lead) : Type 0 where
   pub done : List MissingAnchorLink
   pub left : List MissingAnchorLink

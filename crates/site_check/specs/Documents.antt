@@ -45,7 +45,7 @@ kept_if documents is_taken r = if is_taken then kept_of documents r else None
 abbrev pub kept_by : List PageAnchors → (ℕ → Bool) → ℕ → PageResult → Option PageAnchors
 kept_by documents taken source r = kept_if documents (taken source) r
 
--- ---- where links lead
+-- ---- the targets of links
 
 -- a document, and the URL by which a link leads to it
 pub record DocumentAt : Type 0 where

@@ -24,7 +24,7 @@ abbrev pub links_to : ℕ → Anchors → ℕ → Option DocumentAt → List Tar
 links_to source anchors target None = []
 links_to source anchors target (Some to) = record { source = source; anchors = anchors; target = target; to = to } ∷ []
 
--- those to several targets, the first of which has this index. `lead` says where a target leads
+-- those to several targets, the first of which has this index. `lead` is the document to which a target leads
 abbrev pub links_to_each : (Target → Option DocumentAt) → ℕ → Anchors → ℕ → List Target → List TargetLinks
 links_to_each lead source anchors target [] = []
 links_to_each lead source anchors target (t ∷ more) = links_to source anchors target (lead t) ++ links_to_each lead source anchors (target + 1) more
@@ -56,7 +56,7 @@ lack_if l (Some link) = if is_indicated l.to.document.anchors.ids link.fragment 
 abbrev pub link_in : TargetLinks → ℕ → Option Link
 link_in l number = link_at l.anchors.links.items l.anchors.fragments.items number
 
--- those of so many links, the first of which has this number
+-- those of the given number of links, the first of which has this number
 abbrev pub lacks_from : TargetLinks → ℕ → ℕ → List Lack
 lacks_from l number zero = []
 lacks_from l number (suc more) = lack_if l (link_in l number) ++ lacks_from l (number + 1) more
