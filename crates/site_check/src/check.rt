@@ -220,7 +220,7 @@ fn sought_by<'p, R: Threads + Sync>(
         ensures { IfOk result (λ all. (all.items ≡ map (listed 0) (leads_from (number_in (targets_of input.entry.front.now (map string_bytes input.entry.ignores.now) (map result_at linked.entry.now))) (indices_in input.entry.places.now) 0 site.entry.pages.results.now)) × All (HasIndices site.entry.files.now.rules.now.places (number_in (targets_of input.entry.front.now (map string_bytes input.entry.ignores.now) (map result_at linked.entry.now))) (indices_in input.entry.places.now) input.entry.aliases.now) site.entry.pages.results.now) }
     { listed_leads(rt, alloc, input, site, linked) };
     let of_anchors = move || -> Result<Vec<MissingAnchorLink<'_>>, NoMemory>
-        ensures { IfOk result (λ all. 0 < threads.entry → AreSearchable site.entry.files.now site.entry.pages → AreLacks site.entry.pages.anchors.now site.entry.pages.aliases.now site.entry.files.now site.entry.pages.results.now is_any (map lack_of all.items)) }
+        ensures { IfOk result (λ all. 0 < threads → AreSearchable site.entry.files.now site.entry.pages → AreLacks site.entry.pages.anchors.now site.entry.pages.aliases.now site.entry.files.now site.entry.pages.results.now is_any (map lack_of all.items)) }
     { lacked_by(rt, alloc, site, threads) };
     let (leads, lacked) = join(rt, of_pages, of_anchors);
     let mut leads = leads?;
