@@ -20,15 +20,15 @@ no_page Leaves row is = refl
 no_page OutsideBase row is = refl
 no_page NotInMap row is = refl
 
-pub no_anchor : (kind : Kind) (text : List ℕ) → is_leaving kind ≡ true → if_anchor kind text ≡ []
-no_anchor NoPage text is = refl
-no_anchor NoAnchor text is = absurd (true≢false (sym is))
-no_anchor NotUrl text is = refl
-no_anchor UnknownScheme text is = refl
-no_anchor LocalFile text is = refl
-no_anchor Leaves text is = refl
-no_anchor OutsideBase text is = refl
-no_anchor NotInMap text is = refl
+pub no_anchor : (kind : Kind) (row : Row) → is_leaving kind ≡ true → if_anchor kind row ≡ []
+no_anchor NoPage row is = refl
+no_anchor NoAnchor row is = absurd (true≢false (sym is))
+no_anchor NotUrl row is = refl
+no_anchor UnknownScheme row is = refl
+no_anchor LocalFile row is = refl
+no_anchor Leaves row is = refl
+no_anchor OutsideBase row is = refl
+no_anchor NotInMap row is = refl
 
 pub no_text : (kind : Kind) (text : List ℕ) → is_leaving kind ≡ true → if_invalid kind text ≡ []
 no_text NoPage text is = refl
