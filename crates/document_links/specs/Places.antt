@@ -10,7 +10,7 @@ use Rattle.document_links.specs.declared.points.Point.{Point}
 use Rattle.document_links.specs.declared.text_kind.TextKind.{TextKind}
 use Rattle.document_links.specs.declared.text_kind.TextKind.TheVariants.{Document, StyleSheet, Feed, UrlList}
 use Rattle.html_links.specs.Positions.{needed_positions, positions_of, url_positions}
-use Rattle.document_links.specs.Encoding.{IsTextIn, has_mark, is_in_unicode, is_known, links_in, names_encoding}
+use Rattle.document_links.specs.Encoding.{IsTextIn, charset_of, has_mark, is_in_unicode, is_known, links_in, names_encoding}
 use Rattle.document_links.specs.Feeds.{feed_positions_of}
 use Rattle.document_links.specs.UrlLists.{url_line_positions}
 use Rattle.document_links.specs.Written.{clean}
@@ -83,9 +83,11 @@ pub record ArePlacesIn (kind : TextKind) (charset : Charset) (text indices : Lis
   pub positioned : is_known charset ≡ true → map position indices ≡ map (λ index. slice_index_or (positions_in kind text) index 0) indices
   pub written : is_known charset ≡ true → map (λ place. string_bytes place.written) places ≡ map (written_in kind text) indices
 
--- these are the locations in a file, by its text in some encoding. If all of it is ASCII, the text is the file itself
+-- these are the locations in a file, by its text in the encoding that `charset_of` says. If all of it is ASCII, the text is the file
+-- itself
 pub record ArePlaces (kind : TextKind) (file indices : List ℕ) (places : List TextPlace) : Type 0 where
   pub charset : Charset
+  pub defined : charset ≡ charset_of kind file
   pub marked : has_mark file ≡ true → charset ≡ Utf8
   pub unnamed : names_encoding kind file ≡ false → charset ≡ Utf8
   pub known : is_in_unicode kind ≡ true → is_known charset ≡ true

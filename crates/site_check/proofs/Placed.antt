@@ -102,6 +102,7 @@ one_place kind body leads places k one place are at_one at_place =
     let at_index : slice_get indices k ≡ Some one.lead.index = slice_get-map index_of leads k ∙ ap (λ o. option_map index_of o) at_one in
     record {
       charset = are.charset;
+      defined = are.defined;
       marked = are.marked;
       unnamed = are.unnamed;
       known = are.known;

@@ -4,16 +4,16 @@ use Rattle.document_links.specs.declared.charset.Charset.{Charset}
 use Rattle.document_links.specs.declared.charset.Charset.TheVariants.{Utf8}
 use Rattle.document_links.specs.declared.places.TextPlace.{TextPlace}
 use Rattle.document_links.specs.declared.text_kind.TextKind.{TextKind}
-use Rattle.document_links.specs.Encoding.{has_mark, is_in_unicode, is_known, names_encoding}
+use Rattle.document_links.specs.Encoding.{charset_of, has_mark, is_in_unicode, is_known, names_encoding}
 use Rattle.document_links.specs.Places.{ArePlaces, ArePlacesIn}
 use Rattle.document_links.proofs.places.text_places.Goals as goal
 
-of_text : {V E : Type 0} (items : V → List TextPlace) (kind : TextKind) (charset : Charset) (file indices text : List ℕ) (r : Result V E) →
+of_text : {V E : Type 0} (items : V → List TextPlace) (kind : TextKind) (charset : Charset) (file indices text : List ℕ) (r : Result V E) → charset ≡ charset_of kind file →
     (has_mark file ≡ true → charset ≡ Utf8) → (names_encoding kind file ≡ false → charset ≡ Utf8) → (is_in_unicode kind ≡ true → is_known charset ≡ true) →
     IsTextIn charset file text → (IsAscii file → text ≡ file) → IfOk r (λ places. ArePlacesIn kind charset text indices (items places)) → IfOk r (λ places. ArePlaces kind file indices (items places))
-of_text items kind charset file indices text (Ok places) marked unnamed known decoded ascii has =
-    record { charset = charset; marked = marked; unnamed = unnamed; known = known; text = text; decoded = decoded; ascii = ascii; has = has }
-of_text items kind charset file indices text (Err e) marked unnamed known decoded ascii has = tt
+of_text items kind charset file indices text (Ok places) defined marked unnamed known decoded ascii has =
+    record { charset = charset; defined = defined; marked = marked; unnamed = unnamed; known = known; text = text; decoded = decoded; ascii = ascii; has = has }
+of_text items kind charset file indices text (Err e) defined marked unnamed known decoded ascii has = tt
 
 pub returns-in-None : goal.returns-in-None
 returns-in-None c =
@@ -21,5 +21,5 @@ returns-in-None c =
     let charset = c.charset_of-charset.result in
     let decoded = subst (λ new. IsTextIn charset body (text_in body new)) c.in-None.is c.in_ok-text.ensures.text in
     of_text (λ places. places.items) c.args.kind charset body c.args.indices.now c.without_mark.result.now c.places_in-in-None.result
-    c.charset_of-charset.ensures.marked c.charset_of-charset.ensures.unnamed c.charset_of-charset.ensures.known
+    c.charset_of-charset.ensures.value c.charset_of-charset.ensures.marked c.charset_of-charset.ensures.unnamed c.charset_of-charset.ensures.known
     (subst (IsTextIn charset body) (sym c.without_mark.ensures.mark) decoded) c.without_mark.ensures.ascii c.places_in-in-None.ensures
