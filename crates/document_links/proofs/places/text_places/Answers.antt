@@ -1,5 +1,6 @@
-use Rattle.document_links.proofs.Prelude.{◌≡◌, ℕ, true, false, List, Result, IfOk, sym, subst, IsTextIn, text_in}
+use Rattle.document_links.proofs.Prelude.{◌≡◌, ◌∙◌, ℕ, true, false, List, Result, IfOk, sym, subst, IsTextIn, text_in}
 use Rattle.std.proofs.Common.{Ok, Err, IsAscii}
+use Rattle.std.specs.Prelude.{IfSome}
 use Rattle.document_links.specs.declared.charset.Charset.{Charset}
 use Rattle.document_links.specs.declared.charset.Charset.TheVariants.{Utf8}
 use Rattle.document_links.specs.declared.places.TextPlace.{TextPlace}
@@ -23,3 +24,14 @@ returns-in-None c =
     of_text (λ places. places.items) c.args.kind charset body c.args.indices.now c.without_mark.result.now c.places_in-in-None.result
     c.charset_of-charset.ensures.value c.charset_of-charset.ensures.marked c.charset_of-charset.ensures.unnamed c.charset_of-charset.ensures.known
     (subst (IsTextIn charset body) (sym c.without_mark.ensures.mark) decoded) c.without_mark.ensures.ascii c.places_in-in-None.ensures
+
+pub returns-in-Some : goal.returns-in-Some
+returns-in-Some c =
+    let body = c.args.body.now in
+    let charset = c.charset_of-charset.result in
+    let same = c.as_slice.ensures.value in
+    let decoded = subst (λ new. IsTextIn charset body (text_in body new)) c.in-Some.is c.in_ok-text.ensures.text in
+    of_text (λ places. places.items) c.args.kind charset body c.args.indices.now c.as_slice.result.now c.places_in.result
+    c.charset_of-charset.ensures.value c.charset_of-charset.ensures.marked c.charset_of-charset.ensures.unnamed c.charset_of-charset.ensures.known
+    (subst (IsTextIn charset body) (sym same) decoded)
+    (λ is. same ∙ subst (λ new. IfSome new (λ text. text.items ≡ body)) c.in-Some.is (c.in_ok-text.ensures.ascii is (c.charset_of-charset.ensures.ascii is))) c.places_in.ensures
