@@ -171,7 +171,7 @@ got=0
 expect "seeds from a pipe" 0 "@$data/moved.report" ""
 
 run crawl --seeds "$scratch/gone.seeds" "$data/moved.web"
-expect "a missing file of seeds" 1 "" "mercator: cannot read $scratch/gone.seeds"
+expect "a missing file of seeds" 1 "" "mercator: cannot read $scratch/gone.seeds (--seeds)"
 
 printf 'http://a.test/\n\nno seed\n' > "$scratch/bad.seeds"
 run crawl --seeds "$scratch/bad.seeds" "$data/moved.web" mailto:x

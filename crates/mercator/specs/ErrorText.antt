@@ -107,8 +107,8 @@ site_text file unsited.BadHost = codes "BASE: the host may contain only letters,
 site_text file unsited.NoFiles = file ++ codes ": no files"
 site_text file (unsited.List error) = codes "index: " ++ list_text error
 site_text file unsited.NoneListed = codes "index: no URL below BASE"
-site_text file (unsited.CannotReadMap folder) = codes "cannot read " ++ string_bytes folder ++ codes ": not a readable folder"
-site_text file (unsited.NoMapFiles folder) = string_bytes folder ++ codes ": no files"
+site_text file (unsited.CannotReadMap folder) = codes "cannot read " ++ string_bytes folder ++ codes ": not a readable folder (--map)"
+site_text file (unsited.NoMapFiles folder) = string_bytes folder ++ codes ": no files (--map)"
 site_text file unsited.BadSeed = codes "--seed: not a URL below BASE"
 site_text file (unsited.NoStart link) = string_bytes link ++ codes ": no such page to start at"
 site_text file unsited.NoDocuments = file ++ codes ": no HTML documents (if a generator makes the site, pass the folder that it writes)"
@@ -122,9 +122,9 @@ site_text file unsited.NoMemory = codes "out of memory"
 -- the text of an error about this file
 abbrev pub error_text : List ℕ → CommandError → List ℕ
 error_text file wrong.CannotRead = codes "cannot read " ++ file
-error_text file wrong.CannotReadSeeds = codes "cannot read " ++ file
-error_text file wrong.CannotReadIgnores = codes "cannot read " ++ file
-error_text file wrong.CannotReadIndex = codes "cannot read " ++ file
+error_text file wrong.CannotReadSeeds = codes "cannot read " ++ file ++ codes " (--seeds)"
+error_text file wrong.CannotReadIgnores = codes "cannot read " ++ file ++ codes " (--ignore)"
+error_text file wrong.CannotReadIndex = codes "cannot read " ++ file ++ codes " (--index)"
 error_text file wrong.CannotWrite = codes "cannot write"
 error_text file wrong.CannotFix = codes "cannot rewrite every file of " ++ file
 error_text file wrong.NoMemory = codes "out of memory"

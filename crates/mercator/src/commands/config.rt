@@ -124,7 +124,10 @@ fn unread(alloc: Global, name: &str, why: Unread) -> Result<PlanError, AllocErro
         return Ok(PlanError::NoMemory);
     }
     let name = shown(alloc, name)?;
-    bad_line(alloc, &["error: cannot read ", name.as_str()])
+    bad_line(
+        alloc,
+        &["error: cannot read the configuration file ", name.as_str()],
+    )
 }
 
 /// The error for a configuration file with this name.

@@ -28,12 +28,21 @@ impl fmt::Display for ErrorText<'_> {
 
     fn fmt<W: fmt::Write>(&self, f: &mut fmt::Formatter<W>) -> fmt::Result {
         match self.error {
-            CommandError::CannotRead
-            | CommandError::CannotReadSeeds
-            | CommandError::CannotReadIgnores
-            | CommandError::CannotReadIndex => {
+            CommandError::CannotRead => {
                 let file = self.file;
                 write!(f, "cannot read {file}")
+            }
+            CommandError::CannotReadSeeds => {
+                let file = self.file;
+                write!(f, "cannot read {file} (--seeds)")
+            }
+            CommandError::CannotReadIgnores => {
+                let file = self.file;
+                write!(f, "cannot read {file} (--ignore)")
+            }
+            CommandError::CannotReadIndex => {
+                let file = self.file;
+                write!(f, "cannot read {file} (--index)")
             }
             CommandError::CannotWrite => f.write_str("cannot write"),
             CommandError::CannotFix => {
@@ -277,9 +286,9 @@ impl fmt::Display for SiteText<'_> {
             FolderError::BadSeed => f.write_str("--seed: not a URL below BASE"),
             FolderError::CannotReadMap(folder) => write!(
                 f,
-                "cannot read {folder}: not a readable folder"
+                "cannot read {folder}: not a readable folder (--map)"
             ),
-            FolderError::NoMapFiles(folder) => write!(f, "{folder}: no files"),
+            FolderError::NoMapFiles(folder) => write!(f, "{folder}: no files (--map)"),
             FolderError::NoStart(link) => write!(f, "{link}: no such page to start at"),
             FolderError::NoDocuments => write!(
                 f,
