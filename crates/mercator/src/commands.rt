@@ -19,6 +19,7 @@ mod arguments;
 mod check_arguments;
 mod command_line;
 mod config;
+mod copied_lines;
 mod crawl_text;
 mod error;
 mod error_text;

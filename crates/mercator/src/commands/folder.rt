@@ -7,6 +7,7 @@ ghost use Rattle.mercator.specs.Outputs.{EndsBy, Gains, GainsAs, reports};
 ghost use Rattle.mercator.specs.declared.commands.error.CommandError.TheVariants as wrong;
 ghost use Rattle.mercator.specs.declared.commands.planned.Plan.TheVariants as asks;
 
+use crate::commands::copied_lines::advice_for;
 use crate::commands::error::CommandError;
 use crate::commands::fix::{fix_folder, print_fixes};
 use crate::commands::source::read_named;
@@ -89,6 +90,7 @@ fn report_check<R: Files<File: Send, Dir: Send> + Threads + Wait + Sync, O: Writ
     let report = report_of_folder(rt, alloc, options, urls, list.as_slice(), &mut notes);
     print_notes(alloc, err, &notes)?;
     let report = report?;
+    print_list_notes(alloc, err, ignores, list.as_slice())?;
     print_sitemap_note(err, report.lacks_sitemap);
     end(out, report.text.as_slice())?;
     Ok(report.is_broken)
@@ -150,6 +152,33 @@ pub fn print_notes<E: Write>(alloc: Global, err: &mut E, notes: &[Note]) -> Resu
         begin(err, line.as_bytes());
     }
     Ok(())
+}
+
+/// Prints a note for each line of the ignore list that is like a line of a report. A list that is not UTF-8 has no notes.
+fn print_list_notes<E: Write>(
+    alloc: Global,
+    err: &mut E,
+    ignores: &Option<String>,
+    list: &[u8],
+) -> Result<(), AllocError> {
+    let (Some(file), Ok(text)) = (ignores, str::from_utf8(list)) else {
+        return Ok(());
+    };
+    for (index, line) in without_mark(text).lines().enumerate() {
+        if let Some(advice) = advice_for(alloc, line.trim())? {
+            let number = index.saturating_add(1);
+            let reason = format!(in alloc; "line {number}: {advice}")?;
+            let reason = shown(alloc, reason.as_str())?;
+            let line = note_line(alloc, file.as_str(), reason.as_str())?;
+            begin(err, line.as_bytes());
+        }
+    }
+    Ok(())
+}
+
+/// The text without a byte order mark at the start.
+fn without_mark(text: &str) -> &str {
+    text.strip_prefix('\u{feff}').unwrap_or(text)
 }
 
 /// Prints a note if a check reports the documents that no sitemap lists, but no sitemap was read.

@@ -27,6 +27,12 @@ returns-in_err-report-clause-error g c = λ input.
     let same = err_from_is_err_and r.result r.ensures.1 in
     rw (same.1, same.2) (inl (site_fails c.args.options.now c.args.ignores.now c.in_err-report.field-0.0 c.in_err-report.ensures.incomplete, refl))
 
+pub returns-in_err-print_list_notes-clause-error : goal.returns-in_err-print_list_notes-clause-error
+returns-in_err-print_list_notes-clause-error g c = λ input.
+    let r = c.from_residual-in_err-print_list_notes in
+    let same = err_from_is_err_and r.result r.ensures.1 in
+    rw (same.1, same.2) (inl (tt, refl))
+
 pub returns-in_err-end-clause-error : goal.returns-in_err-end-clause-error
 returns-in_err-end-clause-error g c = λ input.
     let r = c.from_residual-in_err-end in
@@ -51,4 +57,4 @@ returns-clause-done g c = λ input.
       few = search rules;
       holds = subst (λ (list : List ℕ). IsFolderCheck c.args.options.now list report.is_broken report.text.items) c.as_slice.ensures.value c.in_ok-report.ensures.folder;
     } in
-    gains_as c.args.options.now c.args.ignores.now input report.is_broken report.text.items old new c.requires checked (subst (λ (text : List ℕ). Appends old new text) c.as_slice-2.ensures.value c.in_ok-end.ensures)
+    gains_as c.args.options.now c.args.ignores.now input report.is_broken report.text.items old new c.requires checked (subst (λ (text : List ℕ). Appends old new text) c.as_slice-3.ensures.value c.in_ok-end.ensures)
