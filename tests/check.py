@@ -43,7 +43,7 @@ from checking import archives, drawing, feed_twins, fixes, forms, loading, print
 from checking.documents import TOOL, form_of
 from checking.known import KNOWN, Known, To, Zeros
 from checking.known_fixes import FIXED, Fixed
-from checking.model import FLAGS, INDEX_FILES, LEADS_NOWHERE, LEADS_OUT, NO_INDEX_FILE, NOWHERE, Map, Model, Moved, Row, Settings, Site, is_short, last_of
+from checking.model import FLAGS, INDEX_FILES, LEADS_NOWHERE, LEADS_OUT, NO_INDEX_FILE, NOWHERE, Map, Model, Moved, Row, Settings, Site, is_short, name_of
 from checking.tags import document_tags
 from checking.webs import Converter, first_difference, model_error
 
@@ -54,7 +54,7 @@ SHOWN, LONGEST = 5, 4000  # the number of differences that a series prints, and 
 EVERY = 8  # one of this number of random folders has its other forms compared
 # What 1,000 random folders must have at least LEAST times
 KINDS = "brokenpage brokenanchor placepage placeanchor hint worst redirect unreached unlisted external unused with_aliases error in_sheets in_xml in_feeds".split()
-KINDS += "written hint_url hint_fallback hint_index_file hint_leads_out hint_leads_nowhere hint_no_index_file mapped question suggestion suggestion_in_other_case suggestion_in_other_form".split()
+KINDS += "written hint_url hint_fallback hint_index_file hint_leads_out hint_leads_nowhere hint_no_index_file mapped question suggestion suggestion_in_other_case suggestion_in_other_form suggested_folder".split()
 KINDS += "fixed_redirect fixed_name fixed_case fix_left fix_link".split()
 KINDS += [kind + reason for kind in ("invalid", "invalid_place") for reason in ("not_url", "unknown_scheme", "local_file")]
 KINDS += [kind + reason for kind in ("leaving", "leaving_place") for reason in ("above_folder", "outside_base", "not_in_map")]
@@ -507,9 +507,12 @@ def moved_error(program: str, seed: int, number: int, kinds: Counter[str]) -> Op
         return fix_error(program, made.settings, made.folder)
 
 
-def suggestion_kind(name: str, page: str) -> str:
-    """The kind of a suggestion, by the file names of the missing page and of the suggested one."""
-    return "suggestion" if name == page else "suggestion_in_other_case" if name.lower() == page.lower() else "suggestion_in_other_form"
+def suggestion_kinds(target: str, page: str) -> Iterator[str]:
+    """The kinds of a suggestion, by the missing page and the suggested one."""
+    name, own = name_of(target), name_of(page)
+    yield "suggestion" if name == own else "suggestion_in_other_case" if name.lower() == own.lower() else "suggestion_in_other_form"
+    if page.endswith("/") and name.lower() == own.lower():
+        yield "suggested_folder"
 
 
 def details(row: Row) -> Iterator[str]:
@@ -519,7 +522,7 @@ def details(row: Row) -> Iterator[str]:
     if row.get("hint"):
         yield HINT_KINDS.get(row["hint"]) or ("hint_fallback" if row["hint"].endswith(": --fallback html") else "hint_index_file")
     if row.get("same_name"):
-        yield suggestion_kind(last_of(row["target"]), last_of(row["same_name"]))
+        yield from suggestion_kinds(row["target"], row["same_name"])
     if row["kind"] == "place" and printing.question(row, row):
         yield "question"
     if row.get("written"):

@@ -400,13 +400,14 @@ def add_whole_links(draw: Random, top: Path) -> None:
 
 def in_other_case(draw: Random, name: str) -> str:
     """A path, or its last name, with its ASCII letters in another case."""
-    begin, change = draw.choice([0, name.rfind("/") + 1]), draw.choice([str.upper, str.lower, str.swapcase])
+    begin, change = draw.choice([0, name.rfind("/", 0, -1) + 1]), draw.choice([str.upper, str.lower, str.swapcase])
     return name[:begin] + "".join(change(letter) if letter.isascii() else letter for letter in name[begin:])
 
 
 def in_other_form(name: str) -> str:
-    """A folder in place of an HTML file, and a file in place of a folder with an index file."""
-    return name[:-len("/index.html")] + ".html" if name.endswith("/index.html") else name[:-len(".html")] + "/" if name.endswith(".html") else name + "/"
+    """A folder in place of an HTML file, and a file in place of a folder or its index file."""
+    ends = {"/index.html": ".html", ".html": "/", "/": ".html"}
+    return next((name[:-len(old)] + new for old, new in ends.items() if name.endswith(old)), name + "/")
 
 
 # Links that lack a scheme or a part of it, and others that are like them
@@ -417,13 +418,14 @@ INCOMPLETE = [
 
 
 def add_misspelled_links(draw: Random, top: Path) -> None:
-    """Adds a document with incomplete links, and with links to files in another case or form, some of them to other folders than these are in."""
+    """Adds a document with incomplete links, and with links to files and folders in another case or form, some of them to other folders than these are in."""
     names = sorted(os.path.relpath(path, top) for path in top.rglob("*") if path.is_file())
+    names += sorted({os.path.dirname(name) + "/" for name in names} - {"/"})
     place, links = draw.choice(["", "", "sub/"]), draw.sample(INCOMPLETE, draw.randint(2, 6))
     for _ in range(draw.randint(1, 8)):
         name = draw.choice(names)
         name = in_other_form(name) if draw.random() < 0.3 else in_other_case(draw, name)
-        name = draw.choice([name, name, name.rpartition("/")[2], "old/" + name])
+        name = draw.choice([name, name, name[name.rfind("/", 0, -1) + 1:], "old/" + name])
         links.append("../" * place.count("/") + spelled(draw, name) + draw.choice(ENDS[:12]))
     write(top / place / "misspelled.html", "".join(f'<a href="{html.escape(link)}">' for link in links).encode("utf-8", "replace"))
 
@@ -449,8 +451,9 @@ def move_files(draw: Random, top: Path, root: str) -> None:
             new.parent.mkdir(parents=True, exist_ok=True)
             path.rename(new)
             names.append(draw.choice(["", "", "old/", "sub/"]) + new.name if draw.random() < 0.5 else path.relative_to(top).as_posix())
-    names += 2 * sorted(os.path.relpath(path.parent, top) for path in top.rglob("index.html") if path.parent != top)
-    kept = [path.relative_to(top).as_posix() for path in files if path.is_file()]
+    folders = sorted(os.path.relpath(path.parent, top) for path in top.rglob("index.html") if path.parent != top)
+    names += 2 * folders
+    kept = [path.relative_to(top).as_posix() for path in files if path.is_file()] + folders
     names += [in_other_case(draw, name) for name in draw.sample(kept, min(len(kept), draw.choice([0, 0, 1, 2])))]
     for place in draw.sample(["", "sub/", "fixed/deep/", "moved/"], draw.randint(1, 3)):
         text = draw.choice(MOVED_HEADS).format(draw.choice(BASES)) + "".join(moved_link(draw, names, place, root) for _ in range(draw.randint(1, 8)))

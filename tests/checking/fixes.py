@@ -73,7 +73,7 @@ class Fixer:
 
         The candidate has the same file name, or the same path in another case. With the query of the link, the server returns the same file.
         """
-        is_named = last_of(url) == last_of(candidate) or in_lower_case(url.partition("?")[0]) == in_lower_case(candidate)
+        is_named = last_of(url) == last_of(candidate) != "" or in_lower_case(url.partition("?")[0]) == in_lower_case(candidate)
         is_outside = self.model.settings.is_rooted() and any((place["written"] or "").startswith(("/", "\\")) for place in places)
         files = [self.site.served(one) for one in (candidate, with_query_of(url, candidate))]
         is_same = all(isinstance(one, (Found, Alias)) for one in files) and len({one.name for one in files if isinstance(one, (Found, Alias))}) == 1

@@ -96,17 +96,18 @@ FOLDERS = {
 SUGGESTED: Dict[str, Optional[str]] = {
     "old/a.html": "n/a.html", "b.html": None, "c.html?x": "n/c.html", "gone.html": None, "n/": None, "x/sub": None, "N/A.html": "n/a.html", "c.HTML?x": "n/c.html",
     "img/LOGO.png": "img/logo.png", "M/B.html": None, "x/readme.html": "o/readme.html", "x/README.html": "README.html", "Readme.html": None, "x/Sub": None, "x/index.html": None,
-    "x/Index.html": None, "x/INDEX.htm": "o/index.htm", "%C3%BC.html": None, "x/%c3%9c.HTML": "%C3%9C.html", "x/e.HTML/": None,
+    "x/Index.html": None, "x/INDEX.htm": "o/index.htm", "%C3%BC.html": None, "x/%c3%9c.HTML": "%C3%9C.html", "x/e.HTML/": "e.html", "Q/": "q/", "x/q/": "q/", "x/q/?y": "q/", "Q": "q/", "x/Q.HTML": None,
+    "T/": None, "T/U/": "t/u/", "x/U": "t/u/", "w/t": None, "p/t/": None, "X/T": None, "v/": "o/v",
 }
 NAMESAKES: Dict[str, Union[str, bytes, To, Zeros]] = {
     "index.html": "\n".join(f"<a href={link}>" for link in SUGGESTED),
-    **{name: "" for name in "n/a.html m/b.html n/b.html n/c.html sub/x.png img/logo.png README.html o/readme.html q/index.html o/index.htm \u00dc.html e.html".split()},
+    **{name: "" for name in "n/a.html m/b.html n/b.html n/c.html sub/x.png img/logo.png README.html o/readme.html q/index.html o/index.htm \u00dc.html e.html t/index.html t/u/index.html p/t o/v".split()},
 }
 
 
 # Missing pages, and the page in another form that is suggested for each
 OTHER_FORMS: Dict[str, Optional[str]] = {
-    "guide/use.html": "guide/use/", "a/": "a.html", "b.html": None, "b/": None, "x/index.html": "x/index/", "c.html?q": "c/", "d/?y": "d.html", "n/f.html": "o/f.html", "f.html/": None,
+    "guide/use.html": "guide/use/", "a/": "a.html", "b.html": None, "b/": None, "x/index.html": "x/index/", "c.html?q": "c/", "d/?y": "d.html", "n/f.html": "o/f.html", "f.html/": "o/f.html",
     "use.htm": None, "guide/Use.html": None, "h.html": "h/", "g.html": None,
 }
 FORMS_OF_PAGES: Dict[str, Union[str, bytes, To, Zeros]] = {

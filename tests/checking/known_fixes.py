@@ -40,6 +40,8 @@ FIXED = [
     page("the same path in another case", "<a href=NEW/a.HTML><a href='New/B.png?x#y'>", "<a href=new/a.html><a href='new/b.png?x#y'>"),
     page("the same name in another case, in another folder", "<a href=A.html><a href=old/B.png>", "<a href=A.html><a href=old/B.png>"),
     page("the same name in the same case, in a folder in another case", "<a href=New/a.html><a href=x/C.html>", "<a href=new/a.html><a href=o/C.html>", 0, "o/C.html", "c.html"),
+    page("a folder in another case", "<a href=D/><a href='D/?x#y'><a href=D><a href=NEW/E/>", "<a href=d/><a href='d/?x#y'><a href=D><a href=new/e/>", 0, "new/e/index.html"),
+    page("a folder of the same name in another folder", "<a href=old/d/><a href=old/D/><a href=old/d>", "<a href=old/d/><a href=old/D/><a href=old/d>"),
     page("two pages in another case", "<a href=e.html><a href=NEW/A.html>", "<a href=e.html><a href=NEW/A.html>", 0, "E.html", "E.HTML", "o/A.HTML"),
     page("a suggestion that is an index file", "<a href=e/index.htm>", "<a href=e/index.htm>", 0, "f/index.htm"),
     page("character references", "<a href='old/a&#46;html'><a href=old/a.html>", "<a href='old/a&#46;html'><a href=new/a.html>", 1),

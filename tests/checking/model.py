@@ -253,6 +253,11 @@ def last_of(url: str) -> str:
     return re.split("[?]", url)[0].rpartition("/")[2]
 
 
+def name_of(url: str) -> str:
+    """The name of the file or folder at the end of a URL's path, after which there may be a slash."""
+    return re.split("[?]", url)[0].removesuffix("/").rpartition("/")[2]
+
+
 def in_lower_case(text: str) -> bytes:
     """A text with its ASCII letters in lower case. No other letter is changed."""
     return text.encode("utf-8", "surrogateescape").lower()
@@ -620,9 +625,9 @@ class Model:
         self.settings, self.site = settings, site or Site(folder, settings)
         self.mapped = Mapped(settings)
         self.files = {url: self.site.file_of(name) for url, name in self.site.pages()}  # the file of each page
-        self.namesakes: Dict[bytes, List[Namesake]] = {}  # the pages by their file names in lower case
+        self.namesakes: Dict[bytes, List[Namesake]] = {}  # the pages by their names in lower case
         for url, file in self.files.items():
-            self.namesakes.setdefault(in_lower_case(last_of(url)), []).append(Namesake(url, file))
+            self.namesakes.setdefault(in_lower_case(name_of(url)), []).append(Namesake(url, file))
         self.responses: Dict[str, Response] = {}
         self.others: Dict[str, Response] = {}  # of URLs of the site's origin that are not below the top
         self.links: Dict[str, List[Link]] = {}  # by the own URL of each file
@@ -941,10 +946,10 @@ class Model:
         return None if file is None else Namesake(self.settings.front + other, file)
 
     def namesake(self, url: str) -> Optional[Namesake]:
-        """The only page with the file name of a URL or, if no page has that, the only one with it in another case."""
-        name = last_of(url)
+        """The only page with the name of a URL or, if no page has that, the only one with it in another case."""
+        name = name_of(self.shown(url))
         pages = self.namesakes.get(in_lower_case(name), []) if name else []
-        found = [page for page in pages if last_of(page.url) == name] or pages
+        found = [page for page in pages if name_of(page.url) == name] or pages
         return found[0] if len(found) == 1 else None
 
     def unreached(self) -> Iterator[str]:

@@ -50,6 +50,7 @@ EDITS: Tuple[Edit, ...] = (
     Edit("site_check.Broken", "matches entry text = if list_any is_star entry then fits entry text else begins entry text", "matches entry text = if list_any is_star entry then fits entry text else bytes_eq entry text"),
     Edit("site_check.Names", "if has_place_in (unwrap_or (name_at files index) []) places then None else", "if false then None else"),
     Edit("site_check.Names", "name_among front files places [] others = only_name front files places others", "name_among front files places [] others = None"),
+    Edit("site_check.Names", "last_name url = after_slashes (without_slash (before_query url))", "last_name url = after_slashes (before_query url)"),
     Edit("site_check.Names", 'folder_form front files places path = if ends (codes "/") path then', "folder_form front files places path = if false then"),
     Edit("site_check.Totals", "links_in (Found links skipped) = length links + skipped", "links_in (Found links skipped) = length links"),
     Edit("site_check.Totals", "if test b.kind then max (length b.places.items) 1 else 0", "if test b.kind then length b.places.items else 0"),

@@ -15,7 +15,7 @@ from definitions.values import NONE, Record, Value, items, listed, reference, so
 
 KEPT = (
     "site_files.Pages.pages", "site_files.Hints.home_pages", "site_files.Files.pages_of", "html_links.Seen.seen_in", "site_check.Worst.files_in",
-    "site_files.Files.server_of", "site_files.Entries.host_of", "site_check.Names.last_part",
+    "site_files.Files.server_of", "site_files.Entries.host_of", "site_check.Names.last_part", "site_check.Names.last_name",
 )
 # The kinds of files, and the forms that the model has for them
 KINDS = {"Html": "html", "Xml": "xml", "Svg": "xml", "Style": "css", "Feed": "feed", "UrlList": "list", "Unknown": ""}

@@ -4,7 +4,7 @@ use Rattle.std.proofs.Common.{◌-◌, codes}
 use Rattle.std.proofs.Math.Seq.{drop-append_seam, take-append_seam}
 use Rattle.std.specs.Str.Pattern.{FindsTextSuffix, StripsSuffix}
 use Rattle.check_report.specs.declared.value.Place.{Place}
-use Rattle.site_check.specs.Names.{ends, folder_form, other_form, page_at, without_end}
+use Rattle.site_check.specs.Names.{ends, folder_form, other_form, page_at, without_end, without_slash}
 
 -- ---- suffixes
 
@@ -26,6 +26,16 @@ ends_not suffix text lacks =
       | inl with ↦ absurd (lacks (take n text) (sym (take-append-drop n text) ∙ ap (λ t. take n text ++ t) ((bytes_eq-Decides (drop n text) suffix).0 with)))
       | inr without ↦ without
     ]
+
+-- ---- paths of folders
+
+pub slash_cut : (path rest : List ℕ) → StripsSuffix (FindsTextSuffix (codes "/")) path rest → rest ≡ without_slash path
+slash_cut path rest strips =
+    let parts = ends_with (codes "/") path rest strips in
+    sym parts.1 ∙ sym (cond-true (ends (codes "/") path) _ _ parts.0)
+
+pub no_slash : (path : List ℕ) → FindsTextSuffix (codes "/") path None → path ≡ without_slash path
+no_slash path lacks = sym (cond-false (ends (codes "/") path) _ _ (ends_not (codes "/") path lacks))
 
 -- ---- forms
 

@@ -1,4 +1,4 @@
--- What is known of the pages that have a file name.
+-- What is known of the pages that have a name.
 use Rattle.site_check.proofs.Prelude.{common_steps, ◌≡◌, ◌∙◌, ℕ, zero, suc, ◌+◌, ◌<◌, arith, Bool, true, false, cond, List, [], ◌∷◌, ◌++◌, filter, take, get_or, length, slice_get, Option, Some, None, refl, sym, ap, subst, cases_Bool, cond-true, cond-false, filter_more, inl, inr, bytes_eq-Decides, get_or_from_slice_get, Bor, list_any, bytes_eq, PageFile, SiteFiles, is_slash, after_slashes, Names, named_at, IsKnown, known_with, known_at, only_name, Vec, Global}
 use Rattle.std.proofs.Common.{true≢false}
 use Rattle.std.proofs.lemmas.Map.Text.{is_eq-slice_cmp}

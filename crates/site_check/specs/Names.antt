@@ -1,4 +1,4 @@
--- The page of a site that has the file name of one that is not there.
+-- The page of a site that has the name of one that is not there.
 use Rattle.std.specs.Prelude.{◌≡◌, ◌==◌, ◌-◌, ◌++◌, ℕ, Bool, ◌&&◌, if◌then◌else◌, List, [], ◌∷◌, codes, drop, take, length, map, filter, Option, Some, None, is_some, slice_get, unwrap_or, string_bytes, option_map, bytes_eq, Vec}
 use Rattle.std.specs.Borrow.{Bor}
 use Rattle.std.specs.BTreeMap.{BTreeMap, get_by}
@@ -33,13 +33,29 @@ after_slashes (b ∷ bs) = if list_any is_slash (b ∷ bs) then after_slashes bs
 abbrev pub last_part : List ℕ → List ℕ
 last_part url = after_slashes (before_query url)
 
+-- the text ends with the suffix
+abbrev pub ends : List ℕ → List ℕ → Bool
+ends suffix text = bytes_eq (drop (length text - length suffix) text) suffix
+
+-- the text without the bytes of a suffix at its end
+abbrev pub without_end : List ℕ → List ℕ → List ℕ
+without_end suffix text = take (length text - length suffix) text
+
+-- the path without a slash at its end
+abbrev pub without_slash : List ℕ → List ℕ
+without_slash path = if ends (codes "/") path then without_end (codes "/") path else path
+
+-- the name that a URL ends with: that of a file, or that of a folder, after which there may be a slash
+abbrev pub last_name : List ℕ → List ℕ
+last_name url = after_slashes (without_slash (before_query url))
+
 -- the page is made of a file, and its URL ends with this name
 abbrev pub has_name : List ℕ → PageFile → Bool
-has_name name page = is_some page.file && bytes_eq (last_part page.url) name
+has_name name page = is_some page.file && bytes_eq (last_name page.url) name
 
--- the file name that the URL of a page ends with, in lower case
+-- the name that the URL of a page ends with, in lower case
 abbrev pub lower_name : PageFile → List ℕ
-lower_name page = str_to_ascii_lowercase (last_part page.url)
+lower_name page = str_to_ascii_lowercase (last_name page.url)
 
 -- the page is made of a file, and this is the name in lower case
 abbrev pub has_lower_name : List ℕ → PageFile → Bool
@@ -69,19 +85,11 @@ abbrev pub name_for_part : List ℕ → SiteFiles → List Place → List ℕ �
 name_for_part front files places name =
     name_among front files places (filter (has_name name) (pages_of files)) (filter (has_lower_name (str_to_ascii_lowercase name)) (pages_of files))
 
--- that for the file name of a target, if it has one
+-- that for the name that a target ends with, if there is one
 abbrev pub named_page : List ℕ → SiteFiles → List Place → List ℕ → Option (List ℕ)
-named_page front files places target = if length (last_part target) == 0 then None else name_for_part front files places (last_part target)
+named_page front files places target = if length (last_name target) == 0 then None else name_for_part front files places (last_name target)
 
 -- ---- a page in another form
-
--- the text ends with the suffix
-abbrev pub ends : List ℕ → List ℕ → Bool
-ends suffix text = bytes_eq (drop (length text - length suffix) text) suffix
-
--- the text without the bytes of a suffix at its end
-abbrev pub without_end : List ℕ → List ℕ → List ℕ
-without_end suffix text = take (length text - length suffix) text
 
 -- the page at this URL, if a file has it, unless one of the places is in that
 abbrev pub page_at : List ℕ → SiteFiles → List Place → List ℕ → Option (List ℕ)
@@ -98,7 +106,7 @@ other_form front files places path =
     then page_at front files places (front ++ without_end (codes ".html") path ++ codes "/")
     else folder_form front files places path
 
--- what is reported with a target whose links are at these positions: the page by its file name, or else in another form
+-- what is reported with a target whose links are at these positions: the page by its name, or else in another form
 abbrev pub same_name : List ℕ → SiteFiles → List ℕ → List Place → Option (List ℕ)
 same_name front files target places = option_or (named_page front files places target) (other_form front files places (before_query target))
 

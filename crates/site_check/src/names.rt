@@ -1,8 +1,8 @@
-//! Pages with the file name of one that is not there, in the same case or in another.
+//! Pages with the name of one that is not there, in the same case or in another.
 ghost use Rattle.std.specs.Prelude.{◌≡◌, ◌∷◌, ◌++◌, [], ℕ, List, None, Some, filter, if◌then◌else◌, IfOk, MatchOption, OnOk, slice_get, string_bytes, unwrap_or, option_copied, option_map, bytes_eq};
 ghost use Rattle.std.specs.Str.{str_to_ascii_lowercase};
 ghost use Rattle.site_files.specs.Files.{PageFile, page_file, pages_of};
-ghost use Rattle.site_check.specs.Names.{AreKnown, AreNames, IsKnown, after_slashes, has_lower_name, has_name, is_slash, known_at, known_with, last_part, lower_at, name_for_part, named_at, named_page, only_name, name_of_page, other_form, folder_form, page_at, same_name, has_place_in};
+ghost use Rattle.site_check.specs.Names.{AreKnown, AreNames, IsKnown, after_slashes, has_lower_name, has_name, is_slash, known_at, known_with, last_name, last_part, lower_at, name_for_part, named_at, named_page, only_name, name_of_page, other_form, folder_form, page_at, same_name, has_place_in, without_slash};
 
 use crate::shown::shown;
 use check_report::Place;
@@ -11,7 +11,7 @@ use site_files::{SiteFiles, before_query};
 use std::alloc::Global;
 use std::collections::BTreeMap;
 
-/// Which pages of a site have a file name.
+/// Which pages of a site have a name, which is that of the file or folder at the end of their URLs.
 #[derive(Clone, Copy)]
 pub(crate) enum Namesakes {
     /// The page with this number.
@@ -19,13 +19,13 @@ pub(crate) enum Namesakes {
     Several,
 }
 
-/// The pages that are made of files, by their file names.
+/// The pages that are made of files, by their names.
 type Names<'a> = BTreeMap<&'a [u8], Namesakes>;
 
-/// The same by their file names in lower case.
+/// The same by their names in lower case.
 type LowerNames = BTreeMap<Vec<u8>, Namesakes>;
 
-/// The files of a site, and its pages by their file names: as these are, and in lower case.
+/// The files of a site, and its pages by their names: as these are, and in lower case.
 #[derive(Clone, Copy)]
 pub(crate) struct Named<'a, 'f> {
     pub(crate) files: &'a SiteFiles<'f>,
@@ -33,7 +33,7 @@ pub(crate) struct Named<'a, 'f> {
     pub(crate) lower: &'a LowerNames,
 }
 
-/// The pages of a site by their file names.
+/// The pages of a site by their names.
 #[tactic(auto, using(crate::proofs::Namesakes::names_more))]
 pub(crate) fn names_of<'a>(alloc: Global, files: &'a SiteFiles<'_>) -> Result<Names<'a>, NoMemory>
     ensures { IfOk result (λ names. AreKnown has_name files.now (named_at names)) }
@@ -45,7 +45,7 @@ pub(crate) fn names_of<'a>(alloc: Global, files: &'a SiteFiles<'_>) -> Result<Na
     Ok(names)
 }
 
-/// Adds the page with this number under its file name, if there is such a page and it is made of a file.
+/// Adds the page with this number under its name, if there is such a page and it is made of a file.
 fn add_page<'a>(
     names: &mut Names<'a>,
     files: &'a SiteFiles<'_>,
@@ -73,14 +73,14 @@ fn add_file<'a>(
 {
     match file {
         Some(_) => {
-            add_name(names, last_part(url), number)?;
+            add_name(names, last_name(url), number)?;
             Ok(())
         }
         None => Ok(()),
     }
 }
 
-/// Adds a page with this file name. A name that was added before means several pages from then on.
+/// Adds a page with this name. A name that was added before means several pages from then on.
 fn add_name<'a>(names: &mut Names<'a>, name: &'a [u8], number: usize) -> Result<(), NoMemory>
     ensures { OnOk result ((other : List ℕ) → named_at names.new other ≡ (if bytes_eq name.now other then Some (known_with (named_at names.old other) number) else named_at names.old other)) }
 {
@@ -89,7 +89,7 @@ fn add_name<'a>(names: &mut Names<'a>, name: &'a [u8], number: usize) -> Result<
     Ok(())
 }
 
-/// The pages of a site by their file names in lower case.
+/// The pages of a site by their names in lower case.
 #[tactic(auto, using(crate::proofs::Namesakes::names_more))]
 pub(crate) fn lower_names_of(alloc: Global, files: &SiteFiles<'_>) -> Result<LowerNames, NoMemory>
     ensures { IfOk result (λ names. AreKnown has_lower_name files.now (lower_at names)) }
@@ -101,7 +101,7 @@ pub(crate) fn lower_names_of(alloc: Global, files: &SiteFiles<'_>) -> Result<Low
     Ok(names)
 }
 
-/// Adds the page with this number under its file name in lower case, if there is such a page and it is made of a file.
+/// Adds the page with this number under its name in lower case, if there is such a page and it is made of a file.
 fn add_lower_page(
     alloc: Global,
     names: &mut LowerNames,
@@ -119,7 +119,7 @@ fn add_lower_page(
     }
 }
 
-/// Adds a page at a URL under its file name in lower case, if it is made of a file.
+/// Adds a page at a URL under its name in lower case, if it is made of a file.
 fn add_lower_file(
     alloc: Global,
     names: &mut LowerNames,
@@ -131,7 +131,7 @@ fn add_lower_file(
 {
     match file {
         Some(_) => {
-            let name = last_part(url).to_ascii_lowercase(alloc)?;
+            let name = last_name(url).to_ascii_lowercase(alloc)?;
             add_lower_name(names, name, number)?;
             Ok(())
         }
@@ -139,7 +139,7 @@ fn add_lower_file(
     }
 }
 
-/// Adds a page with this file name in lower case. A name that was added before means several pages from then on.
+/// Adds a page with this name in lower case. A name that was added before means several pages from then on.
 fn add_lower_name(names: &mut LowerNames, name: Vec<u8>, number: usize) -> Result<(), NoMemory>
     ensures { OnOk result ((other : List ℕ) → lower_at names.new other ≡ (if bytes_eq name.items other then Some (known_with (lower_at names.old other) number) else lower_at names.old other)) }
 {
@@ -158,7 +158,7 @@ fn known_with(known: Option<&Namesakes>, number: usize) -> Namesakes
     }
 }
 
-/// What is reported with a target whose links are at these positions: the page with its file name, or else the page in another form.
+/// What is reported with a target whose links are at these positions: the page with its name, or else the page in another form.
 pub(crate) fn same_name(
     alloc: Global,
     front: &str,
@@ -175,8 +175,8 @@ pub(crate) fn same_name(
     }
 }
 
-/// The only page of the site with the file name of a target, unless one of the places is in its file. If no page has the name, the only
-/// one counts that has it in another case.
+/// The only page of the site with the name of a target, unless one of the places is in its file. If no page has the name, the only one
+/// counts that has it in another case.
 fn named_page(
     alloc: Global,
     front: &str,
@@ -187,7 +187,7 @@ fn named_page(
     requires { AreNames named.files.now named.exact.now named.lower.now }
     ensures { IfOk result (λ found. option_map string_bytes found ≡ named_page front.now named.entry.files.now places.now target.now) }
 {
-    let name = last_part(target);
+    let name = last_name(target);
     if name.is_empty() {
         return Ok(None);
     }
@@ -361,6 +361,24 @@ pub(crate) fn last_part(url: &str) -> &[u8]
     ensures { result.now ≡ last_part url.now }
 {
     after_slashes(before_query(url).as_bytes())
+}
+
+/// The name of the file or folder that a URL ends with. There may be a slash after that of a folder.
+fn last_name(url: &str) -> &[u8]
+    ensures { result.now ≡ last_name url.now }
+{
+    after_slashes(without_slash(before_query(url)).as_bytes())
+}
+
+/// The path without a slash at its end.
+#[tactic(auto, using(crate::proofs::Forms::slash_cut, crate::proofs::Forms::no_slash))]
+fn without_slash(path: &str) -> &str
+    ensures { result.now ≡ without_slash path.now }
+{
+    match path.strip_suffix("/") {
+        Some(rest) => rest,
+        None => path,
+    }
 }
 
 /// What follows the last slash, or all.
