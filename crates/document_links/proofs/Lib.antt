@@ -2,6 +2,8 @@ pub mod After
 pub mod Encoded
 pub mod Feeding
 pub mod Fitting
+pub mod Leading
+pub mod Locating
 pub mod Marking
 pub mod Occurrences
 pub mod Parsing

@@ -3,6 +3,7 @@ pub mod Anchors
 pub mod Charsets
 pub mod Encoding
 pub mod Feeds
+pub mod LinkUrls
 pub mod Markup
 pub mod Places
 pub mod Prescan

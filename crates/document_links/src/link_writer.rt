@@ -4,7 +4,7 @@ ghost use Rattle.std.specs.Char.{is_ascii};
 ghost use Rattle.std.specs.List.{list_all};
 ghost use Rattle.html_links.specs.Reads.{base_at};
 ghost use Rattle.document_links.specs.Texts.{fits, is_plain};
-ghost use Rattle.document_links.specs.Written.{AreWritten, IsOneMore, clean, has_no_base, has_room, keeps_query, shortened, written};
+ghost use Rattle.document_links.specs.Written.{AreWritten, IsOneMore, can_write, clean, has_no_base, has_room, keeps_query, shortened, written};
 
 use crate::charset::Charset;
 use crate::cleaning::{cut, has_breaks, trimmed, without_breaks, without_fragment};
@@ -105,13 +105,21 @@ impl LinkWriter {
 
     /// Takes the texts of the links.
     pub(crate) fn take_links(&mut self) -> LinkTexts
-        ensures { result ≡ self.old.links }
+        ensures taken { result ≡ self.old.links }
+        ensures base { self.new.base ≡ self.old.base }
+        ensures charset { self.new.charset ≡ self.old.charset }
+        ensures links { self.new.links ≡ [] }
     {
         mem::replace(&mut self.links, LinkTexts::new(self.alloc))
     }
 
     /// The text of a link as it is written: one text, or none if it is too long.
-    pub(crate) fn texts_of(&mut self, text: &[u8]) -> Result<LinkTexts, AllocError> {
+    pub(crate) fn texts_of(&mut self, text: &[u8]) -> Result<LinkTexts, AllocError>
+        ensures base { self.new.base ≡ self.old.base }
+        ensures charset { self.new.charset ≡ self.old.charset }
+        ensures links { IfOk result (λ _. self.new.links ≡ []) }
+        ensures written { has_no_base self.old.base ≡ true → can_write self.old.charset text.now ≡ true → self.old.links ≡ [] → IfOk result (λ texts. texts ≡ written text.now ∷ []) }
+    {
         self.push(text)?;
         Ok(self.take_links())
     }

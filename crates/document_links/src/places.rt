@@ -62,7 +62,7 @@ fn places_in(
 }
 
 /// The number of links up to the last of those with these indices, or `None` if it does not fit in a `usize`.
-fn needed_count(indices: &[usize]) -> Option<usize>
+pub(crate) fn needed_count(indices: &[usize]) -> Option<usize>
     ensures { All (IsAmong result) indices.now }
 {
     let mut last: usize = 0;
@@ -73,7 +73,7 @@ fn needed_count(indices: &[usize]) -> Option<usize>
 }
 
 /// The locations of these links of a text.
-fn places_of(
+pub(crate) fn places_of(
     alloc: Global,
     text: &[u8],
     raw: &RawLinks,
@@ -107,7 +107,7 @@ fn last_position(raw: &RawLinks, indices: &[usize]) -> usize {
 
 /// The text of the link with this index; empty if there is none.
 #[tactic(auto, using(std::proofs::lemmas::List::get_or_default))]
-fn link_text(raw: &RawLinks, index: usize) -> &[u8]
+pub(crate) fn link_text(raw: &RawLinks, index: usize) -> &[u8]
     ensures { result.now ≡ slice_index_or raw.now.texts index [] }
 {
     if index < raw.len() {
