@@ -39,6 +39,19 @@ same_texts f texts all needed (index ∷ rest) same among =
     ap₂ (λ x xs. x ∷ xs) (ap f (same_text texts all needed index same (among 0 index (omega arith))))
     (same_texts f texts all needed rest same (λ k d within. among (suc k) d (omega arith)))
 
+pub places_of_links : (kind : TextKind) (charset : Charset) (text indices : List ℕ) (texts : List (List ℕ)) (positions : List ℕ) (needed : Option ℕ) (places : List TextPlace) →
+    All (IsAmong needed) indices → (is_known charset ≡ true → needed_texts needed texts ≡ needed_texts needed (links_in kind text)) →
+    (is_known charset ≡ true → needed_positions needed positions ≡ needed_positions needed (positions_in kind text)) →
+    map point_of_place places ≡ map (λ index. point_at text (slice_index_or positions index 0)) indices →
+    map (λ place. string_bytes place.written) places ≡ map (λ index. utf8_lossy (clean (slice_index_or texts index []))) indices → ArePlacesIn kind charset text indices places
+places_of_links kind charset text indices texts positions needed places among known found placed written =
+    record {
+      position = λ index. slice_index_or positions index 0;
+      placed = placed;
+      positioned = λ is. same_positions positions (positions_in kind text) needed indices (found is) among;
+      written = λ is. written ∙ same_texts (λ link. utf8_lossy (clean link)) texts (links_in kind text) needed indices (known is) among;
+    }
+
 pub of_links : {V E : Type 0} (items : V → List TextPlace) (kind : TextKind) (charset : Charset) (text indices : List ℕ) (texts : List (List ℕ)) (positions : List ℕ) (needed : Option ℕ) (r : Result V E) →
     All (IsAmong needed) indices → (is_known charset ≡ true → needed_texts needed texts ≡ needed_texts needed (links_in kind text)) →
     (is_known charset ≡ true → needed_positions needed positions ≡ needed_positions needed (positions_in kind text)) →
@@ -46,12 +59,7 @@ pub of_links : {V E : Type 0} (items : V → List TextPlace) (kind : TextKind) (
     IfOk r (λ places. map (λ place. string_bytes place.written) (items places) ≡ map (λ index. utf8_lossy (clean (slice_index_or texts index []))) indices) →
     IfOk r (λ places. ArePlacesIn kind charset text indices (items places))
 of_links items kind charset text indices texts positions needed (Ok places) among known found placed written =
-    record {
-      position = λ index. slice_index_or positions index 0;
-      placed = placed;
-      positioned = λ is. same_positions positions (positions_in kind text) needed indices (found is) among;
-      written = λ is. written ∙ same_texts (λ link. utf8_lossy (clean link)) texts (links_in kind text) needed indices (known is) among;
-    }
+    places_of_links kind charset text indices texts positions needed (items places) among known found placed written
 of_links items kind charset text indices texts positions needed (Err e) among known found placed written = tt
 
 pub urls_of_links : (root : Option (Bor (List ℕ))) (page : List ℕ) (kind : TextKind) (charset : Charset) (text indices : List ℕ) (texts : List (List ℕ)) (needed : Option ℕ) (urls : List (Option (List ℕ))) →

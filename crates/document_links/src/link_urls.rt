@@ -1,22 +1,23 @@
 //! The locations of links in a file, and the URLs to which they lead.
-ghost use Rattle.std.specs.Prelude.{◌≡◌, ◌∷◌, [], true, All, IfOk, None, map, slice_index_or};
+ghost use Rattle.std.specs.Prelude.{◌≡◌, ◌∷◌, ℕ, List, [], true, All, IfOk, None, map, slice_index_or};
+ghost use Rattle.std.specs.Result.{result_ok};
+ghost use Rattle.crawl_keys.specs.CanonicalText.{resolve};
 ghost use Rattle.html_links.specs.Reads.{base_at};
 ghost use Rattle.document_links.specs.LinkUrls.{AreFileLinks, AreUrlsIn, AreUrlsOf, IsUrlOf, query_charset};
 ghost use Rattle.document_links.specs.Places.{ArePlacesIn, IsAmong};
-ghost use Rattle.document_links.specs.Rooted.{all_rooted};
 ghost use Rattle.document_links.specs.Written.{can_write, has_no_base};
 
 use crate::charset::{Charset, charset_of};
 use crate::document::utf8_text;
 use crate::document_start::without_mark;
 use crate::file_links::{Reading, find_links};
+use crate::link_texts::LinkTexts;
 use crate::link_writer::LinkWriter;
 use crate::places::{TextPlace, link_text, needed_count, places_of};
 use crate::raw_links::RawLinks;
 use crate::root::add_root;
 use crate::text_kind::TextKind;
-use crawl_keys::CanonUrl;
-use html_links::Base;
+use crawl_keys::{Base, CanonUrl};
 use std::alloc::{AllocError, Global};
 
 /// The page of a file, from which its links lead.
@@ -73,14 +74,15 @@ fn links_in(
 {
     let mut raw = RawLinks::new(alloc);
     let needed = needed_links(page.base, indices);
-    let base = find_links(alloc, text, reading, needed, &mut raw)?;
-    let base = base_if(page.base, base);
+    let found = find_links(alloc, text, reading, needed, &mut raw)?;
     let places = places_of(alloc, text, &raw, indices)?;
+    let counted = base_if(page.base, found);
     let mut own = links_of(&raw, indices)?;
-    let base = add_root(page.root, page.url, base, &mut own)?;
+    let rooted = add_root(page.root, page.url, counted, &mut own)?;
     let charset = query_charset(reading.kind, reading.charset);
-    let mut writer = LinkWriter::new(alloc, charset, base, page.url)?;
-    let urls = urls_of(alloc, &mut writer, &crawl_keys::Base::new(alloc, page.url)?, &own)?;
+    let mut writer = LinkWriter::new(alloc, charset, rooted, page.url)?;
+    let from = Base::new(alloc, page.url)?;
+    let urls = urls_of(alloc, &mut writer, &from, &own)?;
     Ok(FileLinks { places, urls })
 }
 
@@ -93,7 +95,7 @@ fn needed_links(base: bool, indices: &[usize]) -> Option<usize>
 }
 
 /// The base, if it counts.
-fn base_if(counts: bool, base: Base) -> Base
+fn base_if(counts: bool, base: html_links::Base) -> html_links::Base
     ensures { (counts ≡ true → base_at base.entry ≡ None) → base_at result ≡ None }
 {
     if counts { base } else { None }
@@ -124,7 +126,7 @@ fn query_charset(kind: TextKind, charset: Charset) -> Charset
 fn urls_of(
     alloc: Global,
     writer: &mut LinkWriter,
-    page: &crawl_keys::Base,
+    page: &Base,
     raw: &RawLinks,
 ) -> Result<Vec<Option<CanonUrl>>, AllocError>
     ensures { has_no_base writer.old.base ≡ true → writer.old.links ≡ [] → IfOk result (λ urls. AreUrlsOf writer.old.charset page.now raw.now.texts urls.items) }
@@ -138,10 +140,11 @@ fn urls_of(
 }
 
 /// The URL of a link on a page, as this writer writes its text.
+#[tactic(auto, using(crate::proofs::Leading::url_written))]
 fn url_of(
     alloc: Global,
     writer: &mut LinkWriter,
-    page: &crawl_keys::Base,
+    page: &Base,
     text: &[u8],
 ) -> Result<Option<CanonUrl>, AllocError>
     ensures base { writer.new.base ≡ writer.old.base }
@@ -150,6 +153,14 @@ fn url_of(
     ensures url { has_no_base writer.old.base ≡ true → writer.old.links ≡ [] → IfOk result (λ url. IsUrlOf (can_write writer.old.charset text.now) page.now text.now url) }
 {
     let texts = writer.texts_of(text)?;
+    url_of_one(alloc, page, &texts)
+}
+
+/// The URL on a page of the only one of these texts. `None` if there is another number of texts.
+#[tactic(auto, using(crate::proofs::Leading::only_text))]
+fn url_of_one(alloc: Global, page: &Base, texts: &LinkTexts) -> Result<Option<CanonUrl>, AllocError>
+    ensures { (text : List ℕ) → texts.now ≡ text ∷ [] → IfOk result (λ url. url ≡ result_ok (resolve page.now text)) }
+{
     if texts.len() == 1 {
         page.link(alloc, texts.text(0))
     } else {
