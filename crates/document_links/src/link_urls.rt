@@ -96,7 +96,7 @@ fn needed_links(base: bool, indices: &[usize]) -> Option<usize>
 
 /// The base, if it counts.
 fn base_if(counts: bool, base: html_links::Base) -> html_links::Base
-    ensures { (counts ≡ true → base_at base.entry ≡ None) → base_at result ≡ None }
+    ensures { (counts ≡ true → base_at base ≡ None) → base_at result ≡ None }
 {
     if counts { base } else { None }
 }
@@ -140,7 +140,6 @@ fn urls_of(
 }
 
 /// The URL of a link on a page, as this writer writes its text.
-#[tactic(auto, using(crate::proofs::Leading::url_written))]
 fn url_of(
     alloc: Global,
     writer: &mut LinkWriter,

@@ -3,7 +3,7 @@ use Rattle.html_links.specs.Links.{needed_texts}
 use Rattle.html_links.specs.Positions.{needed_positions}
 use Rattle.html_links.specs.Reads.{base_at}
 use Rattle.document_links.specs.Encoding.{links_in}
-use Rattle.document_links.specs.LinkUrls.{links_at, query_charset}
+use Rattle.document_links.specs.LinkUrls.{query_charset}
 use Rattle.document_links.specs.Places.{positions_in}
 use Rattle.document_links.specs.Rooted.{all_rooted}
 use Rattle.document_links.proofs.Leading.{same_urls}

@@ -1,4 +1,4 @@
-use Rattle.document_links.proofs.Prelude.{◌++◌, ap}
+use Rattle.document_links.proofs.Prelude.{◌∙◌, ◌++◌, ap}
 use Rattle.html_links.specs.Links.{needed_texts}
 use Rattle.html_links.specs.Positions.{needed_positions}
 use Rattle.document_links.specs.Encoding.{links_in}
