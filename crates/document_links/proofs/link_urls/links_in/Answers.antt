@@ -28,7 +28,7 @@ returns-clause-lead c =
     (λ known. c.in_ok-found.ensures.texts known ∙ ap (λ l. needed_texts needed (l ++ links_in reading.kind c.args.text.now)) c.new-raw.ensures.texts)
     (λ known none.
     let no_base : base_at c.base_if-counted.result ≡ None = c.base_if-counted.ensures (λ counts. c.in_ok-found.ensures.base (c.needed_links-needed.ensures.all counts) known none) in
-    same_urls c.in_ok-writer.writer.charset (query_charset reading.kind reading.charset) c.in_ok-from.from page.url.now c.add_root.new.own.texts _ c.in_ok-urls.urls.items
+    same_urls c.in_ok-writer.writer.charset (query_charset reading.kind reading.charset) c.in_ok-from.from page.url.now c.add_root.new.raw.texts _ c.in_ok-urls.urls.items
     (c.in_ok-writer.ensures.charset ∙ c.query_charset-charset.ensures) c.in_ok-from.ensures
     (c.in_ok-rooted.ensures.links no_base ∙ ap (all_rooted page.root) c.in_ok-own.ensures)
     (c.in_ok-urls.ensures (c.in_ok-writer.ensures.unbased (c.in_ok-rooted.ensures.base no_base)) c.in_ok-writer.ensures.links))
