@@ -1,5 +1,5 @@
 -- The links of a text that were found, by their indices.
-use Rattle.document_links.proofs.Prelude.{◌≡◌, ◌∙◌, ℕ, Option, None, Some, true, List, [], ◌∷◌, ◌++◌, Result, IfOk, ap, arith, map, refl, subst, sym, clean, point_at}
+use Rattle.document_links.proofs.Prelude.{◌≡◌, ◌∙◌, ℕ, Option, None, Some, true, List, [], ◌∷◌, Result, IfOk, ap, arith, map, refl, subst, sym, clean, point_at}
 use Rattle.std.specs.Borrow.{Bor}
 use Rattle.std.specs.List.{All}
 use Rattle.std.proofs.Common.{Ok, Err, ap₂, slice_index_or, string_bytes, suc}
