@@ -1,11 +1,12 @@
 -- How the locations of links are found: in their files, and for the rows of their targets.
-use Rattle.std.specs.Prelude.{◌≡◌, ◌==◌, ◌+◌, ◌<◌, ℕ, zero, suc, Bool, true, false, ◌&&◌, if◌then◌else◌, List, [], ◌∷◌, ◌++◌, All, Contains, length, map, Option, Some, None, Result, Ok, Err, Vec, slice_get, string_bytes}
+use Rattle.std.specs.Prelude.{◌≡◌, ◌==◌, ◌+◌, ◌<◌, ℕ, zero, suc, Bool, true, false, ◌&&◌, if◌then◌else◌, List, [], ◌∷◌, ◌++◌, All, Contains, length, map, option_and_then, option_map, Option, Some, None, Result, Ok, Err, Vec, slice_get, string_bytes}
+use Rattle.std.specs.Borrow.{Bor}
 use Rattle.std.specs.declared.alloc.Global.{Global}
 use Rattle.check_report.specs.declared.value.Broken.{Broken}
 use Rattle.check_report.specs.declared.value.Kind.{Kind}
 use Rattle.check_report.specs.declared.value.Kind.TheVariants as row
 use Rattle.crawl_pages.specs.declared.page.PageResult.{PageResult}
-use Rattle.document_links.specs.Places.{ArePlaces}
+use Rattle.document_links.specs.LinkUrls.{AreFileLinks}
 use Rattle.document_links.specs.declared.places.TextPlace.{TextPlace}
 use Rattle.document_links.specs.declared.text_kind.TextKind.{TextKind}
 use Rattle.site_files.specs.Files.{Document, site_file}
@@ -98,21 +99,37 @@ pub record Pushes {X : Type 0} (P : X → Type 0) (old new : List X) : Type 0 wh
   pub is : new ≡ old ++ more
   pub each : All P more
 
--- the locations of these links in a file are pushed
-pub record PushesPlaces (name : List ℕ) (kind : TextKind) (body : List ℕ) (leads : List ListedLead) (old new : List TargetLocation) : Type 0 where
+-- the URL of a link leads to the link's target if this is a missing page
+abbrev pub IsNumbered : (List ℕ → Option ℕ) → Option (List ℕ) → ListedLead → Type 0
+IsNumbered number_of url one = one.list ≡ 0 → option_and_then number_of url ≡ Some one.lead.number
+
+-- so it is for each of these links
+abbrev pub AreNumbered : (List ℕ → Option ℕ) → List (Option (List ℕ)) → List ListedLead → Type 0
+AreNumbered number_of urls [] = Unit {0}
+AreNumbered number_of [] (one ∷ leads) = ⊥
+AreNumbered number_of (url ∷ urls) (one ∷ leads) = IsNumbered number_of url one × AreNumbered number_of urls leads
+
+-- the locations of these links in a file are pushed, and the links lead to their targets
+pub record PushesPlaces (number_of : List ℕ → Option ℕ) (root : Option (List ℕ)) (page name : List ℕ) (kind : TextKind) (body : List ℕ) (leads : List ListedLead) (old new : List TargetLocation) : Type 0 where
   pub places : List TextPlace
-  pub are : ArePlaces kind body (map index_of leads) places
+  pub urls : List (Option (List ℕ))
+  pub path : Option (Bor (List ℕ))
+  pub is_root : option_map (λ p. p.now) path ≡ root
+  pub are : AreFileLinks path page kind body (map index_of leads) places urls
+  pub lead : AreNumbered number_of urls leads
   pub is : new ≡ old ++ places_from name places 0 leads
 
 -- the location is that of one of these links, in the file of the result that has it
-pub record IsTargetPlace (files : SiteFiles) (results : List PageResult) (reads : ℕ → Option (List ℕ) → Type 0) (leads : List ListedLead) (at : TargetLocation) : Type 0 where
+pub record IsTargetPlace (number_of : List ℕ → Option ℕ) (files : SiteFiles) (results : List PageResult) (reads : ℕ → Option (List ℕ) → Type 0) (leads : List ListedLead) (at : TargetLocation) : Type 0 where
   pub one : ListedLead
   pub is_one : Contains leads one
   pub page : PageResult
   pub is_page : slice_get results one.lead.source ≡ Some page
   pub name : List ℕ
   pub place : TextPlace
-  pub is_link : IsLinkAt files reads page one.lead.index name place
+  pub own : Option (List ℕ)
+  pub is_link : IsLinkAt files reads page one.lead.index name place own
+  pub leads : IsNumbered number_of own one
   pub is : at ≡ link_place name one place
 
 -- ---- the locations of a row

@@ -35,11 +35,11 @@ use crate::ignored::unused;
 use crate::indexed::has_indices;
 use crate::input::CheckInput;
 use crate::invalid::{InvalidText, invalid_texts, push_texts};
-use crate::leads::{Lead, Maps, link_indices, targets};
+use crate::leads::{Lead, Maps, TargetNumbers, link_indices, targets};
 use crate::leaving::{outside_leads, outside_urls, push_outside};
 use crate::link_base::base_hint;
 use crate::linked::{Linked, linked_results};
-use crate::located::{ANCHORS, ListedLead, PAGES, TEXTS, TargetPlace, URLS};
+use crate::located::{ANCHORS, ListedLead, PAGES, SoughtLinks, TEXTS, TargetPlace, URLS};
 use crate::missing_anchors::{MissingAnchor, MissingAnchorLink, missing_anchors, sort_by_anchor};
 use crate::names::{Named, lower_names_of, names_of};
 use crate::outside::Outside;
@@ -159,8 +159,13 @@ pub fn check_site<'f, R: Threads + Sync, B: FileBytes + Sync>(
     let site = site_of(results, files, input, documents.as_slice());
     let linked = linked_results(rt, alloc, results, files.threads())?;
     let all = linked.as_slice();
-    let sought = sought_by(rt, alloc, input, site, all)?;
-    let places = locate_by(rt, alloc, site, sought.leads.as_slice(), bytes)?;
+    let numbers = targets(alloc, input.front, input.ignores, all)?;
+    let sought = sought_by(rt, alloc, input, site, all, &numbers)?;
+    let links = SoughtLinks {
+        leads: sought.leads.as_slice(),
+        numbers: &numbers,
+    };
+    let places = locate_by(rt, alloc, site, links, bytes)?;
     results_of(alloc, input, site, all, &sought, places.as_slice())
 }
 
@@ -207,6 +212,7 @@ fn sought_by<'p, R: Threads + Sync>(
     input: CheckInput<'p>,
     site: Site<'p, '_>,
     linked: &[Linked<'p>],
+    numbers: &TargetNumbers<'p>,
 ) -> Result<BrokenLinks<'p>, CheckError>
     ensures invalid { IfOk result (λ sought. AreTexts (texts_if input.entry.scope.invalid input.entry.places.now site.entry.pages.results.now) (map text_of sought.invalid.items)) }
     ensures anchors { IfOk result (λ sought. AreSearchable site.entry.files.now site.entry.pages → AreAnchors input.entry.front.now site.entry.pages.anchors.now site.entry.pages.aliases.now site.entry.files.now site.entry.pages.results.now (map anchor_row sought.anchors.items)) }
@@ -218,7 +224,7 @@ fn sought_by<'p, R: Threads + Sync>(
     let threads = site.files.threads().max(1);
     let of_pages = move || -> Result<Vec<ListedLead>, CheckError>
         ensures { IfOk result (λ all. (all.items ≡ map (listed 0) (leads_from (number_in (targets_of input.entry.front.now (map string_bytes input.entry.ignores.now) (map result_at linked.entry.now))) (indices_in input.entry.places.now) 0 site.entry.pages.results.now)) × All (HasIndices site.entry.files.now.rules.now.places (number_in (targets_of input.entry.front.now (map string_bytes input.entry.ignores.now) (map result_at linked.entry.now))) (indices_in input.entry.places.now) input.entry.aliases.now) site.entry.pages.results.now) }
-    { listed_leads(rt, alloc, input, site, linked) };
+    { listed_leads(rt, alloc, input, site, linked, numbers) };
     let of_anchors = move || -> Result<Vec<MissingAnchorLink<'_>>, NoMemory>
         ensures { IfOk result (λ all. 0 < threads → AreSearchable site.entry.files.now site.entry.pages → AreLacks site.entry.pages.anchors.now site.entry.pages.aliases.now site.entry.files.now site.entry.pages.results.now is_any (map lack_of all.items)) }
     { lacked_by(rt, alloc, site, threads) };
@@ -256,10 +262,11 @@ fn listed_leads<'p, R: Threads + Sync>(
     input: CheckInput<'p>,
     site: Site<'p, '_>,
     linked: &[Linked<'p>],
+    numbers: &TargetNumbers<'p>,
 ) -> Result<Vec<ListedLead>, CheckError>
     ensures { IfOk result (λ all. (all.items ≡ map (listed 0) (leads_from (number_in (targets_of input.entry.front.now (map string_bytes input.entry.ignores.now) (map result_at linked.now))) (indices_in input.entry.places.now) 0 site.entry.pages.results.now)) × All (HasIndices site.entry.files.now.rules.now.places (number_in (targets_of input.entry.front.now (map string_bytes input.entry.ignores.now) (map result_at linked.now))) (indices_in input.entry.places.now) input.entry.aliases.now) site.entry.pages.results.now) }
 {
-    let leads = page_leads(rt, alloc, input, site, linked)?;
+    let leads = page_leads(rt, alloc, input, site, linked, numbers)?;
     let mut all = Vec::new(alloc);
     push_listed(PAGES, leads.as_slice(), &mut all)?;
     Ok(all)
@@ -317,11 +324,11 @@ fn page_leads<'p, R: Threads + Sync>(
     input: CheckInput<'p>,
     site: Site<'p, '_>,
     linked: &[Linked<'p>],
+    numbers: &TargetNumbers<'p>,
 ) -> Result<Vec<Lead>, CheckError>
     ensures leads { IfOk result (λ all. all.items ≡ leads_from (number_in (targets_of input.entry.front.now (map string_bytes input.entry.ignores.now) (map result_at linked.now))) (indices_in input.entry.places.now) 0 site.entry.pages.results.now) }
     ensures indexed { IfOk result (λ _. All (HasIndices site.entry.files.now.rules.now.places (number_in (targets_of input.entry.front.now (map string_bytes input.entry.ignores.now) (map result_at linked.now))) (indices_in input.entry.places.now) input.entry.aliases.now) site.entry.pages.results.now) }
 {
-    let numbers = targets(alloc, input.front, input.ignores, linked)?;
     let is_empty = numbers.is_empty();
     if is_empty {
         return Ok(Vec::new(alloc));
@@ -334,7 +341,7 @@ fn page_leads<'p, R: Threads + Sync>(
         return Err(CheckError::LinkLost);
     }
     let maps = Maps {
-        numbers: &numbers,
+        numbers,
         indices: &indices,
     };
     let leads = leads_by(rt, alloc, maps, results, site.files.threads())?;

@@ -6,13 +6,15 @@ ghost use Rattle.site_check.specs.Located.{IsFileOf, IsFirstPage, IsRowPlace, Is
 ghost use Rattle.site_check.specs.Locations.{ascends, comes_before, if_any, in_row, is_earlier, location_in, location_of, text_kind, unless_same};
 
 use crate::check_error::CheckError;
-use crate::leads::Lead;
+use crate::leads::{Lead, TargetNumbers};
+use crate::own_links::{OwnPage, own_links};
 use crate::site_pages::Site;
 use crate::worst::is_less;
 use check_report::Place;
 use crawl_pages::NoMemory;
-use document_links::{Syntax, TextKind, TextPlace, text_places};
-use site_files::{Body, FileBytes, FileKind, SiteFile};
+use crawl_keys::CanonUrl;
+use document_links::{Syntax, TextKind, TextPlace};
+use site_files::{Body, FileBytes, FileKind, SiteFile, SiteFiles};
 use std::alloc::Global;
 use std::cmp::Ordering;
 
@@ -49,6 +51,14 @@ pub(crate) struct TargetPlace {
 
 // ---- links in files
 
+/// The links whose locations are looked for.
+#[derive(Clone, Copy)]
+pub(crate) struct SoughtLinks<'a, 'p> {
+    pub(crate) leads: &'a [ListedLead],
+    /// Which URLs lead to missing pages.
+    pub(crate) numbers: &'a TargetNumbers<'p>,
+}
+
 /// The links of one result, and those of the results after it.
 #[derive(Clone, Copy)]
 pub(crate) struct PageLeads<'a> {
@@ -67,23 +77,23 @@ pub(crate) struct PageLeads<'a> {
 pub(crate) fn every_place<B: FileBytes>(
     alloc: Global,
     site: Site<'_, '_>,
-    leads: &[ListedLead],
+    sought: SoughtLinks<'_, '_>,
     bytes: &B,
     rest: usize,
     of: usize,
 ) -> Result<Vec<TargetPlace>, CheckError>
-    ensures links { IfOk result (λ all. All (IsTargetPlace site.entry.files.now site.entry.pages.results.now (B.reads bytes.now) leads.now) (map placed_at all.items)) }
-    ensures whole { IfOk result (λ all. All (HasTaken site.entry.files.now site.entry.pages.results.now (B.reads bytes.now) of rest (map placed_at all.items)) leads.now) }
+    ensures links { IfOk result (λ all. All (IsTargetPlace site.entry.files.now site.entry.pages.results.now (B.reads bytes.now) sought.entry.leads.now) (map placed_at all.items)) }
+    ensures whole { IfOk result (λ all. All (HasTaken site.entry.files.now site.entry.pages.results.now (B.reads bytes.now) of rest (map placed_at all.items)) sought.entry.leads.now) }
 {
     let mut all = Vec::new(alloc);
     let mut body = Body::new(alloc);
-    let mut left = leads;
+    let mut left = sought.leads;
     'pages: loop {
         match first_page(left) {
             Some(page) => {
                 left = page.more;
                 if is_taken(of, rest, page.source) {
-                    push_page(alloc, site, page, bytes, &mut body, &mut all)?;
+                    push_page(alloc, site, sought.numbers, page, bytes, &mut body, &mut all)?;
                 }
             }
             None => return Ok(all),
@@ -135,6 +145,7 @@ fn is_of(source: usize, one: &ListedLead) -> bool
 fn push_page<B: FileBytes>(
     alloc: Global,
     site: Site<'_, '_>,
+    numbers: &TargetNumbers<'_>,
     page: PageLeads<'_>,
     bytes: &B,
     body: &mut Body,
@@ -148,39 +159,54 @@ fn push_page<B: FileBytes>(
         return Err(CheckError::LinkLost);
     };
     body.clear();
-    if bytes.read(file, body)?.is_some() {
+    if bytes.read(file.file, body)?.is_some() {
         return Err(CheckError::FileUnread);
     }
-    push_places(alloc, site, page.own, file, body.as_slice(), all)?;
-    Ok(())
+    push_places(alloc, site, numbers, page.own, file, body.as_slice(), all)
 }
 
 /// The file of the result with this number, if it can have links.
-fn file_of<'f>(site: Site<'_, 'f>, source: usize) -> Option<SiteFile<'f>>
+fn file_of<'p, 'f>(site: Site<'p, 'f>, source: usize) -> Option<PageFile<'p, 'f>>
     ensures { MatchOption result (Unit {0}) (λ file. IsFileOf site.entry.files.now site.entry.pages.results.now source (document_of file)) }
 {
     let one = site.pages.results.get(source)?;
     let number = site.files.find(one.url.as_str())?;
     match site.files.document(number) {
-        Some(file) => Some(file),
+        Some(file) => Some(PageFile {
+            url: &one.url,
+            file,
+        }),
         None => None,
     }
+}
+
+/// A file, and the URL of its page.
+#[derive(Clone, Copy)]
+pub(crate) struct PageFile<'p, 'f> {
+    url: &'p CanonUrl,
+    file: SiteFile<'f>,
 }
 
 /// Appends the locations of these links in the contents of this file.
 fn push_places(
     alloc: Global,
     site: Site<'_, '_>,
+    numbers: &TargetNumbers<'_>,
     leads: &[ListedLead],
-    file: SiteFile<'_>,
+    page: PageFile<'_, '_>,
     body: &[u8],
     all: &mut Vec<TargetPlace>,
-) -> Result<(), NoMemory>
+) -> Result<(), CheckError>
     ensures { OnOk result (PushesPlaces file.entry.name.now (text_kind site.entry.files.now.rules.now.styles file.entry.kind) body.now leads.now (map placed_at all.old.items) (map placed_at all.new.items)) }
 {
-    let kind = text_kind(site.files.rules().styles, file.kind);
-    let places = places_of(alloc, body, kind, leads)?;
-    push_all(alloc, file.name, places.as_slice(), leads, all)?;
+    let kind = text_kind(site.files.rules().styles, page.file.kind);
+    let own = OwnPage {
+        url: page.url,
+        root: root_of(site.files),
+        numbers,
+    };
+    let links = own_links(alloc, body, kind, own, leads)?;
+    push_all(alloc, page.file.name, links.places.as_slice(), leads, all)?;
     Ok(())
 }
 
@@ -211,24 +237,13 @@ fn text_kind(styles: bool, kind: FileKind) -> TextKind
     }
 }
 
-/// The places of these links in the contents of a file of this kind.
-fn places_of(
-    alloc: Global,
-    body: &[u8],
-    kind: TextKind,
-    leads: &[ListedLead],
-) -> Result<Vec<TextPlace>, NoMemory>
-    ensures { IfOk result (λ places. ArePlaces kind body.now (map index_of leads.now) places.items) }
-{
-    let indices = indices_of(alloc, leads)?;
-    text_places(alloc, body, kind, indices.as_slice())
-}
-
-/// The indices of these links among the links of their file.
-fn indices_of(alloc: Global, leads: &[ListedLead]) -> Result<Vec<usize>, NoMemory>
-    ensures { IfOk result (λ all. all.items ≡ map index_of leads.now) }
-{
-    leads.iter().map(|one| one.lead.index).collect(alloc)
+/// The path of the top, if absolute paths are below it.
+fn root_of<'a>(files: &'a SiteFiles<'_>) -> Option<&'a str> {
+    if files.rules().rooted {
+        files.top().strip_prefix(files.origin())
+    } else {
+        None
+    }
 }
 
 /// Appends the locations of these links, which are at these places of the file with this name.

@@ -16,7 +16,7 @@ ghost use Rattle.site_check.specs.declared.missing_anchors.MissingAnchorLink.{Mi
 use crate::anchors::every_lacked;
 use crate::check_error::CheckError;
 use crate::leads::{Lead, Maps, leads_from};
-use crate::located::{ListedLead, TargetPlace, every_place, sort_by_target};
+use crate::located::{SoughtLinks, TargetPlace, every_place, sort_by_target};
 use crate::missing_anchors::MissingAnchorLink;
 use crate::site_pages::Site;
 use crawl_pages::{NoMemory, PageResult};
@@ -151,14 +151,14 @@ pub(crate) fn locate_by<R: Threads + Sync, B: FileBytes + Sync>(
     rt: &R,
     alloc: Global,
     site: Site<'_, '_>,
-    leads: &[ListedLead],
+    sought: SoughtLinks<'_, '_>,
     bytes: &B,
 ) -> Result<Vec<TargetPlace>, CheckError>
-    ensures links { IfOk result (λ places. All (IsTargetPlace site.entry.files.now site.entry.pages.results.now (B.reads bytes.now) leads.now) (map placed_at places.items)) }
-    ensures whole { IfOk result (λ places. All (HasPlace site.entry.files.now site.entry.pages.results.now (B.reads bytes.now) (map placed_at places.items)) leads.now) }
+    ensures links { IfOk result (λ places. All (IsTargetPlace site.entry.files.now site.entry.pages.results.now (B.reads bytes.now) sought.entry.leads.now) (map placed_at places.items)) }
+    ensures whole { IfOk result (λ places. All (HasPlace site.entry.files.now site.entry.pages.results.now (B.reads bytes.now) (map placed_at places.items)) sought.entry.leads.now) }
 {
-    let count = site.files.threads().min(leads.len()).max(1);
-    let chunks = places_by(rt, alloc, site, leads, bytes, count)?;
+    let count = site.files.threads().min(sought.leads.len()).max(1);
+    let chunks = places_by(rt, alloc, site, sought, bytes, count)?;
     let mut places = joined(alloc, chunks)?;
     sort_by_target(&mut places)?;
     Ok(places)
@@ -169,19 +169,19 @@ fn places_by<R: Threads + Sync, B: FileBytes + Sync>(
     rt: &R,
     alloc: Global,
     site: Site<'_, '_>,
-    leads: &[ListedLead],
+    sought: SoughtLinks<'_, '_>,
     bytes: &B,
     count: usize,
 ) -> Result<Vec<Result<Vec<TargetPlace>, CheckError>>, NoMemory>
     ensures len { IfOk result (λ chunks. length chunks.items ≡ count) }
-    ensures links { IfOk result (λ chunks. All (λ chunk. IfOk chunk (λ places. All (IsTargetPlace site.entry.files.now site.entry.pages.results.now (B.reads bytes.now) leads.now) (map placed_at places.items))) chunks.items) }
-    ensures whole { IfOk result (λ chunks. (rest : ℕ) (other : Result (Vec TargetPlace Global) CheckError) → rest < count → IfOk (slice_index_or chunks.items rest other) (λ places. All (HasTaken site.entry.files.now site.entry.pages.results.now (B.reads bytes.now) count rest (map placed_at places.items)) leads.now)) }
+    ensures links { IfOk result (λ chunks. All (λ chunk. IfOk chunk (λ places. All (IsTargetPlace site.entry.files.now site.entry.pages.results.now (B.reads bytes.now) sought.entry.leads.now) (map placed_at places.items))) chunks.items) }
+    ensures whole { IfOk result (λ chunks. (rest : ℕ) (other : Result (Vec TargetPlace Global) CheckError) → rest < count → IfOk (slice_index_or chunks.items rest other) (λ places. All (HasTaken site.entry.files.now site.entry.pages.results.now (B.reads bytes.now) count rest (map placed_at places.items)) sought.entry.leads.now)) }
 {
     thread::map_indices(
         rt,
         alloc,
         count,
-        &|rest: usize| { every_place(alloc, site, leads, bytes, rest, count) },
+        &|rest: usize| { every_place(alloc, site, sought, bytes, rest, count) },
     )
 }
 

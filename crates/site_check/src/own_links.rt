@@ -1,0 +1,93 @@
+//! The links in files that are read again. Each that is said to lead to a missing page is resolved again, and must lead there.
+use crate::check_error::CheckError;
+use crate::leads::{TargetNumbers, number_of};
+use crate::located::{ListedLead, PAGES};
+use crawl_keys::CanonUrl;
+use crawl_pages::NoMemory;
+use document_links::{FileLinks, LinkPage, TextKind, indexed_links};
+use std::alloc::Global;
+
+/// The page of a file that is read again, and which URLs lead to missing pages.
+#[derive(Clone, Copy)]
+pub(crate) struct OwnPage<'a, 'p> {
+    pub(crate) url: &'a CanonUrl,
+    /// The path of the site's top, if absolute paths are below it.
+    pub(crate) root: Option<&'a str>,
+    pub(crate) numbers: &'a TargetNumbers<'p>,
+}
+
+/// The links of a file with the indices of these leads. A document is read up to the last of them, as if it had no `base`. If one of them
+/// does not lead to its missing page then, it is read once more, to its end and with its `base`.
+///
+/// # Errors
+/// `LinkLost` if a link does not lead to its missing page, `NoMemory`.
+pub(crate) fn own_links(
+    alloc: Global,
+    body: &[u8],
+    kind: TextKind,
+    page: OwnPage<'_, '_>,
+    leads: &[ListedLead],
+) -> Result<FileLinks, CheckError> {
+    let indices = indices_of(alloc, leads)?;
+    let links = links_with(alloc, body, kind, page, indices.as_slice(), false)?;
+    if lead_there(page.numbers, links.urls.as_slice(), leads) {
+        return Ok(links);
+    }
+    let links = links_with(alloc, body, kind, page, indices.as_slice(), true)?;
+    if lead_there(page.numbers, links.urls.as_slice(), leads) {
+        Ok(links)
+    } else {
+        Err(CheckError::LinkLost)
+    }
+}
+
+/// The links of a file with these indices.
+fn links_with(
+    alloc: Global,
+    body: &[u8],
+    kind: TextKind,
+    page: OwnPage<'_, '_>,
+    indices: &[usize],
+    base: bool,
+) -> Result<FileLinks, NoMemory> {
+    let from = LinkPage {
+        url: page.url,
+        root: page.root,
+        base,
+    };
+    indexed_links(alloc, body, kind, from, indices)
+}
+
+/// The indices of these links among the links of their file.
+fn indices_of(alloc: Global, leads: &[ListedLead]) -> Result<Vec<usize>, NoMemory> {
+    leads.iter().map(|one| one.lead.index).collect(alloc)
+}
+
+/// Whether each of these links that is said to lead to a missing page has a URL that leads there.
+fn lead_there(
+    numbers: &TargetNumbers<'_>,
+    urls: &[Option<CanonUrl>],
+    leads: &[ListedLead],
+) -> bool {
+    for (place, one) in leads.iter().enumerate() {
+        if !leads_there(numbers, urls.get(place), *one) {
+            return false;
+        }
+    }
+    true
+}
+
+/// Whether a link with this URL leads to its missing page. Nothing is said of links to other targets.
+fn leads_there(
+    numbers: &TargetNumbers<'_>,
+    url: Option<&Option<CanonUrl>>,
+    one: ListedLead,
+) -> bool {
+    if one.list != PAGES {
+        return true;
+    }
+    match url {
+        Some(Some(url)) => number_of(numbers, url) == Some(one.lead.number),
+        _ => false,
+    }
+}
