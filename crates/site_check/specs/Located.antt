@@ -31,9 +31,10 @@ use Rattle.site_check.specs.declared.outside.Outside.{Outside}
 abbrev pub document_of : SiteFile → Document
 document_of file = site_file file.index file.kind file.name.now
 
--- the file is that of the result with this number
-pub record IsFileOf (files : SiteFiles) (results : List PageResult) (source : ℕ) (file : Document) : Type 0 where
+-- the file is that of the result with this number and this URL
+pub record IsFileOf (files : SiteFiles) (results : List PageResult) (source : ℕ) (url : List ℕ) (file : Document) : Type 0 where
   pub page : PageResult
+  pub is_url : page.url ≡ url
   pub is_page : slice_get results source ≡ Some page
   pub at : IsFileAt files page.url file
 

@@ -1,9 +1,9 @@
 //! The locations of broken links. Only files that have one are read again.
 ghost use Rattle.std.specs.Prelude.{◌≡◌, ◌++◌, [], true, All, IfOk, IsPermutation, MatchOption, OnOk, length, map, option_map, string_bytes, take_while};
-ghost use Rattle.document_links.specs.Places.{ArePlaces};
 ghost use Rattle.site_check.specs.Complete.{HasPlace, HasTaken, is_taken};
-ghost use Rattle.site_check.specs.Located.{IsFileOf, IsFirstPage, IsRowPlace, IsTargetPlace, IsToTarget, Pushes, PushesPlaces, comes_last, document_of, index_of, is_of, is_to, link_places, placed_at, places_from, put_last};
-ghost use Rattle.site_check.specs.Locations.{ascends, comes_before, if_any, in_row, is_earlier, location_in, location_of, text_kind, unless_same};
+ghost use Rattle.site_check.specs.Leads.{number_at};
+ghost use Rattle.site_check.specs.Located.{IsFileOf, IsFirstPage, IsRowPlace, IsTargetPlace, IsToTarget, Pushes, PushesPlaces, comes_last, document_of, is_of, is_to, link_places, placed_at, places_from, put_last};
+ghost use Rattle.site_check.specs.Locations.{ascends, comes_before, if_any, in_row, is_earlier, location_in, location_of, root_of, text_kind, unless_same};
 
 use crate::check_error::CheckError;
 use crate::leads::{Lead, TargetNumbers};
@@ -82,8 +82,8 @@ pub(crate) fn every_place<B: FileBytes>(
     rest: usize,
     of: usize,
 ) -> Result<Vec<TargetPlace>, CheckError>
-    ensures links { IfOk result (λ all. All (IsTargetPlace site.entry.files.now site.entry.pages.results.now (B.reads bytes.now) sought.entry.leads.now) (map placed_at all.items)) }
-    ensures whole { IfOk result (λ all. All (HasTaken site.entry.files.now site.entry.pages.results.now (B.reads bytes.now) of rest (map placed_at all.items)) sought.entry.leads.now) }
+    ensures links { IfOk result (λ all. All (IsTargetPlace (number_at sought.entry.numbers.now) site.entry.files.now site.entry.pages.results.now (B.reads bytes.now) sought.entry.leads.now) (map placed_at all.items)) }
+    ensures whole { IfOk result (λ all. All (HasTaken (number_at sought.entry.numbers.now) site.entry.files.now site.entry.pages.results.now (B.reads bytes.now) of rest (map placed_at all.items)) sought.entry.leads.now) }
 {
     let mut all = Vec::new(alloc);
     let mut body = Body::new(alloc);
@@ -152,8 +152,8 @@ fn push_page<B: FileBytes>(
     all: &mut Vec<TargetPlace>,
 ) -> Result<(), CheckError>
     requires { All (λ one. one.lead.source ≡ page.source) page.own.now }
-    ensures links { OnOk result (Pushes (IsTargetPlace site.entry.files.now site.entry.pages.results.now (B.reads bytes.now) page.entry.own.now) (map placed_at all.old.items) (map placed_at all.new.items)) }
-    ensures whole { OnOk result (All (HasPlace site.entry.files.now site.entry.pages.results.now (B.reads bytes.now) (map placed_at all.new.items)) page.entry.own.now) }
+    ensures links { OnOk result (Pushes (IsTargetPlace (number_at numbers.now) site.entry.files.now site.entry.pages.results.now (B.reads bytes.now) page.entry.own.now) (map placed_at all.old.items) (map placed_at all.new.items)) }
+    ensures whole { OnOk result (All (HasPlace (number_at numbers.now) site.entry.files.now site.entry.pages.results.now (B.reads bytes.now) (map placed_at all.new.items)) page.entry.own.now) }
 {
     let Some(file) = file_of(site, page.source) else {
         return Err(CheckError::LinkLost);
@@ -167,7 +167,7 @@ fn push_page<B: FileBytes>(
 
 /// The file of the result with this number, if it can have links.
 fn file_of<'p, 'f>(site: Site<'p, 'f>, source: usize) -> Option<PageFile<'p, 'f>>
-    ensures { MatchOption result (Unit {0}) (λ file. IsFileOf site.entry.files.now site.entry.pages.results.now source (document_of file)) }
+    ensures { MatchOption result (Unit {0}) (λ page. IsFileOf site.entry.files.now site.entry.pages.results.now source page.url.now (document_of page.file)) }
 {
     let one = site.pages.results.get(source)?;
     let number = site.files.find(one.url.as_str())?;
@@ -197,7 +197,7 @@ fn push_places(
     body: &[u8],
     all: &mut Vec<TargetPlace>,
 ) -> Result<(), CheckError>
-    ensures { OnOk result (PushesPlaces file.entry.name.now (text_kind site.entry.files.now.rules.now.styles file.entry.kind) body.now leads.now (map placed_at all.old.items) (map placed_at all.new.items)) }
+    ensures { OnOk result (PushesPlaces (number_at numbers.now) (root_of site.entry.files.now) page.entry.url.now page.entry.file.name.now (text_kind site.entry.files.now.rules.now.styles page.entry.file.kind) body.now leads.now (map placed_at all.old.items) (map placed_at all.new.items)) }
 {
     let kind = text_kind(site.files.rules().styles, page.file.kind);
     let own = OwnPage {
@@ -238,7 +238,9 @@ fn text_kind(styles: bool, kind: FileKind) -> TextKind
 }
 
 /// The path of the top, if absolute paths are below it.
-fn root_of<'a>(files: &'a SiteFiles<'_>) -> Option<&'a str> {
+fn root_of<'a>(files: &'a SiteFiles<'_>) -> Option<&'a str>
+    ensures { option_map (λ path. path.now) result ≡ root_of files.now }
+{
     if files.rules().rooted {
         files.top().strip_prefix(files.origin())
     } else {

@@ -1,4 +1,9 @@
 //! The links in files that are read again. Each that is said to lead to a missing page is resolved again, and must lead there.
+ghost use Rattle.std.specs.Prelude.{◌≡◌, true, IfOk, map};
+ghost use Rattle.document_links.specs.LinkUrls.{AreFileLinks};
+ghost use Rattle.site_check.specs.Leads.{number_at};
+ghost use Rattle.site_check.specs.Located.{AreNumbered, IsNumbered, index_of};
+
 use crate::check_error::CheckError;
 use crate::leads::{TargetNumbers, number_of};
 use crate::located::{ListedLead, PAGES};
@@ -27,7 +32,10 @@ pub(crate) fn own_links(
     kind: TextKind,
     page: OwnPage<'_, '_>,
     leads: &[ListedLead],
-) -> Result<FileLinks, CheckError> {
+) -> Result<FileLinks, CheckError>
+    ensures are { IfOk result (λ links. AreFileLinks page.entry.root page.entry.url.now kind body.now (map index_of leads.now) links.places.items links.urls.items) }
+    ensures lead { IfOk result (λ links. AreNumbered (number_at page.entry.numbers.now) links.urls.items leads.now) }
+{
     let indices = indices_of(alloc, leads)?;
     let links = links_with(alloc, body, kind, page, indices.as_slice(), false)?;
     if lead_there(page.numbers, links.urls.as_slice(), leads) {
@@ -49,7 +57,9 @@ fn links_with(
     page: OwnPage<'_, '_>,
     indices: &[usize],
     base: bool,
-) -> Result<FileLinks, NoMemory> {
+) -> Result<FileLinks, NoMemory>
+    ensures { IfOk result (λ links. AreFileLinks page.entry.root page.entry.url.now kind body.now indices.now links.places.items links.urls.items) }
+{
     let from = LinkPage {
         url: page.url,
         root: page.root,
@@ -59,7 +69,9 @@ fn links_with(
 }
 
 /// The indices of these links among the links of their file.
-fn indices_of(alloc: Global, leads: &[ListedLead]) -> Result<Vec<usize>, NoMemory> {
+fn indices_of(alloc: Global, leads: &[ListedLead]) -> Result<Vec<usize>, NoMemory>
+    ensures { IfOk result (λ all. all.items ≡ map index_of leads.now) }
+{
     leads.iter().map(|one| one.lead.index).collect(alloc)
 }
 
@@ -68,26 +80,31 @@ fn lead_there(
     numbers: &TargetNumbers<'_>,
     urls: &[Option<CanonUrl>],
     leads: &[ListedLead],
-) -> bool {
-    for (place, one) in leads.iter().enumerate() {
-        if !leads_there(numbers, urls.get(place), *one) {
-            return false;
+) -> bool
+    ensures { result ≡ true → AreNumbered (number_at numbers.now) urls.now leads.now }
+{
+    for (number, one) in leads.iter().enumerate() {
+        match urls.get(number) {
+            Some(url) => {
+                if !leads_there(numbers, url, *one) {
+                    return false;
+                }
+            }
+            None => return false,
         }
     }
     true
 }
 
 /// Whether a link with this URL leads to its missing page. Nothing is said of links to other targets.
-fn leads_there(
-    numbers: &TargetNumbers<'_>,
-    url: Option<&Option<CanonUrl>>,
-    one: ListedLead,
-) -> bool {
+fn leads_there(numbers: &TargetNumbers<'_>, url: &Option<CanonUrl>, one: ListedLead) -> bool
+    ensures { result ≡ true → IsNumbered (number_at numbers.now) url.now one }
+{
     if one.list != PAGES {
         return true;
     }
     match url {
-        Some(Some(url)) => number_of(numbers, url) == Some(one.lead.number),
-        _ => false,
+        Some(url) => number_of(numbers, url) == Some(one.lead.number),
+        None => false,
     }
 }

@@ -154,8 +154,8 @@ pub(crate) fn locate_by<R: Threads + Sync, B: FileBytes + Sync>(
     sought: SoughtLinks<'_, '_>,
     bytes: &B,
 ) -> Result<Vec<TargetPlace>, CheckError>
-    ensures links { IfOk result (λ places. All (IsTargetPlace site.entry.files.now site.entry.pages.results.now (B.reads bytes.now) sought.entry.leads.now) (map placed_at places.items)) }
-    ensures whole { IfOk result (λ places. All (HasPlace site.entry.files.now site.entry.pages.results.now (B.reads bytes.now) (map placed_at places.items)) sought.entry.leads.now) }
+    ensures links { IfOk result (λ places. All (IsTargetPlace (number_at sought.entry.numbers.now) site.entry.files.now site.entry.pages.results.now (B.reads bytes.now) sought.entry.leads.now) (map placed_at places.items)) }
+    ensures whole { IfOk result (λ places. All (HasPlace (number_at sought.entry.numbers.now) site.entry.files.now site.entry.pages.results.now (B.reads bytes.now) (map placed_at places.items)) sought.entry.leads.now) }
 {
     let count = site.files.threads().min(sought.leads.len()).max(1);
     let chunks = places_by(rt, alloc, site, sought, bytes, count)?;
@@ -174,8 +174,8 @@ fn places_by<R: Threads + Sync, B: FileBytes + Sync>(
     count: usize,
 ) -> Result<Vec<Result<Vec<TargetPlace>, CheckError>>, NoMemory>
     ensures len { IfOk result (λ chunks. length chunks.items ≡ count) }
-    ensures links { IfOk result (λ chunks. All (λ chunk. IfOk chunk (λ places. All (IsTargetPlace site.entry.files.now site.entry.pages.results.now (B.reads bytes.now) sought.entry.leads.now) (map placed_at places.items))) chunks.items) }
-    ensures whole { IfOk result (λ chunks. (rest : ℕ) (other : Result (Vec TargetPlace Global) CheckError) → rest < count → IfOk (slice_index_or chunks.items rest other) (λ places. All (HasTaken site.entry.files.now site.entry.pages.results.now (B.reads bytes.now) count rest (map placed_at places.items)) sought.entry.leads.now)) }
+    ensures links { IfOk result (λ chunks. All (λ chunk. IfOk chunk (λ places. All (IsTargetPlace (number_at sought.entry.numbers.now) site.entry.files.now site.entry.pages.results.now (B.reads bytes.now) sought.entry.leads.now) (map placed_at places.items))) chunks.items) }
+    ensures whole { IfOk result (λ chunks. (rest : ℕ) (other : Result (Vec TargetPlace Global) CheckError) → rest < count → IfOk (slice_index_or chunks.items rest other) (λ places. All (HasTaken (number_at sought.entry.numbers.now) site.entry.files.now site.entry.pages.results.now (B.reads bytes.now) count rest (map placed_at places.items)) sought.entry.leads.now)) }
 {
     thread::map_indices(
         rt,
