@@ -11,8 +11,8 @@ use crate::own_links::{OwnPage, own_links};
 use crate::site_pages::Site;
 use crate::worst::is_less;
 use check_report::Place;
-use crawl_pages::NoMemory;
 use crawl_keys::CanonUrl;
+use crawl_pages::NoMemory;
 use document_links::{Syntax, TextKind, TextPlace};
 use site_files::{Body, FileBytes, FileKind, SiteFile, SiteFiles};
 use std::alloc::Global;
@@ -93,7 +93,15 @@ pub(crate) fn every_place<B: FileBytes>(
             Some(page) => {
                 left = page.more;
                 if is_taken(of, rest, page.source) {
-                    push_page(alloc, site, sought.numbers, page, bytes, &mut body, &mut all)?;
+                    push_page(
+                        alloc,
+                        site,
+                        sought.numbers,
+                        page,
+                        bytes,
+                        &mut body,
+                        &mut all,
+                    )?;
                 }
             }
             None => return Ok(all),

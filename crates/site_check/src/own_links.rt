@@ -76,11 +76,7 @@ fn indices_of(alloc: Global, leads: &[ListedLead]) -> Result<Vec<usize>, NoMemor
 }
 
 /// Whether each of these links that is said to lead to a missing page has a URL that leads there.
-fn lead_there(
-    numbers: &TargetNumbers<'_>,
-    urls: &[Option<CanonUrl>],
-    leads: &[ListedLead],
-) -> bool
+fn lead_there(numbers: &TargetNumbers<'_>, urls: &[Option<CanonUrl>], leads: &[ListedLead]) -> bool
     ensures { result ≡ true → AreNumbered (number_at numbers.now) urls.now leads.now }
 {
     for (number, one) in leads.iter().enumerate() {
