@@ -10,7 +10,7 @@ use Rattle.site_files.specs.declared.files.SiteFiles.{SiteFiles}
 use Rattle.site_check.specs.Aliases.{is_alias}
 use Rattle.site_check.specs.Broken.{is_place_ignored, shown}
 use Rattle.site_check.specs.Leads.{indices_in, is_reported}
-use Rattle.site_check.specs.Located.{IsNumbered, TargetLocation, link_place, page_text}
+use Rattle.site_check.specs.Located.{HasNumber, TargetLocation, link_place, page_text}
 use Rattle.site_check.specs.Locations.{EndsAt, IsLinkAt, LeadsFromFile, Location, location_in, location_of}
 use Rattle.site_check.specs.Totals.{is_page}
 use Rattle.site_check.specs.declared.linked.Linked.{Linked}
@@ -109,7 +109,7 @@ pub record IsPlaced (number_of : List ℕ → Option ℕ) (files : SiteFiles) (r
   pub place : TextPlace
   pub own : Option (List ℕ)
   pub is_link : IsLinkAt files reads page one.lead.index name place own
-  pub leads : IsNumbered number_of own one
+  pub leads : HasNumber number_of own one
   pub is_in : Contains all (link_place name one place)
 
 -- so it is for the page that has the link

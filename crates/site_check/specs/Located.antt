@@ -101,14 +101,14 @@ pub record Pushes {X : Type 0} (P : X → Type 0) (old new : List X) : Type 0 wh
   pub each : All P more
 
 -- the URL of a link leads to the link's target if this is a missing page
-abbrev pub IsNumbered : (List ℕ → Option ℕ) → Option (List ℕ) → ListedLead → Type 0
-IsNumbered number_of url one = one.list ≡ 0 → option_and_then number_of url ≡ Some one.lead.number
+abbrev pub HasNumber : (List ℕ → Option ℕ) → Option (List ℕ) → ListedLead → Type 0
+HasNumber number_of url one = one.list ≡ 0 → option_and_then number_of url ≡ Some one.lead.number
 
 -- so it is for each of these links
-abbrev pub AreNumbered : (List ℕ → Option ℕ) → List (Option (List ℕ)) → List ListedLead → Type 0
-AreNumbered number_of urls [] = Unit {0}
-AreNumbered number_of [] (one ∷ leads) = ⊥
-AreNumbered number_of (url ∷ urls) (one ∷ leads) = IsNumbered number_of url one × AreNumbered number_of urls leads
+abbrev pub HaveNumbers : (List ℕ → Option ℕ) → List (Option (List ℕ)) → List ListedLead → Type 0
+HaveNumbers number_of urls [] = Unit {0}
+HaveNumbers number_of [] (one ∷ leads) = ⊥
+HaveNumbers number_of (url ∷ urls) (one ∷ leads) = HasNumber number_of url one × HaveNumbers number_of urls leads
 
 -- the locations of these links in a file are pushed, and the links lead to their targets
 pub record PushesPlaces (number_of : List ℕ → Option ℕ) (root : Option (List ℕ)) (page name : List ℕ) (kind : TextKind) (body : List ℕ) (leads : List ListedLead) (old new : List TargetLocation) : Type 0 where
@@ -117,7 +117,7 @@ pub record PushesPlaces (number_of : List ℕ → Option ℕ) (root : Option (Li
   pub path : Option (Bor (List ℕ))
   pub is_root : option_map (λ p. p.now) path ≡ root
   pub are : AreFileLinks path page kind body (map index_of leads) places urls
-  pub lead : AreNumbered number_of urls leads
+  pub lead : HaveNumbers number_of urls leads
   pub is : new ≡ old ++ places_from name places 0 leads
 
 -- the location is that of one of these links, in the file of the result that has it
@@ -130,7 +130,7 @@ pub record IsTargetPlace (number_of : List ℕ → Option ℕ) (files : SiteFile
   pub place : TextPlace
   pub own : Option (List ℕ)
   pub is_link : IsLinkAt files reads page one.lead.index name place own
-  pub leads : IsNumbered number_of own one
+  pub leads : HasNumber number_of own one
   pub is : at ≡ link_place name one place
 
 -- ---- the locations of a row

@@ -2,7 +2,7 @@
 ghost use Rattle.std.specs.Prelude.{◌≡◌, true, IfOk, map};
 ghost use Rattle.document_links.specs.LinkUrls.{AreFileLinks};
 ghost use Rattle.site_check.specs.Leads.{number_at};
-ghost use Rattle.site_check.specs.Located.{AreNumbered, IsNumbered, index_of};
+ghost use Rattle.site_check.specs.Located.{HaveNumbers, HasNumber, index_of};
 
 use crate::check_error::CheckError;
 use crate::leads::{TargetNumbers, number_of};
@@ -34,38 +34,38 @@ pub(crate) fn own_links(
     leads: &[ListedLead],
 ) -> Result<FileLinks, CheckError>
     ensures are { IfOk result (λ links. AreFileLinks page.entry.root page.entry.url.now kind body.now (map index_of leads.now) links.places.items links.urls.items) }
-    ensures lead { IfOk result (λ links. AreNumbered (number_at page.entry.numbers.now) links.urls.items leads.now) }
+    ensures lead { IfOk result (λ links. HaveNumbers (number_at page.entry.numbers.now) links.urls.items leads.now) }
 {
-    let indices = indices_of(alloc, leads)?;
-    let links = links_with(alloc, body, kind, page, indices.as_slice(), false)?;
-    if lead_there(page.numbers, links.urls.as_slice(), leads) {
+    let links = links_with(alloc, body, kind, page, leads, false)?;
+    if lead_there(page.numbers, &links, leads) {
         return Ok(links);
     }
-    let links = links_with(alloc, body, kind, page, indices.as_slice(), true)?;
-    if lead_there(page.numbers, links.urls.as_slice(), leads) {
+    let links = links_with(alloc, body, kind, page, leads, true)?;
+    if lead_there(page.numbers, &links, leads) {
         Ok(links)
     } else {
         Err(CheckError::LinkLost)
     }
 }
 
-/// The links of a file with these indices.
+/// The links of a file with the indices of these leads. `base` says whether a document's `base` counts.
 fn links_with(
     alloc: Global,
     body: &[u8],
     kind: TextKind,
     page: OwnPage<'_, '_>,
-    indices: &[usize],
+    leads: &[ListedLead],
     base: bool,
 ) -> Result<FileLinks, NoMemory>
-    ensures { IfOk result (λ links. AreFileLinks page.entry.root page.entry.url.now kind body.now indices.now links.places.items links.urls.items) }
+    ensures { IfOk result (λ links. AreFileLinks page.entry.root page.entry.url.now kind body.now (map index_of leads.now) links.places.items links.urls.items) }
 {
+    let indices = indices_of(alloc, leads)?;
     let from = LinkPage {
         url: page.url,
         root: page.root,
         base,
     };
-    indexed_links(alloc, body, kind, from, indices)
+    indexed_links(alloc, body, kind, from, indices.as_slice())
 }
 
 /// The indices of these links among the links of their file.
@@ -76,11 +76,11 @@ fn indices_of(alloc: Global, leads: &[ListedLead]) -> Result<Vec<usize>, NoMemor
 }
 
 /// Whether each of these links that is said to lead to a missing page has a URL that leads there.
-fn lead_there(numbers: &TargetNumbers<'_>, urls: &[Option<CanonUrl>], leads: &[ListedLead]) -> bool
-    ensures { result ≡ true → AreNumbered (number_at numbers.now) urls.now leads.now }
+fn lead_there(numbers: &TargetNumbers<'_>, links: &FileLinks, leads: &[ListedLead]) -> bool
+    ensures { result ≡ true → HaveNumbers (number_at numbers.now) links.now.urls.items leads.now }
 {
     for (number, one) in leads.iter().enumerate() {
-        match urls.get(number) {
+        match links.urls.get(number) {
             Some(url) => {
                 if !leads_there(numbers, url, *one) {
                     return false;
@@ -92,9 +92,9 @@ fn lead_there(numbers: &TargetNumbers<'_>, urls: &[Option<CanonUrl>], leads: &[L
     true
 }
 
-/// Whether a link with this URL leads to its missing page. Nothing is said of links to other targets.
+/// Whether a link with this URL leads to its missing page. Nothing is required of links to other targets.
 fn leads_there(numbers: &TargetNumbers<'_>, url: &Option<CanonUrl>, one: ListedLead) -> bool
-    ensures { result ≡ true → IsNumbered (number_at numbers.now) url.now one }
+    ensures { result ≡ true → HasNumber (number_at numbers.now) url.now one }
 {
     if one.list != PAGES {
         return true;

@@ -1,0 +1,17 @@
+use Rattle.site_check.proofs.Prelude.{◌∙◌, Option, ap, arith, option_map, subst, sym, take_all}
+use Rattle.std.proofs.Common.{List, ℕ}
+use Rattle.std.specs.Borrow.{Bor}
+use Rattle.site_check.specs.Leads.{number_at}
+use Rattle.site_check.specs.Located.{HaveNumbers}
+use Rattle.site_check.proofs.Placed.{item_at, next_at, no_numbers}
+use Rattle.site_check.proofs.own_links.lead_there.Goals as goal
+
+pub loop-number-init : goal.loop-number-init
+loop-number-init c = no_numbers (number_at c.args.numbers.now) c.args.links.now.urls.items
+
+pub loop-number-preserved : goal.loop-number-preserved
+loop-number-preserved c =
+    let urls = c.args.links.now.urls.items in
+    let k = c.loop-number.number in
+    next_at (number_at c.args.numbers.now) urls c.args.leads.now k _ _ c.loop-number-test.true
+    (sym (item_at urls k c.get.result c.get.ensures.lookup) ∙ ap (λ o. option_map (λ (url : Bor (Option (List ℕ))). url.now) o) c.in-Some.is) c.loop-number.invariant (c.leads_there.ensures c.if-not-leads_there.false)
