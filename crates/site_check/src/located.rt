@@ -170,7 +170,8 @@ fn push_page<B: FileBytes>(
     if bytes.read(file.file, body)?.is_some() {
         return Err(CheckError::FileUnread);
     }
-    push_places(alloc, site, numbers, page.own, file, body.as_slice(), all)
+    push_places(alloc, site, numbers, page.own, file, body.as_slice(), all)?;
+    Ok(())
 }
 
 /// The file of the result with this number, if it can have links.

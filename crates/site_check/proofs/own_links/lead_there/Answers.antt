@@ -1,5 +1,5 @@
-use Rattle.site_check.proofs.Prelude.{◌∙◌, Option, ap, arith, option_map, subst, sym, take_all}
-use Rattle.std.proofs.Common.{List, ℕ}
+use Rattle.site_check.proofs.Prelude.{◌∙◌, ℕ, List, Option, ap, arith, option_map, subst, sym}
+use Rattle.std.proofs.lemmas.List.{take_all}
 use Rattle.std.specs.Borrow.{Bor}
 use Rattle.site_check.specs.Leads.{number_at}
 use Rattle.site_check.specs.Located.{HaveNumbers}
@@ -15,3 +15,7 @@ loop-number-preserved c =
     let k = c.loop-number.number in
     next_at (number_at c.args.numbers.now) urls c.args.leads.now k _ _ c.loop-number-test.true
     (sym (item_at urls k c.get.result c.get.ensures.lookup) ∙ ap (λ o. option_map (λ (url : Bor (Option (List ℕ))). url.now) o) c.in-Some.is) c.loop-number.invariant (c.leads_there.ensures c.if-not-leads_there.false)
+
+pub returns : goal.returns
+returns c = λ is.
+    subst (HaveNumbers (number_at c.args.numbers.now) c.args.links.now.urls.items) (take_all c.loop-number.number c.args.leads.now (omega arith)) c.loop-number.invariant
