@@ -68,7 +68,7 @@ module _ (number_of : List ℕ → Option ℕ) (files : SiteFiles) (results : Li
   -- ---- more locations
 
   placed_on : (old new : List TargetLocation) (one : ListedLead) (page : PageResult) → ((x : TargetLocation) → Contains old x → Contains new x) → IsPlaced number_of files reads old one page → IsPlaced number_of files reads new one page
-  placed_on old new one page more is = record { name = is.name; place = is.place; own = is.own; is_link = is.is_link; leads = is.leads; is_in = more (link_place is.name one is.place) is.is_in }
+  placed_on old new one page more is = record { name = is.name; place = is.place; own = is.own; is_link = is.is_link; led = is.led; is_in = more (link_place is.name one is.place) is.is_in }
 
   pub has_on : (old new : List TargetLocation) (one : ListedLead) → ((x : TargetLocation) → Contains old x → Contains new x) → HasPlace number_of files results reads old one → HasPlace number_of files results reads new one
   has_on old new one more has = record { placed = λ page at. placed_on old new one page more (has.placed page at) }
@@ -108,7 +108,7 @@ module _ (number_of : List ℕ → Option ℕ) (files : SiteFiles) (results : Li
                         subst (λ from. AreFileLinks pushed.path from kind body (one.lead.index ∷ []) (found.x ∷ []) (has.url ∷ [])) (sym of.is_url)
                         (one_link pushed.path url kind body own pushed.places pushed.urls k one found.x has.url pushed.are at_one found.at has.at);
                   });
-              leads = has.has;
+              led = has.has;
               is_in =
                   subst (λ (l : List TargetLocation). Contains l (link_place file.name one found.x)) (sym pushed.is)
                   (Contains-append_right old (places_from file.name pushed.places 0 own) (link_place file.name one found.x)

@@ -275,7 +275,7 @@ module _ (front : List ℕ) (entries : List (List ℕ)) (aliases : List Alias) (
         place = place.place;
         own = place.own;
         is_link = place.is_link;
-        from_file = own_led front entries results rs unfound place.own its.number one (place.leads of_pages) its.at;
+        from_file = own_led front entries results rs unfound place.own its.number one (place.led of_pages) its.at;
         kept = subst (λ (text : List ℕ). IsKept entries rows text (location_in place.name place.place)) (ap (λ (x : PageResult). shown front x.url) target.is) row;
       }
 

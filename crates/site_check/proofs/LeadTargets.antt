@@ -331,7 +331,7 @@ module _ (front : List ℕ) (entries : List (List ℕ)) (places : List LinkPlace
         is_page = slice_get_contains results place.one.lead.source place.page place.is_page;
         index = place.one.lead.index;
         own = place.own;
-        leads = leads_to kind target number place.one place.page place.own is place.is_one place.is_page (sym (ap (λ (t : TargetLocation). t.list) place.is) ∙ own.to.list) (sym (ap (λ (t : TargetLocation). t.number) place.is) ∙ own.to.is_number) place.leads;
+        leads = leads_to kind target number place.one place.page place.own is place.is_one place.is_page (sym (ap (λ (t : TargetLocation). t.list) place.is) ∙ own.to.list) (sym (ap (λ (t : TargetLocation). t.number) place.is) ∙ own.to.is_number) place.led;
         name = place.name;
         place = place.place;
         is_link = place.is_link;

@@ -265,7 +265,7 @@ page_placed number_of files results reads source url file body own old new of sa
                   subst (λ from. AreFileLinks pushed.path from kind body (one.lead.index ∷ []) (place ∷ []) (has.url ∷ [])) (sym of.is_url)
                   (one_link pushed.path url kind body own pushed.places pushed.urls k one place has.url pushed.are at_one (ap (slice_get pushed.places) (zero_more k) ∙ at_place) has.at);
             };
-            leads = has.has;
+            led = has.has;
             is = refl;
           });
     }
@@ -289,7 +289,7 @@ among_all number_of files results reads own leads within at placed =
       place = placed.place;
       own = placed.own;
       is_link = placed.is_link;
-      leads = placed.leads;
+      led = placed.led;
       is = placed.is;
     }
 

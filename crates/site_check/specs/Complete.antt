@@ -109,7 +109,7 @@ pub record IsPlaced (number_of : List ℕ → Option ℕ) (files : SiteFiles) (r
   pub place : TextPlace
   pub own : Option (List ℕ)
   pub is_link : IsLinkAt files reads page one.lead.index name place own
-  pub leads : HasNumber number_of own one
+  pub led : HasNumber number_of own one
   pub is_in : Contains all (link_place name one place)
 
 -- so it is for the page that has the link

@@ -130,7 +130,7 @@ pub record IsTargetPlace (number_of : List ℕ → Option ℕ) (files : SiteFile
   pub place : TextPlace
   pub own : Option (List ℕ)
   pub is_link : IsLinkAt files reads page one.lead.index name place own
-  pub leads : HasNumber number_of own one
+  pub led : HasNumber number_of own one
   pub is : at ≡ link_place name one place
 
 -- ---- the locations of a row

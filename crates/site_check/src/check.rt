@@ -12,7 +12,7 @@ ghost use Rattle.site_check.specs.Ignored.{not_ignored, anchors_in, anchors_left
 ghost use Rattle.site_check.specs.Invalid.{AreTexts, invalid_rows_in, row_of, text_of, texts_if};
 ghost use Rattle.site_check.specs.LackedLinks.{lack_of};
 ghost use Rattle.site_check.specs.Lacks.{AreAnchors, AreLacks, is_any};
-ghost use Rattle.site_check.specs.Leads.{indices_in, leads_from, number_in, targets_of, number_at};
+ghost use Rattle.site_check.specs.Leads.{indices_in, leads_from, number_in, targets_of};
 ghost use Rattle.site_check.specs.Leaving.{leaving_in, outside_at, outside_linked, row_at, shown_at};
 ghost use Rattle.site_check.specs.LinkBase.{base_hint_of};
 ghost use Rattle.site_check.specs.Located.{AddsListed, IsListed, IsLocatedRow, KeepsRows, listed, located_row, page_text, placed_at, target_texts};
@@ -35,7 +35,7 @@ use crate::ignored::unused;
 use crate::indexed::has_indices;
 use crate::input::CheckInput;
 use crate::invalid::{InvalidText, invalid_texts, push_texts};
-use crate::leads::{Lead, Maps, TargetNumbers, link_indices, targets};
+use crate::leads::{Lead, Maps, link_indices, targets};
 use crate::leaving::{outside_leads, outside_urls, push_outside};
 use crate::link_base::base_hint;
 use crate::linked::{Linked, linked_results};
@@ -159,8 +159,8 @@ pub fn check_site<'f, R: Threads + Sync, B: FileBytes + Sync>(
     let site = site_of(results, files, input, documents.as_slice());
     let linked = linked_results(rt, alloc, results, files.threads())?;
     let all = linked.as_slice();
+    let sought = sought_by(rt, alloc, input, site, all)?;
     let numbers = targets(alloc, input.front, input.ignores, all)?;
-    let sought = sought_by(rt, alloc, input, site, all, &numbers)?;
     let links = SoughtLinks {
         leads: sought.leads.as_slice(),
         numbers: &numbers,
@@ -212,19 +212,18 @@ fn sought_by<'p, R: Threads + Sync>(
     input: CheckInput<'p>,
     site: Site<'p, '_>,
     linked: &[Linked<'p>],
-    numbers: &TargetNumbers<'p>,
 ) -> Result<BrokenLinks<'p>, CheckError>
     ensures invalid { IfOk result (λ sought. AreTexts (texts_if input.entry.scope.invalid input.entry.places.now site.entry.pages.results.now) (map text_of sought.invalid.items)) }
     ensures anchors { IfOk result (λ sought. AreSearchable site.entry.files.now site.entry.pages → AreAnchors input.entry.front.now site.entry.pages.anchors.now site.entry.pages.aliases.now site.entry.files.now site.entry.pages.results.now (map anchor_row sought.anchors.items)) }
     ensures outside { IfOk result (λ sought. map outside_at sought.outside.items ≡ outside_linked input.entry.rooted input.entry.maps.now site.entry.files.now site.entry.pages.results.now input.entry.found.now) }
-    ensures whole { IfOk result (λ sought. All (Contains sought.leads.items) (map (listed 0) (leads_from (number_at numbers.now) (indices_in input.entry.places.now) 0 site.entry.pages.results.now))) }
-    ensures leads { IfOk result (λ sought. All (IsListed (leads_from (number_at numbers.now) (indices_in input.entry.places.now) 0 site.entry.pages.results.now)) sought.leads.items) }
-    ensures indexed { IfOk result (λ _. All (HasIndices site.entry.files.now.rules.now.places (number_at numbers.now) (indices_in input.entry.places.now) input.entry.aliases.now) site.entry.pages.results.now) }
+    ensures whole { IfOk result (λ sought. All (Contains sought.leads.items) (map (listed 0) (leads_from (number_in (targets_of input.entry.front.now (map string_bytes input.entry.ignores.now) (map result_at linked.now))) (indices_in input.entry.places.now) 0 site.entry.pages.results.now))) }
+    ensures leads { IfOk result (λ sought. All (IsListed (leads_from (number_in (targets_of input.entry.front.now (map string_bytes input.entry.ignores.now) (map result_at linked.now))) (indices_in input.entry.places.now) 0 site.entry.pages.results.now)) sought.leads.items) }
+    ensures indexed { IfOk result (λ _. All (HasIndices site.entry.files.now.rules.now.places (number_in (targets_of input.entry.front.now (map string_bytes input.entry.ignores.now) (map result_at linked.now))) (indices_in input.entry.places.now) input.entry.aliases.now) site.entry.pages.results.now) }
 {
     let threads = site.files.threads().max(1);
     let of_pages = move || -> Result<Vec<ListedLead>, CheckError>
-        ensures { IfOk result (λ all. (all.items ≡ map (listed 0) (leads_from (number_at numbers.entry.now) (indices_in input.entry.places.now) 0 site.entry.pages.results.now)) × All (HasIndices site.entry.files.now.rules.now.places (number_at numbers.entry.now) (indices_in input.entry.places.now) input.entry.aliases.now) site.entry.pages.results.now) }
-    { listed_leads(rt, alloc, input, site, linked, numbers) };
+        ensures { IfOk result (λ all. (all.items ≡ map (listed 0) (leads_from (number_in (targets_of input.entry.front.now (map string_bytes input.entry.ignores.now) (map result_at linked.entry.now))) (indices_in input.entry.places.now) 0 site.entry.pages.results.now)) × All (HasIndices site.entry.files.now.rules.now.places (number_in (targets_of input.entry.front.now (map string_bytes input.entry.ignores.now) (map result_at linked.entry.now))) (indices_in input.entry.places.now) input.entry.aliases.now) site.entry.pages.results.now) }
+    { listed_leads(rt, alloc, input, site, linked) };
     let of_anchors = move || -> Result<Vec<MissingAnchorLink<'_>>, NoMemory>
         ensures { IfOk result (λ all. 0 < threads → AreSearchable site.entry.files.now site.entry.pages → AreLacks site.entry.pages.anchors.now site.entry.pages.aliases.now site.entry.files.now site.entry.pages.results.now is_any (map lack_of all.items)) }
     { lacked_by(rt, alloc, site, threads) };
@@ -262,11 +261,10 @@ fn listed_leads<'p, R: Threads + Sync>(
     input: CheckInput<'p>,
     site: Site<'p, '_>,
     linked: &[Linked<'p>],
-    numbers: &TargetNumbers<'p>,
 ) -> Result<Vec<ListedLead>, CheckError>
-    ensures { IfOk result (λ all. (all.items ≡ map (listed 0) (leads_from (number_at numbers.now) (indices_in input.entry.places.now) 0 site.entry.pages.results.now)) × All (HasIndices site.entry.files.now.rules.now.places (number_at numbers.now) (indices_in input.entry.places.now) input.entry.aliases.now) site.entry.pages.results.now) }
+    ensures { IfOk result (λ all. (all.items ≡ map (listed 0) (leads_from (number_in (targets_of input.entry.front.now (map string_bytes input.entry.ignores.now) (map result_at linked.now))) (indices_in input.entry.places.now) 0 site.entry.pages.results.now)) × All (HasIndices site.entry.files.now.rules.now.places (number_in (targets_of input.entry.front.now (map string_bytes input.entry.ignores.now) (map result_at linked.now))) (indices_in input.entry.places.now) input.entry.aliases.now) site.entry.pages.results.now) }
 {
-    let leads = page_leads(rt, alloc, input, site, linked, numbers)?;
+    let leads = page_leads(rt, alloc, input, site, linked)?;
     let mut all = Vec::new(alloc);
     push_listed(PAGES, leads.as_slice(), &mut all)?;
     Ok(all)
@@ -324,11 +322,11 @@ fn page_leads<'p, R: Threads + Sync>(
     input: CheckInput<'p>,
     site: Site<'p, '_>,
     linked: &[Linked<'p>],
-    numbers: &TargetNumbers<'p>,
 ) -> Result<Vec<Lead>, CheckError>
-    ensures leads { IfOk result (λ all. all.items ≡ leads_from (number_at numbers.now) (indices_in input.entry.places.now) 0 site.entry.pages.results.now) }
-    ensures indexed { IfOk result (λ _. All (HasIndices site.entry.files.now.rules.now.places (number_at numbers.now) (indices_in input.entry.places.now) input.entry.aliases.now) site.entry.pages.results.now) }
+    ensures leads { IfOk result (λ all. all.items ≡ leads_from (number_in (targets_of input.entry.front.now (map string_bytes input.entry.ignores.now) (map result_at linked.now))) (indices_in input.entry.places.now) 0 site.entry.pages.results.now) }
+    ensures indexed { IfOk result (λ _. All (HasIndices site.entry.files.now.rules.now.places (number_in (targets_of input.entry.front.now (map string_bytes input.entry.ignores.now) (map result_at linked.now))) (indices_in input.entry.places.now) input.entry.aliases.now) site.entry.pages.results.now) }
 {
+    let numbers = targets(alloc, input.front, input.ignores, linked)?;
     let is_empty = numbers.is_empty();
     if is_empty {
         return Ok(Vec::new(alloc));
@@ -341,7 +339,7 @@ fn page_leads<'p, R: Threads + Sync>(
         return Err(CheckError::LinkLost);
     }
     let maps = Maps {
-        numbers,
+        numbers: &numbers,
         indices: &indices,
     };
     let leads = leads_by(rt, alloc, maps, results, site.files.threads())?;

@@ -1,8 +1,8 @@
-use Rattle.site_check.proofs.Prelude.{◌≡◌, ◌∙◌, IfOk-weaker, ap, indices_in, leads_from, linked_at, map, number_in, result_at, string_bytes, subst, targets_of}
-use Rattle.std.specs.List.{All, Contains}
-use Rattle.site_check.specs.Complete.{HasIndices, HasPlace}
+use Rattle.site_check.proofs.Prelude.{◌≡◌, ◌∙◌, IfOk-weaker, ap, linked_at, map, number_in, result_at, string_bytes, subst, targets_of}
+use Rattle.std.specs.List.{All}
+use Rattle.site_check.specs.Complete.{HasPlace}
 use Rattle.site_check.specs.Leads.{number_at}
-use Rattle.site_check.specs.Located.{IsListed, IsTargetPlace, listed, placed_at}
+use Rattle.site_check.specs.Located.{IsTargetPlace, placed_at}
 use Rattle.site_check.proofs.AllReported.{anchors_reported, are_reported}
 use Rattle.site_check.proofs.DocumentsFound.{searchable}
 use Rattle.site_check.proofs.KeptLinks.{all_links}
@@ -51,7 +51,7 @@ returns-clause-places g c =
     (λ (checked : Checked) own. located_rows input.front.now (map string_bytes input.ignores.now) input.places.now site.files.now c.args.files.now site.pages.results.now c.args.results.now (g.B.FileBytes.reads c.args.bytes.now) c.as_slice-all.result.now
     sought.anchors.items sought.invalid.items sought.outside.items sought.leads.items c.as_slice-2.result.now c.in_ok-places.places.items c.as_slice-3.result.now checked.broken.items
     c.site_of-site.ensures.files c.site_of-site.ensures.results c.as_slice-2.ensures.value c.as_slice-3.ensures.value (ap (map linked_at) c.as_slice-all.ensures.value ∙ c.in_ok-linked.ensures)
-    (subst (λ f. All (IsListed (leads_from f (indices_in input.places.now) 0 site.pages.results.now)) sought.leads.items) same c.in_ok-sought.ensures.leads)
+    c.in_ok-sought.ensures.leads
     (subst (λ f. All (IsTargetPlace f site.files.now site.pages.results.now reads c.as_slice-2.result.now) (map placed_at c.in_ok-places.places.items)) same c.in_ok-places.ensures.links) own)
     c.results_of.ensures.located
 
@@ -67,8 +67,7 @@ returns-clause-complete g c =
     (λ (checked : Checked) own. all_links input.front.now (map string_bytes input.ignores.now) input.aliases.now input.places.now site.files.now c.args.files.now site.pages.results.now c.args.results.now (g.B.FileBytes.reads c.args.bytes.now) c.as_slice-all.result.now
     c.as_slice-2.result.now sought.leads.items c.in_ok-places.places.items c.as_slice-3.result.now checked.broken.items c.site_of-site.ensures.files c.site_of-site.ensures.results c.as_slice-2.ensures.value c.as_slice-3.ensures.value
     (ap (map linked_at) c.as_slice-all.ensures.value ∙ c.in_ok-linked.ensures)
-    (subst (λ f. All (HasIndices site.files.now.rules.now.places f (indices_in input.places.now) input.aliases.now) site.pages.results.now) same c.in_ok-sought.ensures.indexed)
-    (subst (λ f. All (Contains sought.leads.items) (map (listed 0) (leads_from f (indices_in input.places.now) 0 site.pages.results.now))) same c.in_ok-sought.ensures.whole)
+    c.in_ok-sought.ensures.indexed c.in_ok-sought.ensures.whole
     (subst (λ f. All (HasPlace f site.files.now site.pages.results.now reads (map placed_at c.in_ok-places.places.items)) c.as_slice-2.result.now) same c.in_ok-places.ensures.whole) own)
     c.results_of.ensures.whole
 

@@ -1,9 +1,10 @@
-use Rattle.site_check.proofs.Prelude.{◌≡◌, ℕ, Bool, Global, List, Option, PageResult, Vec, map, IfOk, IfOk-at_ok}
+use Rattle.site_check.proofs.Prelude.{◌≡◌, Bool, Global, List, PageResult, Target, Vec, map, IfOk, IfOk-at_ok}
 use Rattle.std.specs.Prelude.{All, Ok, Result}
 use Rattle.document_links.specs.declared.positions.LinkPlaces.{LinkPlaces}
 use Rattle.site_files.specs.declared.alias.Alias.{Alias}
+use Rattle.site_check.specs.Broken.{result_at}
 use Rattle.site_check.specs.Complete.{HasIndices}
-use Rattle.site_check.specs.Leads.{indices_in, leads_from, number_at}
+use Rattle.site_check.specs.Leads.{indices_in, leads_from, number_in, targets_of}
 use Rattle.site_check.specs.Located.{listed}
 use Rattle.site_check.specs.declared.check_error.CheckError.{CheckError}
 use Rattle.site_check.specs.declared.located.ListedLead.{ListedLead}
@@ -16,28 +17,28 @@ use Rattle.std.proofs.Common.{arith, string_bytes, ◌<◌}
 use Rattle.site_check.proofs.check.sought_by.Goals as goal
 
 -- what the first closure finds
-of_pages : (positions : Bool) (f : List ℕ → Option ℕ) (places : List LinkPlaces) (aliases : List Alias) (results : List PageResult) (r : Result (Vec ListedLead Global) CheckError) (leads : Vec ListedLead Global) → r ≡ Ok leads →
-    IfOk r (λ all. (all.items ≡ map (listed 0) (leads_from f (indices_in places) 0 results)) × All (HasIndices positions f (indices_in places) aliases) results) →
-    (leads.items ≡ map (listed 0) (leads_from f (indices_in places) 0 results)) × All (HasIndices positions f (indices_in places) aliases) results
-of_pages positions f places aliases results r leads is all =
-    IfOk-at_ok (λ (own : Vec ListedLead Global). (own.items ≡ map (listed 0) (leads_from f (indices_in places) 0 results)) × All (HasIndices positions f (indices_in places) aliases) results) is all
+of_pages : (positions : Bool) (targets : List Target) (places : List LinkPlaces) (aliases : List Alias) (results : List PageResult) (r : Result (Vec ListedLead Global) CheckError) (leads : Vec ListedLead Global) → r ≡ Ok leads →
+    IfOk r (λ all. (all.items ≡ map (listed 0) (leads_from (number_in targets) (indices_in places) 0 results)) × All (HasIndices positions (number_in targets) (indices_in places) aliases) results) →
+    (leads.items ≡ map (listed 0) (leads_from (number_in targets) (indices_in places) 0 results)) × All (HasIndices positions (number_in targets) (indices_in places) aliases) results
+of_pages positions targets places aliases results r leads is all =
+    IfOk-at_ok (λ (own : Vec ListedLead Global). (own.items ≡ map (listed 0) (leads_from (number_in targets) (indices_in places) 0 results)) × All (HasIndices positions (number_in targets) (indices_in places) aliases) results) is all
 
 pub returns-clause-leads : goal.returns-clause-leads
 returns-clause-leads g c =
-    let f = number_at c.args.numbers.now in
-    let pages = leads_from f (indices_in c.args.input.places.now) 0 c.args.site.pages.results.now in
-    all_listed pages _ _ _ _ _ _ (of_pages c.args.site.files.now.rules.now.places f c.args.input.places.now c.args.input.aliases.now c.args.site.pages.results.now _ _ c.in_ok-leads.was c.join-leads.ensures.first).0 c.in_ok-anchors.ensures.leads c.in_ok-invalid.ensures.leads c.in_ok-push_listed.ensures c.sort_by_page.ensures
+    let targets = targets_of c.args.input.front.now (map string_bytes c.args.input.ignores.now) (map result_at c.args.linked.now) in
+    let pages = leads_from (number_in targets) (indices_in c.args.input.places.now) 0 c.args.site.pages.results.now in
+    all_listed pages _ _ _ _ _ _ (of_pages c.args.site.files.now.rules.now.places targets c.args.input.places.now c.args.input.aliases.now c.args.site.pages.results.now _ _ c.in_ok-leads.was c.join-leads.ensures.first).0 c.in_ok-anchors.ensures.leads c.in_ok-invalid.ensures.leads c.in_ok-push_listed.ensures c.sort_by_page.ensures
 
 pub returns-clause-whole : goal.returns-clause-whole
 returns-clause-whole g c =
-    let f = number_at c.args.numbers.now in
-    let pages = leads_from f (indices_in c.args.input.places.now) 0 c.args.site.pages.results.now in
-    all_led pages _ _ _ _ _ _ (of_pages c.args.site.files.now.rules.now.places f c.args.input.places.now c.args.input.aliases.now c.args.site.pages.results.now _ _ c.in_ok-leads.was c.join-leads.ensures.first).0 c.in_ok-anchors.ensures.leads c.in_ok-invalid.ensures.leads c.in_ok-push_listed.ensures c.sort_by_page.ensures
+    let targets = targets_of c.args.input.front.now (map string_bytes c.args.input.ignores.now) (map result_at c.args.linked.now) in
+    let pages = leads_from (number_in targets) (indices_in c.args.input.places.now) 0 c.args.site.pages.results.now in
+    all_led pages _ _ _ _ _ _ (of_pages c.args.site.files.now.rules.now.places targets c.args.input.places.now c.args.input.aliases.now c.args.site.pages.results.now _ _ c.in_ok-leads.was c.join-leads.ensures.first).0 c.in_ok-anchors.ensures.leads c.in_ok-invalid.ensures.leads c.in_ok-push_listed.ensures c.sort_by_page.ensures
 
 pub returns-clause-indexed : goal.returns-clause-indexed
 returns-clause-indexed g c =
-    let f = number_at c.args.numbers.now in
-    (of_pages c.args.site.files.now.rules.now.places f c.args.input.places.now c.args.input.aliases.now c.args.site.pages.results.now _ _ c.in_ok-leads.was c.join-leads.ensures.first).1
+    let targets = targets_of c.args.input.front.now (map string_bytes c.args.input.ignores.now) (map result_at c.args.linked.now) in
+    (of_pages c.args.site.files.now.rules.now.places targets c.args.input.places.now c.args.input.aliases.now c.args.site.pages.results.now _ _ c.in_ok-leads.was c.join-leads.ensures.first).1
 
 pub returns-clause-anchors : goal.returns-clause-anchors
 returns-clause-anchors g c = λ s.
