@@ -26,7 +26,7 @@ use Rattle.site_files.specs.Bodies.{contents}
 use Rattle.site_files.specs.Files.{Document}
 use Rattle.site_files.specs.declared.files.SiteFile.{SiteFile}
 use Rattle.site_files.specs.declared.notes.Left.{Left}
-use Rattle.site_check.specs.Located.{HasNumber, HaveNumbers, IsFileOf, IsFirstPage, IsRowPlace, IsTargetPlace, IsToTarget, Pushes, PushesPlaces, TargetLocation, comes_last, document_of, index_of, is_of, is_to, items_of, link_place, link_places, placed_at, places_from, put_last}
+use Rattle.site_check.specs.Located.{AllLead, IsFileOf, IsFirstPage, IsRowPlace, IsTargetPlace, IsToTarget, Pushes, PushesPlaces, TargetLocation, comes_last, document_of, index_of, is_of, is_to, items_of, link_place, link_places, placed_at, places_from, put_last}
 use Rattle.site_check.specs.Locations.{Location, comes_before, in_row, location_of, root_of, text_kind}
 use Rattle.site_check.specs.declared.located.ListedLead.{ListedLead}
 use Rattle.site_check.specs.declared.located.PageLeads.{PageLeads}
@@ -153,40 +153,40 @@ one_link root page kind body leads places urls k one place url are at_one at_pla
     }
 
 -- the URL of a link, which leads to the link's target if this is a missing page
-pub record HasOwn (number_of : List ℕ → Option ℕ) (urls : List (Option (List ℕ))) (k : ℕ) (one : ListedLead) : Type 0 where
+pub record HasOwn (led_there : Option (List ℕ) → ListedLead → Type 0) (urls : List (Option (List ℕ))) (k : ℕ) (one : ListedLead) : Type 0 where
   pub url : Option (List ℕ)
   pub at : slice_get urls k ≡ Some url
-  pub has : HasNumber number_of url one
+  pub has : led_there url one
 
-pub own_at : (number_of : List ℕ → Option ℕ) (urls : List (Option (List ℕ))) (leads : List ListedLead) (k : ℕ) (one : ListedLead) → HaveNumbers number_of urls leads → slice_get leads k ≡ Some one → HasOwn number_of urls k one
-own_at number_of urls [] k one have at = absurd (none_is_some one at)
-own_at number_of [] (first ∷ leads) k one have at = absurd have
-own_at number_of (url ∷ urls) (first ∷ leads) zero one have at = record { url = url; at = refl; has = subst (HasNumber number_of url) (some_same first one at) have.0 }
-own_at number_of (url ∷ urls) (first ∷ leads) (suc k) one have at = let rest = own_at number_of urls leads k one have.1 at in record { url = rest.url; at = rest.at; has = rest.has }
+pub own_at : (led_there : Option (List ℕ) → ListedLead → Type 0) (urls : List (Option (List ℕ))) (leads : List ListedLead) (k : ℕ) (one : ListedLead) → AllLead led_there urls leads → slice_get leads k ≡ Some one → HasOwn led_there urls k one
+own_at led_there urls [] k one have at = absurd (none_is_some one at)
+own_at led_there [] (first ∷ leads) k one have at = absurd have
+own_at led_there (url ∷ urls) (first ∷ leads) zero one have at = record { url = url; at = refl; has = subst (led_there url) (some_same first one at) have.0 }
+own_at led_there (url ∷ urls) (first ∷ leads) (suc k) one have at = let rest = own_at led_there urls leads k one have.1 at in record { url = rest.url; at = rest.at; has = rest.has }
 
 -- the numbers of one link more
-pub next_number : (number_of : List ℕ → Option ℕ) (urls : List (Option (List ℕ))) (leads : List ListedLead) (k : ℕ) (one : ListedLead) (url : Option (List ℕ)) → slice_get leads k ≡ Some one → slice_get urls k ≡ Some url → HaveNumbers number_of urls (take k leads) → HasNumber number_of url one →
-    HaveNumbers number_of urls (take (suc k) leads)
-next_number number_of urls [] k one url at at_url have has = absurd (none_is_some one at)
-next_number number_of [] (first ∷ leads) k one url at at_url have has = absurd (none_is_some url at_url)
-next_number number_of (own ∷ urls) (first ∷ leads) zero one url at at_url have has =
-    (subst (HasNumber number_of own) (sym (some_same first one at)) (subst (λ u. HasNumber number_of u one) (sym (some_same own url at_url)) has), none_left urls)
+pub next_number : (led_there : Option (List ℕ) → ListedLead → Type 0) (urls : List (Option (List ℕ))) (leads : List ListedLead) (k : ℕ) (one : ListedLead) (url : Option (List ℕ)) → slice_get leads k ≡ Some one → slice_get urls k ≡ Some url → AllLead led_there urls (take k leads) → led_there url one →
+    AllLead led_there urls (take (suc k) leads)
+next_number led_there urls [] k one url at at_url have has = absurd (none_is_some one at)
+next_number led_there [] (first ∷ leads) k one url at at_url have has = absurd (none_is_some url at_url)
+next_number led_there (own ∷ urls) (first ∷ leads) zero one url at at_url have has =
+    (subst (led_there own) (sym (some_same first one at)) (subst (λ u. led_there u one) (sym (some_same own url at_url)) has), none_left urls)
   where
-    none_left : (more : List (Option (List ℕ))) → HaveNumbers number_of more []
+    none_left : (more : List (Option (List ℕ))) → AllLead led_there more []
     none_left [] = tt
     none_left (u ∷ more) = tt
-next_number number_of (own ∷ urls) (first ∷ leads) (suc k) one url at at_url have has = (have.0, next_number number_of urls leads k one url at at_url have.1 has)
+next_number led_there (own ∷ urls) (first ∷ leads) (suc k) one url at at_url have has = (have.0, next_number led_there urls leads k one url at at_url have.1 has)
 
-pub next_at : (number_of : List ℕ → Option ℕ) (urls : List (Option (List ℕ))) (leads : List ListedLead) (k : ℕ) (d : ListedLead) (url : Option (List ℕ)) → k < length leads → slice_get urls k ≡ Some url → HaveNumbers number_of urls (take k leads) → HasNumber number_of url (get_or leads k d) →
-    HaveNumbers number_of urls (take (k + 1) leads)
-next_at number_of urls leads k d url within at_url have has =
+pub next_at : (led_there : Option (List ℕ) → ListedLead → Type 0) (urls : List (Option (List ℕ))) (leads : List ListedLead) (k : ℕ) (d : ListedLead) (url : Option (List ℕ)) → k < length leads → slice_get urls k ≡ Some url → AllLead led_there urls (take k leads) → led_there url (get_or leads k d) →
+    AllLead led_there urls (take (k + 1) leads)
+next_at led_there urls leads k d url within at_url have has =
     let one = get_or leads k d in
     let next : suc k ≡ k + 1 = omega arith in
-    subst (λ n. HaveNumbers number_of urls (take n leads)) next (next_number number_of urls leads k one url (contains_slice_get leads k one within (get_or_default leads k one d within)) at_url have has)
+    subst (λ n. AllLead led_there urls (take n leads)) next (next_number led_there urls leads k one url (contains_slice_get leads k one within (get_or_default leads k one d within)) at_url have has)
 
-pub no_numbers : (number_of : List ℕ → Option ℕ) (urls : List (Option (List ℕ))) → HaveNumbers number_of urls []
-no_numbers number_of [] = tt
-no_numbers number_of (url ∷ urls) = tt
+pub no_numbers : (led_there : Option (List ℕ) → ListedLead → Type 0) (urls : List (Option (List ℕ))) → AllLead led_there urls []
+no_numbers led_there [] = tt
+no_numbers led_there (url ∷ urls) = tt
 
 -- ---- the places of all links of a file
 
@@ -234,17 +234,17 @@ each_place P name places n (one ∷ leads) holds =
 zero_more : (k : ℕ) → k ≡ 0 + k
 zero_more k = omega arith
 
-page_placed : (number_of : List ℕ → Option ℕ) (files : SiteFiles) (results : List PageResult) (reads : ℕ → Option (List ℕ) → Type 0) (source : ℕ) (url : List ℕ) (file : Document) (body : List ℕ) (own : List ListedLead) (old new : List TargetLocation) →
-    IsFileOf files results source url file → All (λ one. one.lead.source ≡ source) own → reads file.index (Some body) → PushesPlaces number_of (root_of files) url file.name (text_kind files.rules.now.styles file.kind) body own old new →
-    Pushes (IsTargetPlace number_of files results reads own) old new
-page_placed number_of files results reads source url file body own old new of same read pushed =
+page_placed : (led_there : Option (List ℕ) → ListedLead → Type 0) (files : SiteFiles) (results : List PageResult) (reads : ℕ → Option (List ℕ) → Type 0) (source : ℕ) (url : List ℕ) (file : Document) (body : List ℕ) (own : List ListedLead) (old new : List TargetLocation) →
+    IsFileOf files results source url file → All (λ one. one.lead.source ≡ source) own → reads file.index (Some body) → PushesPlaces led_there (root_of files) url file.name (text_kind files.rules.now.styles file.kind) body own old new →
+    Pushes (IsTargetPlace led_there files results reads own) old new
+page_placed led_there files results reads source url file body own old new of same read pushed =
     let kind = text_kind files.rules.now.styles file.kind in
     record {
       more = places_from file.name pushed.places 0 own;
       is = pushed.is;
-      each = each_place (IsTargetPlace number_of files results reads own) file.name pushed.places 0 own (λ k one place at_one at_place.
+      each = each_place (IsTargetPlace led_there files results reads own) file.name pushed.places 0 own (λ k one place at_one at_place.
           let contains = slice_get_contains own k one at_one in
-          let has = own_at number_of pushed.urls own k one pushed.lead at_one in
+          let has = own_at led_there pushed.urls own k one pushed.lead at_one in
           record {
             one = one;
             is_one = contains;
@@ -271,15 +271,15 @@ page_placed number_of files results reads source url file body own old new of sa
     }
 
 -- as that, of a file that was read into a room
-pub file_placed : (number_of : List ℕ → Option ℕ) (files : SiteFiles) (results : List PageResult) (reads : ℕ → Option (List ℕ) → Type 0) (source : ℕ) (url : List ℕ) (file : SiteFile) (left : Option Left) (room body : List ℕ) (own : List ListedLead) (old new : List TargetLocation) →
+pub file_placed : (led_there : Option (List ℕ) → ListedLead → Type 0) (files : SiteFiles) (results : List PageResult) (reads : ℕ → Option (List ℕ) → Type 0) (source : ℕ) (url : List ℕ) (file : SiteFile) (left : Option Left) (room body : List ℕ) (own : List ListedLead) (old new : List TargetLocation) →
     IsFileOf files results source url (document_of file) → All (λ one. one.lead.source ≡ source) own → reads file.index (contents left room) → left ≡ None → body ≡ room →
-    PushesPlaces number_of (root_of files) url file.name.now (text_kind files.rules.now.styles file.kind) body own old new → Pushes (IsTargetPlace number_of files results reads own) old new
-file_placed number_of files results reads source url file left room body own old new of same read none same_body pushed =
-    page_placed number_of files results reads source url (document_of file) body own old new of same (subst (reads file.index) (ap (λ l. contents l room) none ∙ ap (λ b. Some b) (sym same_body)) read) pushed
+    PushesPlaces led_there (root_of files) url file.name.now (text_kind files.rules.now.styles file.kind) body own old new → Pushes (IsTargetPlace led_there files results reads own) old new
+file_placed led_there files results reads source url file left room body own old new of same read none same_body pushed =
+    page_placed led_there files results reads source url (document_of file) body own old new of same (subst (reads file.index) (ap (λ l. contents l room) none ∙ ap (λ b. Some b) (sym same_body)) read) pushed
 
 -- a link of a page is one of all links
-among_all : (number_of : List ℕ → Option ℕ) (files : SiteFiles) (results : List PageResult) (reads : ℕ → Option (List ℕ) → Type 0) (own leads : List ListedLead) → All (Contains leads) own → (at : TargetLocation) → IsTargetPlace number_of files results reads own at → IsTargetPlace number_of files results reads leads at
-among_all number_of files results reads own leads within at placed =
+among_all : (led_there : Option (List ℕ) → ListedLead → Type 0) (files : SiteFiles) (results : List PageResult) (reads : ℕ → Option (List ℕ) → Type 0) (own leads : List ListedLead) → All (Contains leads) own → (at : TargetLocation) → IsTargetPlace led_there files results reads own at → IsTargetPlace led_there files results reads leads at
+among_all led_there files results reads own leads within at placed =
     record {
       one = placed.one;
       is_one = All-contains (Contains leads) own placed.one within placed.is_one;
@@ -293,11 +293,11 @@ among_all number_of files results reads own leads within at placed =
       is = placed.is;
     }
 
-pub pages_more : (number_of : List ℕ → Option ℕ) (files : SiteFiles) (results : List PageResult) (reads : ℕ → Option (List ℕ) → Type 0) (leads left : List ListedLead) (page : PageLeads) (old new : List TargetLocation) →
-    IsFirstPage left page → All (Contains leads) left → Pushes (IsTargetPlace number_of files results reads page.own.now) old new → All (IsTargetPlace number_of files results reads leads) old → All (IsTargetPlace number_of files results reads leads) new
-pages_more number_of files results reads leads left page old new first within pushed all =
+pub pages_more : (led_there : Option (List ℕ) → ListedLead → Type 0) (files : SiteFiles) (results : List PageResult) (reads : ℕ → Option (List ℕ) → Type 0) (leads left : List ListedLead) (page : PageLeads) (old new : List TargetLocation) →
+    IsFirstPage left page → All (Contains leads) left → Pushes (IsTargetPlace led_there files results reads page.own.now) old new → All (IsTargetPlace led_there files results reads leads) old → All (IsTargetPlace led_there files results reads leads) new
+pages_more led_there files results reads leads left page old new first within pushed all =
     let own = all_front (Contains leads) page.own.now page.more.now (subst (All (Contains leads)) first.split within) in
-    all_pushed (IsTargetPlace number_of files results reads page.own.now) (IsTargetPlace number_of files results reads leads) old new (among_all number_of files results reads page.own.now leads own) pushed all
+    all_pushed (IsTargetPlace led_there files results reads page.own.now) (IsTargetPlace led_there files results reads leads) old new (among_all led_there files results reads page.own.now leads own) pushed all
 
 pub all_contained : (leads : List ListedLead) → All (Contains leads) leads
 all_contained leads = All-contains_itself leads

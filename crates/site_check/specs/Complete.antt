@@ -10,7 +10,7 @@ use Rattle.site_files.specs.declared.files.SiteFiles.{SiteFiles}
 use Rattle.site_check.specs.Aliases.{is_alias}
 use Rattle.site_check.specs.Broken.{is_place_ignored, shown}
 use Rattle.site_check.specs.Leads.{indices_in, is_reported}
-use Rattle.site_check.specs.Located.{HasNumber, TargetLocation, link_place, page_text}
+use Rattle.site_check.specs.Located.{TargetLocation, link_place, page_text}
 use Rattle.site_check.specs.Locations.{EndsAt, IsLinkAt, LeadsFromFile, Location, location_in, location_of}
 use Rattle.site_check.specs.Totals.{is_page}
 use Rattle.site_check.specs.declared.linked.Linked.{Linked}
@@ -104,21 +104,21 @@ abbrev pub is_taken : ℕ → ℕ → ℕ → Bool
 is_taken of rest source = nat_lt 0 of && (source % of == rest)
 
 -- the location of a link of this page is one of these, and the link leads to its target if this is a missing page
-pub record IsPlaced (number_of : List ℕ → Option ℕ) (files : SiteFiles) (reads : ℕ → Option (List ℕ) → Type 0) (all : List TargetLocation) (one : ListedLead) (page : PageResult) : Type 0 where
+pub record IsPlaced (led_there : Option (List ℕ) → ListedLead → Type 0) (files : SiteFiles) (reads : ℕ → Option (List ℕ) → Type 0) (all : List TargetLocation) (one : ListedLead) (page : PageResult) : Type 0 where
   pub name : List ℕ
   pub place : TextPlace
   pub own : Option (List ℕ)
   pub is_link : IsLinkAt files reads page one.lead.index name place own
-  pub led : HasNumber number_of own one
+  pub led : led_there own one
   pub is_in : Contains all (link_place name one place)
 
 -- so it is for the page that has the link
-pub record HasPlace (number_of : List ℕ → Option ℕ) (files : SiteFiles) (results : List PageResult) (reads : ℕ → Option (List ℕ) → Type 0) (all : List TargetLocation) (one : ListedLead) : Type 0 where
-  pub placed : (page : PageResult) → slice_get results one.lead.source ≡ Some page → IsPlaced number_of files reads all one page
+pub record HasPlace (led_there : Option (List ℕ) → ListedLead → Type 0) (files : SiteFiles) (results : List PageResult) (reads : ℕ → Option (List ℕ) → Type 0) (all : List TargetLocation) (one : ListedLead) : Type 0 where
+  pub placed : (page : PageResult) → slice_get results one.lead.source ≡ Some page → IsPlaced led_there files reads all one page
 
 -- the same, if the thread with the number `rest` reads the file
-pub record HasTaken (number_of : List ℕ → Option ℕ) (files : SiteFiles) (results : List PageResult) (reads : ℕ → Option (List ℕ) → Type 0) (of rest : ℕ) (all : List TargetLocation) (one : ListedLead) : Type 0 where
-  pub has : is_taken of rest one.lead.source ≡ true → HasPlace number_of files results reads all one
+pub record HasTaken (led_there : Option (List ℕ) → ListedLead → Type 0) (files : SiteFiles) (results : List PageResult) (reads : ℕ → Option (List ℕ) → Type 0) (of rest : ℕ) (all : List TargetLocation) (one : ListedLead) : Type 0 where
+  pub has : is_taken of rest one.lead.source ≡ true → HasPlace led_there files results reads all one
 
 -- the location of a link to a missing page is in the row of this page, unless an entry matches it
 pub record IsKeptPlace (front : List ℕ) (entries : List (List ℕ)) (linked : List Linked) (rows : List Broken) (at : TargetLocation) : Type 0 where

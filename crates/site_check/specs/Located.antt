@@ -1,5 +1,5 @@
 -- How the locations of links are found: in their files, and for the rows of their targets.
-use Rattle.std.specs.Prelude.{◌≡◌, ◌==◌, ◌+◌, ◌<◌, ℕ, zero, suc, Bool, true, false, ◌&&◌, if◌then◌else◌, List, [], ◌∷◌, ◌++◌, All, Contains, length, map, option_and_then, option_map, Option, Some, None, Result, Ok, Err, Vec, slice_get, string_bytes}
+use Rattle.std.specs.Prelude.{◌≡◌, ◌==◌, ◌+◌, ◌<◌, ℕ, zero, suc, Bool, true, false, ◌&&◌, if◌then◌else◌, List, [], ◌∷◌, ◌++◌, All, Contains, length, map, option_map, Option, Some, None, Result, Ok, Err, Vec, slice_get, string_bytes}
 use Rattle.std.specs.Borrow.{Bor}
 use Rattle.std.specs.declared.alloc.Global.{Global}
 use Rattle.check_report.specs.declared.value.Broken.{Broken}
@@ -16,7 +16,7 @@ use Rattle.site_check.specs.Anchors.{anchor_text}
 use Rattle.site_check.specs.Broken.{shown}
 use Rattle.site_check.specs.Invalid.{text_of}
 use Rattle.site_check.specs.Leaving.{shown_at}
-use Rattle.site_check.specs.Locations.{IsFileAt, IsLinkAt, Location, ascends, comes_before, in_row, location_in, location_of}
+use Rattle.site_check.specs.Locations.{IsFileAt, IsLinkAt, LeadsFromFile, Location, ascends, comes_before, in_row, location_in, location_of}
 use Rattle.site_check.specs.declared.invalid.InvalidText.{InvalidText}
 use Rattle.site_check.specs.declared.leads.Lead.{Lead}
 use Rattle.site_check.specs.declared.linked.Linked.{Linked}
@@ -100,28 +100,28 @@ pub record Pushes {X : Type 0} (P : X → Type 0) (old new : List X) : Type 0 wh
   pub is : new ≡ old ++ more
   pub each : All P more
 
--- the URL of a link leads to the link's target if this is a missing page
-abbrev pub HasNumber : (List ℕ → Option ℕ) → Option (List ℕ) → ListedLead → Type 0
-HasNumber number_of url one = one.list ≡ 0 → option_and_then number_of url ≡ Some one.lead.number
+-- a link with this URL leads to the missing page that is its target. Nothing is stated of links to other targets
+abbrev pub LeadsAsSaid : List PageResult → List PageResult → Option (List ℕ) → ListedLead → Type 0
+LeadsAsSaid results missing url one = one.list ≡ 0 → (target : PageResult) → slice_get missing one.lead.number ≡ Some target → LeadsFromFile results url target
 
--- so it is for each of these links
-abbrev pub HaveNumbers : (List ℕ → Option ℕ) → List (Option (List ℕ)) → List ListedLead → Type 0
-HaveNumbers number_of urls [] = Unit {0}
-HaveNumbers number_of [] (one ∷ leads) = ⊥
-HaveNumbers number_of (url ∷ urls) (one ∷ leads) = HasNumber number_of url one × HaveNumbers number_of urls leads
+-- so it is for each of these links, which have these URLs
+abbrev pub AllLead : (Option (List ℕ) → ListedLead → Type 0) → List (Option (List ℕ)) → List ListedLead → Type 0
+AllLead led_there urls [] = Unit {0}
+AllLead led_there [] (one ∷ leads) = ⊥
+AllLead led_there (url ∷ urls) (one ∷ leads) = led_there url one × AllLead led_there urls leads
 
 -- the locations of these links in a file are pushed, and the links lead to their targets
-pub record PushesPlaces (number_of : List ℕ → Option ℕ) (root : Option (List ℕ)) (page name : List ℕ) (kind : TextKind) (body : List ℕ) (leads : List ListedLead) (old new : List TargetLocation) : Type 0 where
+pub record PushesPlaces (led_there : Option (List ℕ) → ListedLead → Type 0) (root : Option (List ℕ)) (page name : List ℕ) (kind : TextKind) (body : List ℕ) (leads : List ListedLead) (old new : List TargetLocation) : Type 0 where
   pub places : List TextPlace
   pub urls : List (Option (List ℕ))
   pub path : Option (Bor (List ℕ))
   pub is_root : option_map (λ p. p.now) path ≡ root
   pub are : AreFileLinks path page kind body (map index_of leads) places urls
-  pub lead : HaveNumbers number_of urls leads
+  pub lead : AllLead led_there urls leads
   pub is : new ≡ old ++ places_from name places 0 leads
 
 -- the location is that of one of these links, in the file of the result that has it
-pub record IsTargetPlace (number_of : List ℕ → Option ℕ) (files : SiteFiles) (results : List PageResult) (reads : ℕ → Option (List ℕ) → Type 0) (leads : List ListedLead) (at : TargetLocation) : Type 0 where
+pub record IsTargetPlace (led_there : Option (List ℕ) → ListedLead → Type 0) (files : SiteFiles) (results : List PageResult) (reads : ℕ → Option (List ℕ) → Type 0) (leads : List ListedLead) (at : TargetLocation) : Type 0 where
   pub one : ListedLead
   pub is_one : Contains leads one
   pub page : PageResult
@@ -130,7 +130,7 @@ pub record IsTargetPlace (number_of : List ℕ → Option ℕ) (files : SiteFile
   pub place : TextPlace
   pub own : Option (List ℕ)
   pub is_link : IsLinkAt files reads page one.lead.index name place own
-  pub led : HasNumber number_of own one
+  pub led : led_there own one
   pub is : at ≡ link_place name one place
 
 -- ---- the locations of a row

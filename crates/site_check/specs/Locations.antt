@@ -120,9 +120,13 @@ pub record HasLink (places : List LinkPlaces) (page : PageResult) (url : List �
   pub is_link : slice_get links at ≡ Some url
   pub is_index : slice_get (indices_in places page.url) at ≡ Some index
 
--- a link to the URL leads to the page of this result, directly or by a redirect
+-- a link to the URL leads to the page at another, directly or by a redirect
+abbrev pub EndsAtUrl : List PageResult → List ℕ → List ℕ → Type 0
+EndsAtUrl results url to = (url ≡ to) ⊎ Contains results (record { url = url; page = Moved (Some to) })
+
+-- the other URL is that of this result
 abbrev pub EndsAt : List PageResult → List ℕ → PageResult → Type 0
-EndsAt results url one = (url ≡ one.url) ⊎ Contains results (record { url = url; page = Moved (Some one.url) })
+EndsAt results url one = EndsAtUrl results url one.url
 
 -- the link that has this URL in the file leads to the page of this result, directly or by a redirect
 pub record LeadsFromFile (results : List PageResult) (own : Option (List ℕ)) (one : PageResult) : Type 0 where

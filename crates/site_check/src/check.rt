@@ -160,10 +160,9 @@ pub fn check_site<'f, R: Threads + Sync, B: FileBytes + Sync>(
     let linked = linked_results(rt, alloc, results, files.threads())?;
     let all = linked.as_slice();
     let sought = sought_by(rt, alloc, input, site, all)?;
-    let numbers = targets(alloc, input.front, input.ignores, all)?;
     let links = SoughtLinks {
         leads: sought.leads.as_slice(),
-        numbers: &numbers,
+        linked: all,
     };
     let places = locate_by(rt, alloc, site, links, bytes)?;
     results_of(alloc, input, site, all, &sought, places.as_slice())

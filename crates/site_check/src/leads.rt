@@ -147,7 +147,7 @@ fn moved_to<'a>(numbers: &TargetNumbers<'a>, one: &'a PageResult) -> Option<usiz
 }
 
 /// Returns the number of the missing page to which the URL leads, if it leads to one that is reported.
-pub(crate) fn number_of<'a>(numbers: &TargetNumbers<'a>, url: &'a CanonUrl) -> Option<usize>
+fn number_of<'a>(numbers: &TargetNumbers<'a>, url: &'a CanonUrl) -> Option<usize>
     ensures { result ≡ number_at numbers.now url.now }
 {
     numbers.get(&url.hashed()).copied()

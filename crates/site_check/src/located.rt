@@ -1,12 +1,13 @@
 //! The locations of broken links. Only files that have one are read again.
 ghost use Rattle.std.specs.Prelude.{◌≡◌, ◌++◌, [], true, All, IfOk, IsPermutation, MatchOption, OnOk, length, map, option_map, string_bytes, take_while};
 ghost use Rattle.site_check.specs.Complete.{HasPlace, HasTaken, is_taken};
-ghost use Rattle.site_check.specs.Leads.{number_at};
-ghost use Rattle.site_check.specs.Located.{IsFileOf, IsFirstPage, IsRowPlace, IsTargetPlace, IsToTarget, Pushes, PushesPlaces, comes_last, document_of, is_of, is_to, link_places, placed_at, places_from, put_last};
+ghost use Rattle.site_check.specs.Broken.{result_at};
+ghost use Rattle.site_check.specs.Located.{IsFileOf, IsFirstPage, IsRowPlace, IsTargetPlace, IsToTarget, LeadsAsSaid, Pushes, PushesPlaces, comes_last, document_of, is_of, is_to, link_places, placed_at, places_from, put_last};
 ghost use Rattle.site_check.specs.Locations.{ascends, comes_before, if_any, in_row, is_earlier, location_in, location_of, root_of, text_kind, unless_same};
 
 use crate::check_error::CheckError;
-use crate::leads::{Lead, TargetNumbers};
+use crate::leads::Lead;
+use crate::linked::Linked;
 use crate::own_links::{OwnPage, own_links};
 use crate::site_pages::Site;
 use crate::worst::is_less;
@@ -55,8 +56,8 @@ pub(crate) struct TargetPlace {
 #[derive(Clone, Copy)]
 pub(crate) struct SoughtLinks<'a, 'p> {
     pub(crate) leads: &'a [ListedLead],
-    /// Which URLs lead to missing pages.
-    pub(crate) numbers: &'a TargetNumbers<'p>,
+    /// The results that found no page, which have the targets of links to missing pages.
+    pub(crate) linked: &'a [Linked<'p>],
 }
 
 /// The links of one result, and those of the results after it.
@@ -82,8 +83,8 @@ pub(crate) fn every_place<B: FileBytes>(
     rest: usize,
     of: usize,
 ) -> Result<Vec<TargetPlace>, CheckError>
-    ensures links { IfOk result (λ all. All (IsTargetPlace (number_at sought.entry.numbers.now) site.entry.files.now site.entry.pages.results.now (B.reads bytes.now) sought.entry.leads.now) (map placed_at all.items)) }
-    ensures whole { IfOk result (λ all. All (HasTaken (number_at sought.entry.numbers.now) site.entry.files.now site.entry.pages.results.now (B.reads bytes.now) of rest (map placed_at all.items)) sought.entry.leads.now) }
+    ensures links { IfOk result (λ all. All (IsTargetPlace (LeadsAsSaid site.entry.pages.results.now (map result_at sought.entry.linked.now)) site.entry.files.now site.entry.pages.results.now (B.reads bytes.now) sought.entry.leads.now) (map placed_at all.items)) }
+    ensures whole { IfOk result (λ all. All (HasTaken (LeadsAsSaid site.entry.pages.results.now (map result_at sought.entry.linked.now)) site.entry.files.now site.entry.pages.results.now (B.reads bytes.now) of rest (map placed_at all.items)) sought.entry.leads.now) }
 {
     let mut all = Vec::new(alloc);
     let mut body = Body::new(alloc);
@@ -93,15 +94,7 @@ pub(crate) fn every_place<B: FileBytes>(
             Some(page) => {
                 left = page.more;
                 if is_taken(of, rest, page.source) {
-                    push_page(
-                        alloc,
-                        site,
-                        sought.numbers,
-                        page,
-                        bytes,
-                        &mut body,
-                        &mut all,
-                    )?;
+                    push_page(alloc, site, sought.linked, page, bytes, &mut body, &mut all)?;
                 }
             }
             None => return Ok(all),
@@ -153,15 +146,15 @@ fn is_of(source: usize, one: &ListedLead) -> bool
 fn push_page<B: FileBytes>(
     alloc: Global,
     site: Site<'_, '_>,
-    numbers: &TargetNumbers<'_>,
+    linked: &[Linked<'_>],
     page: PageLeads<'_>,
     bytes: &B,
     body: &mut Body,
     all: &mut Vec<TargetPlace>,
 ) -> Result<(), CheckError>
     requires { All (λ one. one.lead.source ≡ page.source) page.own.now }
-    ensures links { OnOk result (Pushes (IsTargetPlace (number_at numbers.now) site.entry.files.now site.entry.pages.results.now (B.reads bytes.now) page.entry.own.now) (map placed_at all.old.items) (map placed_at all.new.items)) }
-    ensures whole { OnOk result (All (HasPlace (number_at numbers.now) site.entry.files.now site.entry.pages.results.now (B.reads bytes.now) (map placed_at all.new.items)) page.entry.own.now) }
+    ensures links { OnOk result (Pushes (IsTargetPlace (LeadsAsSaid site.entry.pages.results.now (map result_at linked.now)) site.entry.files.now site.entry.pages.results.now (B.reads bytes.now) page.entry.own.now) (map placed_at all.old.items) (map placed_at all.new.items)) }
+    ensures whole { OnOk result (All (HasPlace (LeadsAsSaid site.entry.pages.results.now (map result_at linked.now)) site.entry.files.now site.entry.pages.results.now (B.reads bytes.now) (map placed_at all.new.items)) page.entry.own.now) }
 {
     let Some(file) = file_of(site, page.source) else {
         return Err(CheckError::LinkLost);
@@ -170,7 +163,7 @@ fn push_page<B: FileBytes>(
     if bytes.read(file.file, body)?.is_some() {
         return Err(CheckError::FileUnread);
     }
-    push_places(alloc, site, numbers, page.own, file, body.as_slice(), all)?;
+    push_places(alloc, site, linked, page.own, file, body.as_slice(), all)?;
     Ok(())
 }
 
@@ -200,19 +193,20 @@ pub(crate) struct PageFile<'p, 'f> {
 fn push_places(
     alloc: Global,
     site: Site<'_, '_>,
-    numbers: &TargetNumbers<'_>,
+    linked: &[Linked<'_>],
     leads: &[ListedLead],
     page: PageFile<'_, '_>,
     body: &[u8],
     all: &mut Vec<TargetPlace>,
 ) -> Result<(), CheckError>
-    ensures { OnOk result (PushesPlaces (number_at numbers.now) (root_of site.entry.files.now) page.entry.url.now page.entry.file.name.now (text_kind site.entry.files.now.rules.now.styles page.entry.file.kind) body.now leads.now (map placed_at all.old.items) (map placed_at all.new.items)) }
+    ensures { OnOk result (PushesPlaces (LeadsAsSaid site.entry.pages.results.now (map result_at linked.now)) (root_of site.entry.files.now) page.entry.url.now page.entry.file.name.now (text_kind site.entry.files.now.rules.now.styles page.entry.file.kind) body.now leads.now (map placed_at all.old.items) (map placed_at all.new.items)) }
 {
     let kind = text_kind(site.files.rules().styles, page.file.kind);
     let own = OwnPage {
         url: page.url,
         root: root_of(site.files),
-        numbers,
+        results: site.pages.results,
+        linked,
     };
     let links = own_links(alloc, body, kind, own, leads)?;
     push_all(alloc, page.file.name, links.places.as_slice(), leads, all)?;

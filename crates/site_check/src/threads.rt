@@ -8,7 +8,8 @@ ghost use Rattle.site_check.specs.Documents.{AreSearchable};
 ghost use Rattle.site_check.specs.LackedLinks.{lack_of};
 ghost use Rattle.site_check.specs.Lacks.{AreLacks, is_any};
 ghost use Rattle.site_check.specs.Leads.{indices_at, leads_from, number_at};
-ghost use Rattle.site_check.specs.Located.{IsTargetPlace, items_of, placed_at};
+ghost use Rattle.site_check.specs.Broken.{result_at};
+ghost use Rattle.site_check.specs.Located.{IsTargetPlace, LeadsAsSaid, items_of, placed_at};
 ghost use Rattle.site_check.specs.declared.check_error.CheckError.{CheckError};
 ghost use Rattle.site_check.specs.declared.located.TargetPlace.{TargetPlace};
 ghost use Rattle.site_check.specs.declared.missing_anchors.MissingAnchorLink.{MissingAnchorLink};
@@ -154,8 +155,8 @@ pub(crate) fn locate_by<R: Threads + Sync, B: FileBytes + Sync>(
     sought: SoughtLinks<'_, '_>,
     bytes: &B,
 ) -> Result<Vec<TargetPlace>, CheckError>
-    ensures links { IfOk result (λ places. All (IsTargetPlace (number_at sought.entry.numbers.now) site.entry.files.now site.entry.pages.results.now (B.reads bytes.now) sought.entry.leads.now) (map placed_at places.items)) }
-    ensures whole { IfOk result (λ places. All (HasPlace (number_at sought.entry.numbers.now) site.entry.files.now site.entry.pages.results.now (B.reads bytes.now) (map placed_at places.items)) sought.entry.leads.now) }
+    ensures links { IfOk result (λ places. All (IsTargetPlace (LeadsAsSaid site.entry.pages.results.now (map result_at sought.entry.linked.now)) site.entry.files.now site.entry.pages.results.now (B.reads bytes.now) sought.entry.leads.now) (map placed_at places.items)) }
+    ensures whole { IfOk result (λ places. All (HasPlace (LeadsAsSaid site.entry.pages.results.now (map result_at sought.entry.linked.now)) site.entry.files.now site.entry.pages.results.now (B.reads bytes.now) (map placed_at places.items)) sought.entry.leads.now) }
 {
     let count = site.files.threads().min(sought.leads.len()).max(1);
     let chunks = places_by(rt, alloc, site, sought, bytes, count)?;
@@ -174,8 +175,8 @@ fn places_by<R: Threads + Sync, B: FileBytes + Sync>(
     count: usize,
 ) -> Result<Vec<Result<Vec<TargetPlace>, CheckError>>, NoMemory>
     ensures len { IfOk result (λ chunks. length chunks.items ≡ count) }
-    ensures links { IfOk result (λ chunks. All (λ chunk. IfOk chunk (λ places. All (IsTargetPlace (number_at sought.entry.numbers.now) site.entry.files.now site.entry.pages.results.now (B.reads bytes.now) sought.entry.leads.now) (map placed_at places.items))) chunks.items) }
-    ensures whole { IfOk result (λ chunks. (rest : ℕ) (other : Result (Vec TargetPlace Global) CheckError) → rest < count → IfOk (slice_index_or chunks.items rest other) (λ places. All (HasTaken (number_at sought.entry.numbers.now) site.entry.files.now site.entry.pages.results.now (B.reads bytes.now) count rest (map placed_at places.items)) sought.entry.leads.now)) }
+    ensures links { IfOk result (λ chunks. All (λ chunk. IfOk chunk (λ places. All (IsTargetPlace (LeadsAsSaid site.entry.pages.results.now (map result_at sought.entry.linked.now)) site.entry.files.now site.entry.pages.results.now (B.reads bytes.now) sought.entry.leads.now) (map placed_at places.items))) chunks.items) }
+    ensures whole { IfOk result (λ chunks. (rest : ℕ) (other : Result (Vec TargetPlace Global) CheckError) → rest < count → IfOk (slice_index_or chunks.items rest other) (λ places. All (HasTaken (LeadsAsSaid site.entry.pages.results.now (map result_at sought.entry.linked.now)) site.entry.files.now site.entry.pages.results.now (B.reads bytes.now) count rest (map placed_at places.items)) sought.entry.leads.now)) }
 {
     thread::map_indices(
         rt,

@@ -1,8 +1,4 @@
-use Rattle.site_check.proofs.Prelude.{◌≡◌, ◌∙◌, IfOk-weaker, ap, linked_at, map, number_in, result_at, string_bytes, subst, targets_of}
-use Rattle.std.specs.List.{All}
-use Rattle.site_check.specs.Complete.{HasPlace}
-use Rattle.site_check.specs.Leads.{number_at}
-use Rattle.site_check.specs.Located.{IsTargetPlace, placed_at}
+use Rattle.site_check.proofs.Prelude.{◌∙◌, IfOk-weaker, ap, linked_at, map, string_bytes}
 use Rattle.site_check.proofs.AllReported.{anchors_reported, are_reported}
 use Rattle.site_check.proofs.DocumentsFound.{searchable}
 use Rattle.site_check.proofs.KeptLinks.{all_links}
@@ -45,14 +41,10 @@ returns-clause-places g c =
     let input = c.args.input in
     let site = c.site_of-site.result in
     let sought = c.in_ok-sought.sought in
-    let reads = g.B.FileBytes.reads c.args.bytes.now in
-    let same : number_at c.in_ok-numbers.numbers ≡ number_in (targets_of input.front.now (map string_bytes input.ignores.now) (map result_at c.as_slice-all.result.now)) = (λ i url. c.in_ok-numbers.ensures url i) in
     IfOk-weaker c.results_of.result _ _
     (λ (checked : Checked) own. located_rows input.front.now (map string_bytes input.ignores.now) input.places.now site.files.now c.args.files.now site.pages.results.now c.args.results.now (g.B.FileBytes.reads c.args.bytes.now) c.as_slice-all.result.now
     sought.anchors.items sought.invalid.items sought.outside.items sought.leads.items c.as_slice-2.result.now c.in_ok-places.places.items c.as_slice-3.result.now checked.broken.items
-    c.site_of-site.ensures.files c.site_of-site.ensures.results c.as_slice-2.ensures.value c.as_slice-3.ensures.value (ap (map linked_at) c.as_slice-all.ensures.value ∙ c.in_ok-linked.ensures)
-    c.in_ok-sought.ensures.leads
-    (subst (λ f. All (IsTargetPlace f site.files.now site.pages.results.now reads c.as_slice-2.result.now) (map placed_at c.in_ok-places.places.items)) same c.in_ok-places.ensures.links) own)
+    c.site_of-site.ensures.files c.site_of-site.ensures.results c.as_slice-2.ensures.value c.as_slice-3.ensures.value (ap (map linked_at) c.as_slice-all.ensures.value ∙ c.in_ok-linked.ensures) c.in_ok-sought.ensures.leads c.in_ok-places.ensures.links own)
     c.results_of.ensures.located
 
 -- the rows have the locations of all links
@@ -61,14 +53,10 @@ returns-clause-complete g c =
     let input = c.args.input in
     let site = c.site_of-site.result in
     let sought = c.in_ok-sought.sought in
-    let reads = g.B.FileBytes.reads c.args.bytes.now in
-    let same : number_at c.in_ok-numbers.numbers ≡ number_in (targets_of input.front.now (map string_bytes input.ignores.now) (map result_at c.as_slice-all.result.now)) = (λ i url. c.in_ok-numbers.ensures url i) in
     IfOk-weaker c.results_of.result _ _
     (λ (checked : Checked) own. all_links input.front.now (map string_bytes input.ignores.now) input.aliases.now input.places.now site.files.now c.args.files.now site.pages.results.now c.args.results.now (g.B.FileBytes.reads c.args.bytes.now) c.as_slice-all.result.now
     c.as_slice-2.result.now sought.leads.items c.in_ok-places.places.items c.as_slice-3.result.now checked.broken.items c.site_of-site.ensures.files c.site_of-site.ensures.results c.as_slice-2.ensures.value c.as_slice-3.ensures.value
-    (ap (map linked_at) c.as_slice-all.ensures.value ∙ c.in_ok-linked.ensures)
-    c.in_ok-sought.ensures.indexed c.in_ok-sought.ensures.whole
-    (subst (λ f. All (HasPlace f site.files.now site.pages.results.now reads (map placed_at c.in_ok-places.places.items)) c.as_slice-2.result.now) same c.in_ok-places.ensures.whole) own)
+    (ap (map linked_at) c.as_slice-all.ensures.value ∙ c.in_ok-linked.ensures) c.in_ok-sought.ensures.indexed c.in_ok-sought.ensures.whole c.in_ok-places.ensures.whole own)
     c.results_of.ensures.whole
 
 -- the totals are those of the rows
