@@ -39,7 +39,7 @@ use crate::leads::{Lead, Maps, link_indices, targets};
 use crate::leaving::{outside_leads, outside_urls, push_outside};
 use crate::link_base::base_hint;
 use crate::linked::{Linked, linked_results};
-use crate::located::{ANCHORS, ListedLead, PAGES, SoughtLinks, TEXTS, TargetPlace, URLS};
+use crate::located::{ANCHORS, ListedLead, PAGES, TEXTS, TargetPlace, URLS};
 use crate::missing_anchors::{MissingAnchor, MissingAnchorLink, missing_anchors, sort_by_anchor};
 use crate::names::{Named, lower_names_of, names_of};
 use crate::outside::Outside;
@@ -160,11 +160,7 @@ pub fn check_site<'f, R: Threads + Sync, B: FileBytes + Sync>(
     let linked = linked_results(rt, alloc, results, files.threads())?;
     let all = linked.as_slice();
     let sought = sought_by(rt, alloc, input, site, all)?;
-    let links = SoughtLinks {
-        leads: sought.leads.as_slice(),
-        linked: all,
-    };
-    let places = locate_by(rt, alloc, site, links, bytes)?;
+    let places = locate_by(rt, alloc, site, sought.leads.as_slice(), all, bytes)?;
     results_of(alloc, input, site, all, &sought, places.as_slice())
 }
 

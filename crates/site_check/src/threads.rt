@@ -17,7 +17,8 @@ ghost use Rattle.site_check.specs.declared.missing_anchors.MissingAnchorLink.{Mi
 use crate::anchors::every_lacked;
 use crate::check_error::CheckError;
 use crate::leads::{Lead, Maps, leads_from};
-use crate::located::{SoughtLinks, TargetPlace, every_place, sort_by_target};
+use crate::linked::Linked;
+use crate::located::{ListedLead, SoughtLinks, TargetPlace, every_place, sort_by_target};
 use crate::missing_anchors::MissingAnchorLink;
 use crate::site_pages::Site;
 use crawl_pages::{NoMemory, PageResult};
@@ -148,17 +149,19 @@ fn lacked_in_parts<'p, R: Threads + Sync>(
 ///
 /// # Errors
 /// `FileUnread`, `LinkLost`, `NoMemory`.
-pub(crate) fn locate_by<R: Threads + Sync, B: FileBytes + Sync>(
+pub(crate) fn locate_by<'a, 'p, R: Threads + Sync, B: FileBytes + Sync>(
     rt: &R,
     alloc: Global,
     site: Site<'_, '_>,
-    sought: SoughtLinks<'_, '_>,
+    leads: &'a [ListedLead],
+    linked: &'a [Linked<'p>],
     bytes: &B,
 ) -> Result<Vec<TargetPlace>, CheckError>
-    ensures links { IfOk result (λ places. All (IsTargetPlace (LeadsAsSaid site.entry.pages.results.now (map result_at sought.entry.linked.now)) site.entry.files.now site.entry.pages.results.now (B.reads bytes.now) sought.entry.leads.now) (map placed_at places.items)) }
-    ensures whole { IfOk result (λ places. All (HasPlace (LeadsAsSaid site.entry.pages.results.now (map result_at sought.entry.linked.now)) site.entry.files.now site.entry.pages.results.now (B.reads bytes.now) (map placed_at places.items)) sought.entry.leads.now) }
+    ensures links { IfOk result (λ places. All (IsTargetPlace (LeadsAsSaid site.entry.pages.results.now (map result_at linked.now)) site.entry.files.now site.entry.pages.results.now (B.reads bytes.now) leads.now) (map placed_at places.items)) }
+    ensures whole { IfOk result (λ places. All (HasPlace (LeadsAsSaid site.entry.pages.results.now (map result_at linked.now)) site.entry.files.now site.entry.pages.results.now (B.reads bytes.now) (map placed_at places.items)) leads.now) }
 {
-    let count = site.files.threads().min(sought.leads.len()).max(1);
+    let count = site.files.threads().min(leads.len()).max(1);
+    let sought = SoughtLinks { leads, linked };
     let chunks = places_by(rt, alloc, site, sought, bytes, count)?;
     let mut places = joined(alloc, chunks)?;
     sort_by_target(&mut places)?;
