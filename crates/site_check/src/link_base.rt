@@ -113,15 +113,26 @@ fn link_hint(
 fn are_few_below(top: &str, results: &[PageResult], rows: &[Broken]) -> bool
     ensures { result ≡ are_few_below top.now results.now rows.now }
 {
-    // A `u64` might not hold the sums.
+    let of = link_count(results);
+    let missing = u128::from(links_to_missing(rows));
     let mut below: u128 = 0;
+    for one in results {
+        // On most sites nearly all links begin with the top, so half of them decide.
+        if !is_few(below.saturating_sub(missing), of) {
+            return false;
+        }
+        below += u128::from(count_below(top, page_links(one)));
+    }
+    is_few(below.saturating_sub(missing), of)
+}
+
+/// The number of links in pages that were found. A `u64` might not hold it.
+fn link_count(results: &[PageResult]) -> u128 {
     let mut of: u128 = 0;
     for one in results {
-        let links = page_links(one);
-        below += u128::from(count_below(top, links));
-        of += links.len() as u128;
+        of += page_links(one).len() as u128;
     }
-    is_few(below.saturating_sub(u128::from(links_to_missing(rows))), of)
+    of
 }
 
 /// The links in a page, if it was found.
