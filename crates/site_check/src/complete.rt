@@ -121,8 +121,7 @@ struct Shown<'a> {
     text: &'a str,
 }
 
-/// Finds a location in a row of this target, at `last` or after it. Returns `last` if an entry of the ignore list matches the location. Two
-/// anchors can be printed alike, so the row is the first of this target at `last`, or the next one.
+/// Finds a location in a row of this target, at `last` or after it. Returns `last` if an entry of the ignore list matches the location.
 fn find_place(
     ignores: &[String],
     rows: &[Broken],
@@ -145,13 +144,12 @@ fn find_place(
     if is_place_ignored(ignores, target.text, place.file.as_str()) {
         return Some(last);
     }
-    let first = first_from(rows, target, last.row);
+    let first = RowPlace {
+        row: row_from(rows, target, last.row, place),
+        place: 0,
+    };
     if has_place(rows, target, first, place) {
-        return Some(first);
-    }
-    let other = first_from(rows, target, last.row.saturating_add(1));
-    if has_place(rows, target, other, place) {
-        Some(other)
+        Some(first)
     } else {
         None
     }
@@ -196,15 +194,13 @@ fn is_same_point(a: &Place, b: &Place) -> bool
     a.file.as_str() == b.file.as_str() && a.line == b.line && a.column == b.column
 }
 
-/// The first location of the first row from this one on that is one of this target.
-fn first_from(rows: &[Broken], target: Shown<'_>, from: usize) -> RowPlace {
+/// The number of the first row from this one on that is one of this target and has this location first. Two anchors with different
+/// fragments can be printed alike, so the row may not be the first one of its target.
+fn row_from(rows: &[Broken], target: Shown<'_>, from: usize, place: &Place) -> usize {
     let (_, following) = rows.split_at(from.min(rows.len()));
     let passed = following
         .iter()
-        .position(|row| is_row_of(target, row))
+        .position(|row| is_row_of(target, row) && has_point(row.places.as_slice(), 0, place))
         .unwrap_or(following.len());
-    RowPlace {
-        row: from.saturating_add(passed),
-        place: 0,
-    }
+    from.saturating_add(passed)
 }
