@@ -137,9 +137,9 @@ pub fn check_site<'f, R: Threads + Sync, B: FileBytes + Sync>(
     // page that leads to a missing page, directly or by a redirect, has an index, and its location is in the row of the missing page, unless
     // an entry matches the page or the location. The link of an alias has none.
     ensures complete { IfOk result (λ checked. AreOnce results.now → HasAllLinks input.entry.front.now (map string_bytes input.entry.ignores.now) input.entry.aliases.now input.entry.places.now files.now results.now (B.reads bytes.now) checked.broken.items) }
-    // No link to a missing anchor is left out. If the lists are in the order of their URLs, the location of each link to an anchor that its
-    // document lacks, and that has an index among the links of its file, is in the row of the anchor, unless an entry matches the anchor or
-    // the location.
+    // No link to a missing anchor is left out. If documents, aliases and results are in the order of their URLs, each URL once, the location
+    // of each kept link to an anchor that its document lacks is in a row of the anchor, unless the index of the link is not known, or an
+    // entry matches the anchor or the location.
     ensures anchor_places { IfOk result (λ checked. AreInOrder input.entry.anchors.now input.entry.aliases.now results.now → HasAllLacks input.entry.front.now (map string_bytes input.entry.ignores.now) input.entry.anchors.now input.entry.aliases.now files.now results.now (B.reads bytes.now) checked.broken.items) }
     // The rows of redirects are the moved results that are linked to.
     ensures redirects { IfOk result (λ checked. map way_of checked.redirects.items ≡ redirects_of input.entry.front.now results.now) }
