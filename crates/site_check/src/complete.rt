@@ -144,12 +144,9 @@ fn find_place(
     if is_place_ignored(ignores, target.text, place.file.as_str()) {
         return Some(last);
     }
-    let first = RowPlace {
-        row: row_from(rows, target, last.row, place),
-        place: 0,
-    };
-    if has_place(rows, target, first, place) {
-        Some(first)
+    let found = place_from(rows, target, last.row, place);
+    if has_place(rows, target, found, place) {
+        Some(found)
     } else {
         None
     }
@@ -194,13 +191,28 @@ fn is_same_point(a: &Place, b: &Place) -> bool
     a.file.as_str() == b.file.as_str() && a.line == b.line && a.column == b.column
 }
 
-/// The number of the first row from this one on that is one of this target and has this location first. Two anchors with different
-/// fragments can be printed alike, so the row may not be the first one of its target.
-fn row_from(rows: &[Broken], target: Shown<'_>, from: usize, place: &Place) -> usize {
+/// The number of the first row of this target, from this row on, that has the location, and the number of the location in it. There can be
+/// several rows of a target, because two anchors with different fragments can be printed alike.
+fn place_from(rows: &[Broken], target: Shown<'_>, from: usize, place: &Place) -> RowPlace {
     let (_, following) = rows.split_at(from.min(rows.len()));
     let passed = following
         .iter()
-        .position(|row| is_row_of(target, row) && has_point(row.places.as_slice(), 0, place))
+        .position(|row| is_row_of(target, row) && point_in(row, place) < row.places.len())
         .unwrap_or(following.len());
-    from.saturating_add(passed)
+    let number = match following.get(passed) {
+        Some(row) => point_in(row, place),
+        None => 0,
+    };
+    RowPlace {
+        row: from.saturating_add(passed),
+        place: number,
+    }
+}
+
+/// The number of the first location of the row that is at the same character as another one. The number of locations if there is none.
+fn point_in(row: &Broken, place: &Place) -> usize {
+    row.places
+        .iter()
+        .position(|own| is_same_point(own, place))
+        .unwrap_or(row.places.len())
 }
