@@ -302,9 +302,11 @@ class Check:
         return broken_of(other.rows())
 
     def anchors(self) -> List[Value]:
-        """The missing anchors as they are reported, without the list of what is ignored."""
-        found = sorted(self.model.anchors_missing(), key=lambda one: (one[0].encode(), one[1].encode("utf-8", "replace"))) if self.settings.anchors else []
-        return [shown_text(f"{self.model.shown(url)}#{fragment}") for url, fragment in found]
+        """The rows of the missing anchors as they are reported, without the list of what is ignored."""
+        if not self.settings.anchors:
+            return []
+        found = sorted(self.model.anchors_missing().items(), key=lambda one: (one[0][0].encode(), one[0][1].encode("utf-8", "replace")))
+        return [Record(text=shown_text(f"{self.model.shown(url)}#{fragment}"), pages=len(pages)) for (url, fragment), (pages, _) in found]
 
 
 def errors(check: Check) -> Iterator[str]:
