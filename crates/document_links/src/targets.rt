@@ -59,7 +59,8 @@ impl<'t> Targets<'t> {
         }
     }
 
-    /// The number of links with this text, if it has one.
+    /// The number of links with this text, if it has one. No clause says that it is found: a text that is not found is resolved again,
+    /// which only takes time.
     fn find(&self, text: &[u8]) -> Option<usize>
         requires { AreTargets self.now }
         ensures { IfSome result (λ number. HasNumber self.now text.now number) }
