@@ -39,7 +39,7 @@ pub enum FolderError {
     PagesLost,
     /// A file with a link that is reported cannot be read a second time.
     FileUnread,
-    /// The location of a link to a missing page is not reported, which would be a bug.
+    /// The location of a link to a missing page or a missing anchor is not reported, which would be a bug.
     LinkLost,
     /// The crawl of the site failed. The reason is never that memory ran out.
     Crawl(CrawlFailure),

@@ -11,6 +11,7 @@ pub mod FileEntries
 pub mod FileNames
 pub mod Forms
 pub mod Fronts
+pub mod KeptLacks
 pub mod KeptLinks
 pub mod LackedFound
 pub mod LeadsFound

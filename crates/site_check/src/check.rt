@@ -11,6 +11,7 @@ ghost use Rattle.site_check.specs.Hints.{hints_at, hints_in};
 ghost use Rattle.site_check.specs.Ignored.{not_ignored, anchors_in, anchors_left, text_at, unused};
 ghost use Rattle.site_check.specs.Invalid.{AreTexts, invalid_rows_in, row_of, text_of, texts_if};
 ghost use Rattle.site_check.specs.LackedLinks.{lack_of};
+ghost use Rattle.site_check.specs.LackedPlaces.{HasAllLacks, HasLackLeads};
 ghost use Rattle.site_check.specs.Lacks.{AreAnchors, AreLacks, is_any};
 ghost use Rattle.site_check.specs.Leads.{indices_in, leads_from, number_in, targets_of};
 ghost use Rattle.site_check.specs.Leaving.{leaving_in, outside_at, outside_linked, row_at, shown_at};
@@ -29,7 +30,7 @@ ghost use Rattle.site_check.specs.Worst.{file_links, worst_of};
 
 use crate::anchors::push_anchors;
 use crate::check_error::CheckError;
-use crate::complete::has_all_places;
+use crate::complete::{Targets, has_all_places};
 use crate::file_entries::leave_out;
 use crate::ignored::unused;
 use crate::indexed::has_indices;
@@ -136,6 +137,10 @@ pub fn check_site<'f, R: Threads + Sync, B: FileBytes + Sync>(
     // page that leads to a missing page, directly or by a redirect, has an index, and its location is in the row of the missing page, unless
     // an entry matches the page or the location. The link of an alias has none.
     ensures complete { IfOk result (λ checked. AreOnce results.now → HasAllLinks input.entry.front.now (map string_bytes input.entry.ignores.now) input.entry.aliases.now input.entry.places.now files.now results.now (B.reads bytes.now) checked.broken.items) }
+    // No link to a missing anchor is left out. If documents, aliases and results are in the order of their URLs, each URL once, the location
+    // of each kept link to an anchor that its document lacks is in a row of the anchor, unless the index of the link is not known, or an
+    // entry matches the anchor or the location.
+    ensures anchor_places { IfOk result (λ checked. AreInOrder input.entry.anchors.now input.entry.aliases.now results.now → HasAllLacks input.entry.front.now (map string_bytes input.entry.ignores.now) input.entry.anchors.now input.entry.aliases.now files.now results.now (B.reads bytes.now) checked.broken.items) }
     // The rows of redirects are the moved results that are linked to.
     ensures redirects { IfOk result (λ checked. map way_of checked.redirects.items ≡ redirects_of input.entry.front.now results.now) }
     // The unreached files are those of which a search from the starts found no page, by the first URL of each, in order, if they are listed.
@@ -210,6 +215,7 @@ fn sought_by<'p, R: Threads + Sync>(
 ) -> Result<BrokenLinks<'p>, CheckError>
     ensures invalid { IfOk result (λ sought. AreTexts (texts_if input.entry.scope.invalid input.entry.places.now site.entry.pages.results.now) (map text_of sought.invalid.items)) }
     ensures anchors { IfOk result (λ sought. AreSearchable site.entry.files.now site.entry.pages → AreAnchors input.entry.front.now site.entry.pages.anchors.now site.entry.pages.aliases.now site.entry.files.now site.entry.pages.results.now (map anchor_row sought.anchors.items)) }
+    ensures anchor_leads { IfOk result (λ sought. AreSearchable site.entry.files.now site.entry.pages → HasLackLeads input.entry.front.now (map string_bytes input.entry.ignores.now) site.entry.pages.anchors.now site.entry.pages.aliases.now site.entry.files.now site.entry.pages.results.now (map anchor_text sought.anchors.items) sought.leads.items) }
     ensures outside { IfOk result (λ sought. map outside_at sought.outside.items ≡ outside_linked input.entry.rooted input.entry.maps.now site.entry.files.now site.entry.pages.results.now input.entry.found.now) }
     ensures whole { IfOk result (λ sought. All (Contains sought.leads.items) (map (listed 0) (leads_from (number_in (targets_of input.entry.front.now (map string_bytes input.entry.ignores.now) (map result_at linked.now))) (indices_in input.entry.places.now) 0 site.entry.pages.results.now))) }
     ensures leads { IfOk result (λ sought. All (IsListed (leads_from (number_in (targets_of input.entry.front.now (map string_bytes input.entry.ignores.now) (map result_at linked.now))) (indices_in input.entry.places.now) 0 site.entry.pages.results.now)) sought.leads.items) }
@@ -352,7 +358,7 @@ fn results_of(
 ) -> Result<Checked, CheckError>
     ensures rows { IfOk result (λ checked. AreRows input.entry.front.now (map string_bytes input.entry.ignores.now) site.entry.files.now linked.now sought.now.anchors.items sought.now.invalid.items sought.now.outside.items checked.broken.items (map string_bytes checked.unused_ignores.items)) }
     ensures located { IfOk result (λ checked. All (IsLocatedRow (map placed_at places.now) (target_texts input.entry.front.now linked.now sought.now.anchors.items sought.now.invalid.items sought.now.outside.items)) (map located_row checked.broken.items)) }
-    ensures whole { IfOk result (λ checked. All (IsKeptPlace input.entry.front.now (map string_bytes input.entry.ignores.now) linked.now checked.broken.items) (map placed_at places.now)) }
+    ensures whole { IfOk result (λ checked. All (IsKeptPlace input.entry.front.now (map string_bytes input.entry.ignores.now) linked.now sought.now.anchors.items checked.broken.items) (map placed_at places.now)) }
     ensures redirects { IfOk result (λ checked. map way_of checked.redirects.items ≡ flat_map (ways_with input.entry.front.now) (map linked_at linked.now)) }
     ensures worst { IfOk result (λ checked. map file_links checked.worst.items ≡ worst_of checked.broken.items) }
     ensures unreached { IfOk result (λ checked. map string_bytes checked.unreached.items ≡ unreached_in input.entry.front.now site.entry.files.now input.entry.reached) }
@@ -414,18 +420,17 @@ fn rows_of(
 ) -> Result<Rows, CheckError>
     ensures rows { IfOk result (λ rows. AreRows input.entry.front.now (map string_bytes input.entry.ignores.now) site.entry.files.now linked.now others.entry.anchors.now others.entry.invalid.now others.entry.outside.now rows.broken.items (map string_bytes rows.unused_ignores.items)) }
     ensures located { IfOk result (λ rows. All (IsLocatedRow (map placed_at places.now) (target_texts input.entry.front.now linked.now others.entry.anchors.now others.entry.invalid.now others.entry.outside.now)) (map located_row rows.broken.items)) }
-    ensures whole { IfOk result (λ rows. All (IsKeptPlace input.entry.front.now (map string_bytes input.entry.ignores.now) linked.now rows.broken.items) (map placed_at places.now)) }
+    ensures whole { IfOk result (λ rows. All (IsKeptPlace input.entry.front.now (map string_bytes input.entry.ignores.now) linked.now others.entry.anchors.now rows.broken.items) (map placed_at places.now)) }
 {
     let mut broken = broken_all(alloc, input, site, linked, others, places)?;
     let unused_ignores = unused_entries(alloc, input, linked, others, broken.as_slice())?;
     leave_out(input.ignores, &mut broken);
-    let is_whole = has_all_places(
-        input.front,
-        input.ignores,
+    let targets = Targets {
+        front: input.front,
         linked,
-        broken.as_slice(),
-        places,
-    );
+        anchors: others.anchors,
+    };
+    let is_whole = has_all_places(targets, input.ignores, broken.as_slice(), places);
     if !is_whole {
         return Err(CheckError::LinkLost);
     }

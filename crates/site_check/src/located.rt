@@ -2,14 +2,14 @@
 ghost use Rattle.std.specs.Prelude.{◌≡◌, ◌++◌, [], true, All, IfOk, IsPermutation, MatchOption, OnOk, length, map, option_map, string_bytes, take_while};
 ghost use Rattle.document_links.specs.Places.{ArePlaces};
 ghost use Rattle.site_check.specs.Complete.{HasPlace, HasTaken, is_taken};
-ghost use Rattle.site_check.specs.Located.{IsFileOf, IsFirstPage, IsRowPlace, IsTargetPlace, IsToTarget, Pushes, PushesPlaces, comes_last, document_of, index_of, is_of, is_to, link_places, placed_at, places_from, put_last};
+ghost use Rattle.site_check.specs.Located.{IsFileOf, IsFirstPage, IsRowPlace, IsTargetPlace, IsToTarget, Pushes, PushesPlaces, comes_last, document_of, index_of, is_of, is_to, link_places, list_of, placed_at, places_from, put_last};
 ghost use Rattle.site_check.specs.Locations.{ascends, comes_before, if_any, in_row, is_earlier, location_in, location_of, text_kind, unless_same};
 
 use crate::check_error::CheckError;
 use crate::leads::Lead;
 use crate::site_pages::Site;
 use crate::worst::is_less;
-use check_report::Place;
+use check_report::{Kind, Place};
 use crawl_pages::NoMemory;
 use document_links::{Syntax, TextKind, TextPlace, text_places};
 use site_files::{Body, FileBytes, FileKind, SiteFile};
@@ -27,6 +27,22 @@ pub(crate) const TEXTS: usize = 2;
 
 /// The number of the list of URLs outside the site.
 pub(crate) const URLS: usize = 3;
+
+/// The number of the list with the target of a row of this kind.
+pub(crate) fn list_of(kind: Kind) -> usize
+    ensures { result ≡ list_of kind }
+{
+    match kind {
+        Kind::NoPage => PAGES,
+        Kind::NoAnchor => ANCHORS,
+        Kind::NotUrl => TEXTS,
+        Kind::UnknownScheme => TEXTS,
+        Kind::LocalFile => TEXTS,
+        Kind::Leaves => URLS,
+        Kind::OutsideBase => URLS,
+        Kind::NotInMap => URLS,
+    }
+}
 
 /// A link to a target of a list.
 #[derive(Clone, Copy)]
