@@ -95,9 +95,9 @@ FOLDERS = {
 # Missing pages, and the page that is suggested for each
 SUGGESTED: Dict[str, Optional[str]] = {
     "old/a.html": "n/a.html", "b.html": None, "c.html?x": "n/c.html", "gone.html": None, "n/": None, "x/sub": None, "N/A.html": "n/a.html", "c.HTML?x": "n/c.html",
-    "img/LOGO.png": "img/logo.png", "M/B.html": None, "x/readme.html": "o/readme.html", "x/README.html": "README.html", "Readme.html": None, "x/Sub": None, "x/index.html": None,
+    "img/LOGO.png": "img/logo.png", "M/B.html": "m/b.html", "x/B.html": None, "N/b.html?x": "n/b.html", "x/readme.html": "o/readme.html", "x/README.html": "README.html", "Readme.html": "README.html", "x/Sub": None, "x/index.html": None,
     "x/Index.html": None, "x/INDEX.htm": "o/index.htm", "%C3%BC.html": None, "x/%c3%9c.HTML": "%C3%9C.html", "x/e.HTML/": "e.html", "Q/": "q/", "x/q/": "q/", "x/q/?y": "q/", "Q": "q/", "x/Q.HTML": None,
-    "T/": None, "T/U/": "t/u/", "x/U": "t/u/", "w/t": None, "p/t/": None, "X/T": None, "v/": "o/v",
+    "T/": "t/", "T": None, "T/U/": "t/u/", "x/U": "t/u/", "w/t": None, "p/t/": None, "P/T": "p/t", "X/T": None, "v/": "o/v",
 }
 NAMESAKES: Dict[str, Union[str, bytes, To, Zeros]] = {
     "index.html": "\n".join(f"<a href={link}>" for link in SUGGESTED),
@@ -761,10 +761,23 @@ KNOWN = [
         ],
         (
             {"kind": "total", "links": 9, "broken": 2, "leaving": 5, "external": 2},
-            {"kind": "leaving", "target": "http://docs.test/x", "reason": "outside_base", "pages": 1},
+            {"kind": "leaving", "target": "http://docs.test/x", "reason": "outside_base", "pages": 1, "same_name": None},
             {"kind": "external", "url": "http://docs.test:8080/x", "links": 1}, {"kind": "external", "url": "https://docs.test/x", "links": 1},
         ),
         settings=(("base", "http://docs.test/project/"), ("external", True)),
+    ),
+    Known(
+        "links outside BASE to paths that the folder has",
+        {"index.html": "<a href=/><a href=/a.html><a href=/d/?x><a href=/d><a href=/A.html>", "a.html": "<a href=/a.html>", "d/index.html": ""},
+        [
+            "http://docs.test/ index.html:1:9", "http://docs.test/A.html index.html:1:60", "http://docs.test/a.html a.html:1:9", "http://docs.test/a.html index.html:1:19",
+            "http://docs.test/d index.html:1:49", "http://docs.test/d/?x index.html:1:35",
+        ],
+        tuple(
+            {"kind": "leaving", "target": f"http://docs.test/{path}", "same_name": None if page is None else f"http://docs.test/project/{page}"}
+            for path, page in {"": "", "a.html": "a.html", "d/?x": "d/", "d": None, "A.html": None}.items()
+        ),
+        settings=(("base", "http://docs.test/project/"),),
     ),
     Known(
         "links that leave and are ignored",
@@ -1006,6 +1019,12 @@ KNOWN = [
         ["gone index.html:1:9"],
         (*unlisted("a.html", "c.html", "d/", "f"), {"kind": "total", "unlisted": 4, "pages": 9}),
         settings=(("sitemap", True),),
+    ),
+    Known(
+        "documents that no sitemap lists, and entries that match some",
+        {"index.html": "<a href=a.html>", "a.html": "", "b.html": "", "c/index.html": "", "d.html": "<a href=e.html>", "sitemap.txt": "http://docs.test/\n"},
+        [], (*unlisted("b.html"), {"kind": "total", "unlisted": 1, "missing_pages": 0}, *({"kind": "unused", "name": name} for name in ("b.html: *", "index", "x"))),
+        settings=(("sitemap", True), ("ignores", ("a.html", "c*", "d", "b.html: *", "index", "x", "e.html"))),
     ),
     Known(
         "documents that a list of URLs names", {"index.html": "", "a.html": "", "sitemap.txt": "http://docs.test/\n", "feed.rss": "<rss><link>a.html</link></rss>"},

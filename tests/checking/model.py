@@ -258,6 +258,11 @@ def name_of(url: str) -> str:
     return re.split("[?]", url)[0].removesuffix("/").rpartition("/")[2]
 
 
+def path_of(url: str) -> str:
+    """A URL without its query."""
+    return url.partition("?")[0]
+
+
 def in_lower_case(text: str) -> bytes:
     """A text with its ASCII letters in lower case. No other letter is changed."""
     return text.encode("utf-8", "surrogateescape").lower()
@@ -748,7 +753,7 @@ class Model:
         ]
         files = sorted(Counter(row["file"] for row in places).items(), key=lambda row: (-row[1], row[0].encode()))
         unreached = list(self.unreached()) if self.settings.unreached else []
-        unlisted = list(self.unlisted()) if self.settings.sitemap else []
+        unlisted = [name for name in self.unlisted() if not matches_any(self.settings.ignores, name)] if self.settings.sitemap else []
         external = self.external() if self.settings.external else []
         counts = {"unreached": len(unreached)} if self.settings.unreached else {}
         counts.update({"unlisted": len(unlisted)} if self.settings.sitemap else {})
@@ -842,8 +847,14 @@ class Model:
                 folder = self.mapped.folder_of(url)
                 usual = "above_folder" if self.settings.is_rooted() else "outside_base"
                 shown = {"target": target, "reason": "not_in_map" if folder else usual}
-                yield {"kind": "leaving", **shown, "pages": len(linking[url]), **({"hint": folder} if folder else {})}
+                page = {"same_name": self.page_below(url)} if shown["reason"] == "outside_base" else {}
+                yield {"kind": "leaving", **shown, "pages": len(linking[url]), **page, **({"hint": folder} if folder else {})}
                 yield from self.place_rows({"kind": "leaving_place", **shown}, left)
+
+    def page_below(self, url: str) -> Optional[str]:
+        """The page that has the same path below the top as this URL has below the host."""
+        page = str(self.site.base) + path_of(url)[len(origin_of(self.site.base)):]
+        return page if self.files.get(page) else None
 
     def shown_outside(self, url: str) -> str:
         """A URL that is not below the top as the report prints it: without BASE, as a path from the top."""
@@ -946,10 +957,15 @@ class Model:
         return None if file is None else Namesake(self.settings.front + other, file)
 
     def namesake(self, url: str) -> Optional[Namesake]:
-        """The only page with the name of a URL or, if no page has that, the only one with it in another case."""
+        """The only page with the name of a URL or, if no page has that, the only one with it in another case.
+
+        If there are several, it is the only one whose path differs from that of the URL in nothing but case.
+        """
         name = name_of(self.shown(url))
         pages = self.namesakes.get(in_lower_case(name), []) if name else []
         found = [page for page in pages if name_of(page.url) == name] or pages
+        if len(found) > 1:
+            found = [page for page in pages if in_lower_case(path_of(page.url)) == in_lower_case(path_of(url))]
         return found[0] if len(found) == 1 else None
 
     def unreached(self) -> Iterator[str]:
@@ -990,8 +1006,9 @@ class Model:
         return [{"kind": "external", "url": url, "links": count} for url, count in sorted(urls.items(), key=lambda row: row[0].encode())]
 
     def unused(self) -> Iterator[Row]:
-        """The rows of ignore entries that match nothing. Those for some files match nothing that one for all files matches."""
+        """The rows of ignore entries that match nothing. Those for some files match nothing that one for all files matches, and no document that no sitemap lists."""
         broken = list(self.targets())
+        broken += [(name, {}) for name in self.unlisted()] if self.settings.sitemap else []
         left = [one for one in broken if not matches_any(self.settings.ignores, one[0])]
         for entry in self.settings.ignores:
             if not any(is_used(entry, target, places) for target, places in (broken if is_everywhere(entry) else left)):

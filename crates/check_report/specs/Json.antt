@@ -70,6 +70,17 @@ has_hint Leaves = false
 has_hint OutsideBase = false
 has_hint NotInMap = true
 
+-- whether a page can be suggested for the target
+abbrev pub has_page : Kind → Bool
+has_page NoPage = true
+has_page NoAnchor = true
+has_page NotUrl = false
+has_page UnknownScheme = false
+has_page LocalFile = false
+has_page Leaves = false
+has_page OutsideBase = true
+has_page NotInMap = false
+
 -- the kind of the row of a target
 abbrev pub target_kind : Kind → List ℕ
 target_kind k = if is_missing k then codes "broken" else (if is_leaving k then codes "leaving" else codes "invalid")
@@ -102,9 +113,9 @@ place_counts p =
 abbrev pub target_at : Broken → Members → Members
 target_at b rest = text_at (codes "target") (string_bytes b.target) (text_at (wrong_key b.kind) (wrong_word b.kind) rest)
 
--- the page that is suggested, or `null`; nothing if neither a page nor an anchor is missing
+-- the page that is suggested, or `null`; nothing if none can be suggested for such a target
 abbrev pub same_name_at : Broken → Members → Members
-same_name_at b rest = if is_missing b.kind then member (codes "same_name") (text_or_null (option_map string_bytes b.same_name)) rest else rest
+same_name_at b rest = if has_page b.kind then member (codes "same_name") (text_or_null (option_map string_bytes b.same_name)) rest else rest
 
 -- the hint, or `null`; nothing if the kind of the target has none
 abbrev pub hint_at : Broken → Members → Members

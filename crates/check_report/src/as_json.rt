@@ -1,6 +1,6 @@
 //! Prints a row as a JSON object.
 ghost use Rattle.std.specs.Prelude.{◌≡◌, ◌++◌, OnOk};
-ghost use Rattle.check_report.specs.Json.{has_hint, is_leaving, is_missing, json_line, members_of, object_line, place_kind, row_kind, target_kind, wrong_key, wrong_word};
+ghost use Rattle.check_report.specs.Json.{has_hint, has_page, is_leaving, is_missing, json_line, members_of, object_line, place_kind, row_kind, target_kind, wrong_key, wrong_word};
 ghost use Rattle.check_report.specs.Rows as line;
 ghost use Rattle.check_report.specs.Rows.{line_of};
 
@@ -86,7 +86,7 @@ fn put_broken(out: &mut Vec<u8>, broken: &Broken) -> Result<(), NoMemory>
             Member::Text("target", broken.target.as_str()),
             Member::Text(wrong_key(kind), wrong_word(kind)),
             Member::Count("pages", broken.pages),
-            Member::TextOrNullIf(is_missing(kind), "same_name", &broken.same_name),
+            Member::TextOrNullIf(has_page(kind), "same_name", &broken.same_name),
             Member::TextOrNullIf(has_hint(kind), "hint", &broken.hint),
         ],
     )
@@ -208,6 +208,17 @@ fn is_missing(kind: Kind) -> bool
         | Kind::Leaves
         | Kind::OutsideBase
         | Kind::NotInMap => false,
+    }
+}
+
+/// Whether a page can be suggested for a target.
+fn has_page(kind: Kind) -> bool
+    ensures { result ≡ has_page kind }
+{
+    match kind {
+        Kind::NoPage | Kind::NoAnchor | Kind::OutsideBase => true,
+        Kind::NotUrl | Kind::UnknownScheme | Kind::LocalFile | Kind::Leaves | Kind::NotInMap =>
+            false,
     }
 }
 

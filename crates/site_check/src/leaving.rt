@@ -1,14 +1,14 @@
 //! Links that lead out of the site: to URLs on its host that are not below its top.
-ghost use Rattle.std.specs.Prelude.{◌≡◌, ◌++◌, ◌<◌, ℕ, List, true, IfOk, MatchOption, OnOk, length, map, option_map, string_bytes};
+ghost use Rattle.std.specs.Prelude.{◌≡◌, ◌∷◌, ◌++◌, ◌+◌, ◌<◌, ℕ, List, [], None, Some, drop, true, if◌then◌else◌, IfOk, MatchOption, OnOk, length, map, option_map, string_bytes};
 ghost use Rattle.std.specs.List.{flat_map};
 ghost use Rattle.crawl_sources.specs.Tallies.{pointed};
 ghost use Rattle.site_files.specs.declared.files.SiteFiles.{SiteFiles};
-ghost use Rattle.site_check.specs.Broken.{is_ignored, linked_at};
+ghost use Rattle.site_check.specs.Broken.{begins, is_ignored, linked_at};
 ghost use Rattle.site_check.specs.Hints.{hints_in};
 ghost use Rattle.site_check.specs.Ignored.{anchors_in};
 ghost use Rattle.site_check.specs.Invalid.{invalid_rows_in};
 ghost use Rattle.site_check.specs.Leads.{indices_in, leads_from, number_at, number_in, target_at};
-ghost use Rattle.site_check.specs.Leaving.{is_left, is_outside, leaving_in, leaving_kind, outside_at, outside_linked, outside_number, outside_of, outside_row, outside_targets, outside_text, path_from, row_at, shown_at, steps_up};
+ghost use Rattle.site_check.specs.Leaving.{is_left, is_outside, leaving_in, leaving_kind, outside_at, outside_linked, outside_number, outside_of, outside_row, outside_targets, outside_text, page_below, page_for, page_of_file, path_from, row_at, shown_at, steps_up};
 ghost use Rattle.site_check.specs.Located.{KeepsRows, located_row, placed_at, row_unless};
 ghost use Rattle.site_check.specs.Locations.{location_of};
 ghost use Rattle.site_check.specs.Names.{AreNamed};
@@ -27,7 +27,7 @@ use crate::site_pages::Site;
 use crate::threads::leads_by;
 use check_report::{Broken, Kind, Place};
 use crawl_pages::{NoMemory, PageResult};
-use site_files::SiteFiles;
+use site_files::{SiteFiles, before_query};
 use std::alloc::Global;
 use std::collections::BTreeMap;
 use std::thread::Threads;
@@ -111,12 +111,69 @@ fn with_text<'a>(
     let text = outside_text(alloc, files, input.rooted, url)?;
     let folder = folder_of(input.maps, url);
     let kind = kind_of(input.rooted, folder);
+    let page = page_for(alloc, files, kind, url)?;
     Ok(Outside {
         linked,
         text,
         kind,
         folder,
+        page,
     })
+}
+
+/// The page that may be meant by a URL that is outside the site in this way.
+fn page_for(
+    alloc: Global,
+    files: &SiteFiles<'_>,
+    kind: Kind,
+    url: &str,
+) -> Result<Option<String>, NoMemory>
+    ensures { IfOk result (λ page. option_map string_bytes page ≡ page_for kind (page_below files.now url.now)) }
+{
+    match kind {
+        Kind::OutsideBase => page_below(alloc, files, url),
+        Kind::NoPage
+        | Kind::NoAnchor
+        | Kind::NotUrl
+        | Kind::UnknownScheme
+        | Kind::LocalFile
+        | Kind::Leaves
+        | Kind::NotInMap => Ok(None),
+    }
+}
+
+/// The page of the site that has the same path below the top as this URL has below the host.
+fn page_below(alloc: Global, files: &SiteFiles<'_>, url: &str) -> Result<Option<String>, NoMemory>
+    ensures { IfOk result (λ page. option_map string_bytes page ≡ page_below files.now url.now) }
+{
+    match path_below(files.origin(), before_query(url)) {
+        Some(path) => {
+            let mut text = String::from_str(alloc, files.top())?;
+            text.push_str(path)?;
+            Ok(page_of_file(files, text))
+        }
+        None => Ok(None),
+    }
+}
+
+/// What follows the origin and a slash.
+fn path_below<'a>(origin: &str, url: &'a str) -> Option<&'a str>
+    ensures { option_map (λ path. path.now) result ≡ (if begins (origin.now ++ 47 ∷ []) url.now then Some (drop (length origin.now + 1) url.now) else None) }
+{
+    match url.strip_prefix(origin) {
+        Some(rest) => rest.strip_prefix("/"),
+        None => None,
+    }
+}
+
+/// The URL, if a file has it.
+fn page_of_file(files: &SiteFiles<'_>, url: String) -> Option<String>
+    ensures { option_map string_bytes result ≡ page_of_file files.now (string_bytes url) }
+{
+    match files.file_of(url.as_str()) {
+        Some(_) => Some(url),
+        None => None,
+    }
 }
 
 /// The kind of the row of a URL that was looked up in this folder, if in any.
@@ -283,7 +340,7 @@ pub(crate) fn push_outside(
 }
 
 /// Appends the row of a URL, unless an entry matches it.
-#[tactic(auto, using(crate::proofs::LeavingRows::no_page, crate::proofs::LeavingRows::no_anchor, crate::proofs::LeavingRows::no_text, crate::proofs::LeavingRows::no_hint, crate::proofs::LeavingRows::no_name))]
+#[tactic(auto, using(crate::proofs::LeavingRows::no_page, crate::proofs::LeavingRows::no_anchor, crate::proofs::LeavingRows::no_text, crate::proofs::LeavingRows::no_hint, crate::proofs::LeavingRows::own_name))]
 fn push_row(
     alloc: Global,
     ignores: &[String],
@@ -304,12 +361,13 @@ fn push_row(
     }
     let target = one.text.clone()?;
     let hint = copy(alloc, one.folder)?;
+    let page = copy(alloc, one.page.as_deref())?;
     all.push(Broken {
         target,
         kind: one.kind,
         pages: one.linked.pages,
         places,
-        same_name: None,
+        same_name: page,
         hint,
     })?;
     Ok(())

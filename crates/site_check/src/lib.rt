@@ -38,3 +38,4 @@ pub use check_error::CheckError;
 pub use ignored::read_ignores;
 pub use input::{CheckInput, MapName, Scope};
 pub use maps::is_under;
+pub use unlisted::ignore_unlisted;

@@ -210,7 +210,7 @@ const REPORT_OPTIONS: &[Valued] = &[Valued {
 const IGNORE_OPTIONS: &[Valued] = &[Valued {
     name: "ignore",
     value: "LIST",
-    help: "Ignore each target that begins with a line of the file LIST, or matches one such as img/*.png",
+    help: "Ignore each target that begins with a line of the file LIST, or matches one such as *.png; with BASE, a target is a URL",
 }];
 
 /// Which documents and links are checked.
