@@ -23,7 +23,7 @@ PATH = re.compile("[^?#]*")
 DOCUMENTS = ("html", "xml", "")  # the forms of files whose links are rewritten
 # Why a link stays as it is
 ENCODING, WRITTEN = "the file is not in UTF-8, or begins with a byte order mark", "it is not written as it is read, or follows another one in a list"
-NEW_TEXT, OTHER_LINKS = "its new text would need escapes, or would lead elsewhere", "other links of the file would lead elsewhere"
+NEW_TEXT, OTHER_CHANGES = "it has no path, or its new text would need escapes or lead elsewhere", "rewriting the file would change other links or text"
 
 Moves = Dict[str, str]  # where links lead, and where they are to lead
 
@@ -164,9 +164,10 @@ class Page:
         return [found[at] for at in sorted(found)]
 
     def first_left(self, is_changed: bool) -> str:
-        """The first link that stays as it is, and why, in brackets."""
-        left = [(line, column, reason or OTHER_LINKS) for line, column, reason in self.reasons if reason or not is_changed]
-        return f" (the first is at {left[0][0]}:{left[0][1]}: {left[0][2]})" if left else ""
+        """The first link in the file that stays as it is, and why, in brackets. The attributes of a tag are not read in their order."""
+        left = [(line, column, reason or OTHER_CHANGES) for line, column, reason in self.reasons if reason or not is_changed]
+        line, column, reason = min(left, key=lambda link: link[:2], default=(0, 0, ""))
+        return f" (the first is at {line}:{column}: {reason})" if left else ""
 
     def kind_of(self, lead: str) -> str:
         """The kind of a link that leads to a URL with a move, as it is counted."""

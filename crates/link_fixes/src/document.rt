@@ -33,11 +33,11 @@ pub struct DocumentFix {
     pub moved: usize,
     /// The number of links for which there is a move, and that still lead to the same URL as before.
     pub left: usize,
-    /// The first of these links.
+    /// The first of these links, by its location in the document.
     pub first_left: Option<LeftLink>,
 }
 
-/// A link for which there is a move, and that was not rewritten.
+/// The location of a link for which there is a move, and why it was not rewritten.
 #[derive(Clone, Copy)]
 pub struct LeftLink {
     pub line: u64,
@@ -52,19 +52,19 @@ pub enum LeftReason {
     Encoding,
     /// The document does not have the link literally at its position, or another link at this position was rewritten.
     Written,
-    /// Its new text would need escapes, or would lead elsewhere.
+    /// It has no path, or its new text would need escapes or lead elsewhere.
     NewText,
-    /// Other links of the document would lead elsewhere.
-    OtherLinks,
+    /// Another link of the document would lead elsewhere, or a text that is no link would change.
+    OtherChanges,
 }
 
 /// The edits of a document, and the links without one.
 #[derive(Drop)]
 struct Edits {
     edits: Vec<Edit>,
-    /// The first link without an edit.
+    /// The first link in the document without an edit.
     left: Option<LeftLink>,
-    /// The first link that stays if no link is rewritten.
+    /// The first link in the document with or without one, which stays if no link is rewritten.
     first: Option<LeftLink>,
 }
 
@@ -258,14 +258,24 @@ fn edits_of(
 
 /// Notes a link at a place, which has an edit or, for a reason, none.
 fn note_link(found: &mut Edits, place: &TextPlace, reason: Option<LeftReason>) {
-    if found.first.is_none() {
-        found.first = Some(left_at(place, reason.unwrap_or(LeftReason::OtherLinks)));
+    let link = left_at(place, reason.unwrap_or(LeftReason::OtherChanges));
+    found.first = Some(earlier(found.first, link));
+    if reason.is_some() {
+        found.left = Some(earlier(found.left, link));
     }
-    if let Some(reason) = reason
-        && found.left.is_none()
-    {
-        found.left = Some(left_at(place, reason));
+}
+
+/// The one of two links that is first in the document. The attributes of a tag are not read in their order.
+fn earlier(noted: Option<LeftLink>, link: LeftLink) -> LeftLink {
+    match noted {
+        Some(noted) if !is_before(link, noted) => noted,
+        _ => link,
     }
+}
+
+/// Whether a link is before another one in the document.
+fn is_before(link: LeftLink, other: LeftLink) -> bool {
+    link.line < other.line || link.line == other.line && link.column < other.column
 }
 
 /// The link at a place, which stays as it is for this reason.

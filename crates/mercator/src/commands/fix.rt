@@ -233,8 +233,9 @@ fn why_left(reason: LeftReason) -> &'static str {
     match reason {
         LeftReason::Encoding => "the file is not in UTF-8, or begins with a byte order mark",
         LeftReason::Written => "it is not written as it is read, or follows another one in a list",
-        LeftReason::NewText => "its new text would need escapes, or would lead elsewhere",
-        LeftReason::OtherLinks => "other links of the file would lead elsewhere",
+        LeftReason::NewText =>
+            "it has no path, or its new text would need escapes or lead elsewhere",
+        LeftReason::OtherChanges => "rewriting the file would change other links or text",
     }
 }
 
