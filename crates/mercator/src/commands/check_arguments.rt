@@ -23,8 +23,10 @@ const LOCAL: &str =
 
 const CHECK_HELP: &str = "\
 Reports links to pages or anchors that do not exist, and invalid links, with the file, line and
-column of each. The exit status is 4 if a link is broken or invalid, or leaves the site, or if
---sitemap reports a document; with --fix --dry-run, it is 4 if a link would be rewritten.
+column of each. Links are read from attributes such as href, src and srcset, and from styles, but
+not from the action of a form. The exit status is 4 if a link is broken or invalid, or leaves the
+site, or if --sitemap reports a document; with --fix --dry-run, it is 4 if a link would be
+rewritten.
 Example: mercator check examples/site";
 
 /// `check`: finds the broken links of a folder.
