@@ -1,7 +1,7 @@
-use Rattle.mercator_site.proofs.Prelude.{ℕ, List, [], ap, refl, map, not, length, string_bytes, subst, sym, true, false, ◌≡◌, ◌==◌, ◌∙◌, AreResults, Asks, asks_in, Alias, PageResult}
+use Rattle.mercator_site.proofs.Prelude.{ℕ, List, Global, Vec, ap, refl, map, not, length, string_bytes, subst, true, false, ◌≡◌, ◌==◌, ◌∙◌, AreResults, Asks, asks_in, Alias, PageResult}
 use Rattle.std.proofs.Common.{Bool}
 use Rattle.std.specs.Borrow.{Bor}
-use Rattle.std.specs.Prelude.{All, Option, Some, None, is_some, option_map}
+use Rattle.std.specs.Prelude.{All, Option, Some, None, String, is_some, option_map}
 use Rattle.check_report.specs.Text.{is_broken}
 use Rattle.mercator_site.specs.Checks.{listed_in, reached_in, unlisted_by, unreached_by}
 use Rattle.mercator_site.specs.Inputs.{Input, input_in, input_with}
@@ -37,9 +37,70 @@ if_reported : (site : LinkedSite) (reported : Bool) → is_some (listed_in site 
 if_reported site true = refl
 if_reported site false = refl
 
-module _ (found left : Checked) (site : SiteFiles) (reads : ℕ → Option (List ℕ) → Type 0) (own pages : List PageResult) (reached : Option (List PageResult)) (aliases : List Alias) (asks : Asks) (input : CheckInput) where
-  -- the documents that no sitemap lists are those of the settings that the input has
-  listed_as : (documents : List (List ℕ)) (sitemaps : Option (List (List ℕ))) → input_in input ≡ input_with asks (names_of asks.folders) (unmapped asks.folders pages) aliases documents reached sitemaps
-      → map string_bytes found.unlisted.items ≡ unlisted_in input.front.now input.aliases.now input.documents.now input.listed → map string_bytes found.unlisted.items ≡ unlisted_by asks.front aliases documents sitemaps
-  listed_as documents sitemaps same unlisted =
-      unlisted ∙ by_listed input.front.now input.aliases.now input.documents.now input.listed ∙ ap (λ (i : Input). unlisted_by i.front i.aliases i.documents i.listed) same
+-- these results with other documents that no sitemap lists and other unused entries
+abbrev with_lists : Checked → Vec (String Global) Global → Vec (String Global) Global → Checked
+with_lists found documents entries = record {
+  totals = found.totals;
+  broken = found.broken;
+  worst = found.worst;
+  redirects = found.redirects;
+  unreached = found.unreached;
+  unlisted = documents;
+  unused_ignores = entries;
+  base_hint = found.base_hint;
+}
+
+module _ (found : Checked) (texts entries : Vec (String Global) Global) (site : SiteFiles) (reads : ℕ → Option (List ℕ) → Type 0) (own pages : List PageResult) (reached : Option (List PageResult)) (aliases : List Alias) (documents : List (List ℕ)) (sitemaps : Option (List (List ℕ))) (asks : Asks) (input : CheckInput) (same : input_in input ≡ input_with asks (names_of asks.folders) (unmapped asks.folders pages) aliases documents reached sitemaps) where
+  -- the documents that no sitemap lists are those by the settings that the input has
+  unlisted_as : map string_bytes found.unlisted.items ≡ unlisted_in input.front.now input.aliases.now input.documents.now input.listed → map string_bytes found.unlisted.items ≡ unlisted_by asks.front aliases documents sitemaps
+  unlisted_as unlisted = unlisted ∙ by_listed input.front.now input.aliases.now input.documents.now input.listed ∙ ap (λ (i : Input). unlisted_by i.front i.aliases i.documents i.listed) same
+
+  -- what is found with an input is found with the settings that the input has
+  results_of : is_some sitemaps ≡ asks.report.lists.unlisted
+      → AreReported input.front.now (map string_bytes input.ignores.now) input.scope input.places.now input.rooted input.maps.now site own input.found.now found.broken.items (map string_bytes found.unused_ignores.items)
+      → map way_of found.redirects.items ≡ redirects_of input.front.now own → found.totals ≡ totals_of input.aliases.now input.documents.now own found.broken.items found.redirects.items
+      → is_broken found.totals ≡ not (length found.broken.items == 0) → map file_links found.worst.items ≡ worst_of found.broken.items
+      → map string_bytes found.unreached.items ≡ unreached_in input.front.now site input.reached → All (IsLocated input.front.now input.places.now site own reads) found.broken.items
+      → (AreOnce own → HasAllLinks input.front.now (map string_bytes input.ignores.now) input.aliases.now input.places.now site own reads found.broken.items)
+      → option_map hint_at found.base_hint ≡ base_hint_of input.rooted site own found.broken.items
+      → map string_bytes found.unlisted.items ≡ unlisted_in input.front.now input.aliases.now input.documents.now input.listed
+      → map string_bytes texts.items ≡ not_ignored asks.entries (map string_bytes found.unlisted.items)
+      → map string_bytes entries.items ≡ unused_by (map string_bytes found.unlisted.items) (map string_bytes found.unused_ignores.items)
+      → AreResults site reads own pages reached aliases asks (with_lists found texts entries)
+  results_of reported rows ways totals verdict worst unreached located complete hint unlisted texts_left entries_left = record {
+    ways = ways ∙ ap (λ (i : Input). redirects_of i.front own) same;
+    documents = documents;
+    totals = totals ∙ ap (λ (i : Input). totals_of i.aliases i.documents own found.broken.items found.redirects.items) same;
+    places = input.places.now;
+    unused = map string_bytes found.unused_ignores.items;
+    rows =
+        subst (λ (i : Input). AreReported i.front i.entries i.scope input.places.now i.rooted i.maps site own i.found found.broken.items (map string_bytes found.unused_ignores.items))
+        same rows;
+    sitemaps = sitemaps;
+    are_reported = reported;
+    unlisted = texts_left ∙ ap (not_ignored asks.entries) (unlisted_as unlisted);
+    unused_left = entries_left ∙ ap (λ all. unused_by all (map string_bytes found.unused_ignores.items)) (unlisted_as unlisted);
+    located = subst (λ (i : Input). All (IsLocated i.front input.places.now site own reads) found.broken.items) same located;
+    complete = subst (λ (i : Input). AreOnce own → HasAllLinks i.front i.entries i.aliases input.places.now site own reads found.broken.items) same complete;
+    verdict = verdict;
+    worst = worst;
+    unreached = unreached ∙ by_reached input.front.now site input.reached ∙ ap (λ (i : Input). unreached_by i.front site i.reached) same;
+    base_hint = hint ∙ ap (λ (i : Input). base_hint_of i.rooted site own found.broken.items) same;
+  }
+
+pub returns : goal.returns
+returns g c =
+    let asks = asks_in c.args.settings in
+    let site = c.args.crawled.site.now in
+    let lists = c.args.settings.report.lists in
+    let pages = c.args.crawled.pages.now in
+    let checked = c.in_ok-checked.ensures in
+    let names = c.as_slice-2.ensures.value ∙ c.in_ok-names.ensures in
+    let left = c.as_slice.ensures.value ∙ c.in_ok-left.ensures in
+    let reached = reached_in c.args.crawled.crawls.now lists.unreached in
+    let listed = listed_in site lists.unlisted in
+    let same = c.input_of-input.ensures ∙ ap (λ ns. input_with asks ns c.as_slice.result.now site.aliases.items site.documents.items reached listed) names
+    ∙ ap (λ rs. input_with asks (names_of asks.folders) rs site.aliases.items site.documents.items reached listed) left in
+    results_of c.in_ok-checked.checked c.ignore_unlisted.documents.new c.ignore_unlisted.unused_entries.new c.args.files.now (g.B.FileBytes.reads c.args.bytes.now) c.args.crawled.own.now pages reached
+    site.aliases.items site.documents.items listed asks c.input_of-input.result same (if_reported site lists.unlisted) checked.rows checked.redirects checked.totals checked.verdict checked.worst checked.unreached checked.places checked.complete
+    checked.base_hint checked.unlisted c.ignore_unlisted.ensures.documents c.ignore_unlisted.ensures.unused
