@@ -101,6 +101,6 @@ returns g c =
     let listed = listed_in site lists.unlisted in
     let same = c.input_of-input.ensures ∙ ap (λ ns. input_with asks ns c.as_slice.result.now site.aliases.items site.documents.items reached listed) names
     ∙ ap (λ rs. input_with asks (names_of asks.folders) rs site.aliases.items site.documents.items reached listed) left in
-    results_of c.in_ok-checked.checked c.ignore_unlisted.documents.new c.ignore_unlisted.unused_entries.new c.args.files.now (g.B.FileBytes.reads c.args.bytes.now) c.args.crawled.own.now pages reached
+    results_of c.in_ok-checked.checked c.ignore_unlisted.new.documents c.ignore_unlisted.new.unused_entries c.args.files.now (g.B.FileBytes.reads c.args.bytes.now) c.args.crawled.own.now pages reached
     site.aliases.items site.documents.items listed asks c.input_of-input.result same (if_reported site lists.unlisted) checked.rows checked.redirects checked.totals checked.verdict checked.worst checked.unreached checked.places checked.complete
     checked.base_hint checked.unlisted c.ignore_unlisted.ensures.documents c.ignore_unlisted.ensures.unused
