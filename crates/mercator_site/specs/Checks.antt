@@ -110,9 +110,10 @@ other_rows contents = option_map (λ urls. map row_of urls.now) contents.externa
 -- the results of a check of a site are those of a crawl: in `own`, the results of the site's own URLs, the missing pages and the redirects,
 -- each with the number of pages that link to it, and the invalid links, if they are reported; in `pages`, all results, the missing pages on
 -- the site's host that are not below the top and that no folder of a map has; in `reached`, what a search finds, the files that it does not
--- reach; the documents that no sitemap lists, without those that an entry matches; the entries that match nothing; the files with the most broken links; and the hint at BASE. The totals count the pages at the own
--- URLs of files, those of some documents apart, their links, the pages at these aliases, and the rows. By the totals something is broken if
--- there is a row: of a missing page or anchor, of an invalid link, or of a link that leads out of the site
+-- reach; the documents that no sitemap lists, without those that an entry matches; the entries that match nothing; the files with the most
+-- broken links; and the hint at BASE. The totals count the pages at the own URLs of files, those of some documents apart, their links, the
+-- pages at these aliases, and the rows. By the totals something is broken if there is a row: of a missing page or anchor, of an invalid
+-- link, or of a link that leads out of the site
 pub record AreResults (site : SiteFiles) (reads : ℕ → Option (List ℕ) → Type 0) (own pages : List PageResult) (reached : Option (List PageResult)) (aliases : List Alias) (asks : Asks) (checked : Checked) : Type 0 where
   pub ways : map way_of checked.redirects.items ≡ redirects_of asks.front own
   -- the own URLs of documents
