@@ -23,7 +23,8 @@ pub record IsIndexedLack (front : List ℕ) (entries : List (List ℕ)) (documen
 pub record IsLackKept (entries : List (List ℕ)) (files : SiteFiles) (reads : ℕ → Option (List ℕ) → Type 0) (rows : List Broken) (page : PageResult) (index : ℕ) (target : List ℕ) : Type 0 where
   pub name : List ℕ
   pub place : TextPlace
-  pub is_link : IsLinkAt files reads page index name place
+  pub own : Option (List ℕ)
+  pub is_link : IsLinkAt files reads page index name place own
   pub kept : IsKept entries rows 1 target (location_in name place)
 
 -- so it is for each link to a missing anchor

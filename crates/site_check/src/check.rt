@@ -110,7 +110,7 @@ impl Checked {
 /// count links and find those to missing pages, or one thread if the rules name fewer than four.
 ///
 /// # Errors
-/// `FileUnread`, `LinkLost`, `NoMemory`.
+/// `FileUnread`, `FileChanged`, `LinkLost`, `NoMemory`.
 #[tactic(auto, using(crate::proofs::AllRows::ways_of_all))]
 pub fn check_site<'f, R: Threads + Sync, B: FileBytes + Sync>(
     rt: &R,
@@ -165,7 +165,7 @@ pub fn check_site<'f, R: Threads + Sync, B: FileBytes + Sync>(
     let linked = linked_results(rt, alloc, results, files.threads())?;
     let all = linked.as_slice();
     let sought = sought_by(rt, alloc, input, site, all)?;
-    let places = locate_by(rt, alloc, site, sought.leads.as_slice(), bytes)?;
+    let places = locate_by(rt, alloc, site, sought.leads.as_slice(), all, bytes)?;
     results_of(alloc, input, site, all, &sought, places.as_slice())
 }
 

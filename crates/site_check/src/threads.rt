@@ -8,7 +8,8 @@ ghost use Rattle.site_check.specs.Documents.{AreSearchable};
 ghost use Rattle.site_check.specs.LackedLinks.{lack_of};
 ghost use Rattle.site_check.specs.Lacks.{AreLacks, is_any};
 ghost use Rattle.site_check.specs.Leads.{indices_at, leads_from, number_at};
-ghost use Rattle.site_check.specs.Located.{IsTargetPlace, items_of, placed_at};
+ghost use Rattle.site_check.specs.Broken.{result_at};
+ghost use Rattle.site_check.specs.Located.{IsTargetPlace, LeadsAsSaid, items_of, placed_at};
 ghost use Rattle.site_check.specs.declared.check_error.CheckError.{CheckError};
 ghost use Rattle.site_check.specs.declared.located.TargetPlace.{TargetPlace};
 ghost use Rattle.site_check.specs.declared.missing_anchors.MissingAnchorLink.{MissingAnchorLink};
@@ -16,7 +17,8 @@ ghost use Rattle.site_check.specs.declared.missing_anchors.MissingAnchorLink.{Mi
 use crate::anchors::every_lacked;
 use crate::check_error::CheckError;
 use crate::leads::{Lead, Maps, leads_from};
-use crate::located::{ListedLead, TargetPlace, every_place, sort_by_target};
+use crate::linked::Linked;
+use crate::located::{ListedLead, SoughtLinks, TargetPlace, every_place, sort_by_target};
 use crate::missing_anchors::MissingAnchorLink;
 use crate::site_pages::Site;
 use crawl_pages::{NoMemory, PageResult};
@@ -146,19 +148,21 @@ fn lacked_in_parts<'p, R: Threads + Sync>(
 /// The locations of these links, which are together by their pages, sorted by their targets. Each thread reads the pages that it takes.
 ///
 /// # Errors
-/// `FileUnread`, `LinkLost`, `NoMemory`.
+/// `FileUnread`, `FileChanged`, `LinkLost`, `NoMemory`.
 pub(crate) fn locate_by<R: Threads + Sync, B: FileBytes + Sync>(
     rt: &R,
     alloc: Global,
     site: Site<'_, '_>,
     leads: &[ListedLead],
+    linked: &[Linked<'_>],
     bytes: &B,
 ) -> Result<Vec<TargetPlace>, CheckError>
-    ensures links { IfOk result (λ places. All (IsTargetPlace site.entry.files.now site.entry.pages.results.now (B.reads bytes.now) leads.now) (map placed_at places.items)) }
-    ensures whole { IfOk result (λ places. All (HasPlace site.entry.files.now site.entry.pages.results.now (B.reads bytes.now) (map placed_at places.items)) leads.now) }
+    ensures links { IfOk result (λ places. All (IsTargetPlace (LeadsAsSaid site.entry.pages.results.now (map result_at linked.now)) site.entry.files.now site.entry.pages.results.now (B.reads bytes.now) leads.now) (map placed_at places.items)) }
+    ensures whole { IfOk result (λ places. All (HasPlace (LeadsAsSaid site.entry.pages.results.now (map result_at linked.now)) site.entry.files.now site.entry.pages.results.now (B.reads bytes.now) (map placed_at places.items)) leads.now) }
 {
     let count = site.files.threads().min(leads.len()).max(1);
-    let chunks = places_by(rt, alloc, site, leads, bytes, count)?;
+    let sought = SoughtLinks { leads, linked };
+    let chunks = places_by(rt, alloc, site, sought, bytes, count)?;
     let mut places = joined(alloc, chunks)?;
     sort_by_target(&mut places)?;
     Ok(places)
@@ -169,19 +173,19 @@ fn places_by<R: Threads + Sync, B: FileBytes + Sync>(
     rt: &R,
     alloc: Global,
     site: Site<'_, '_>,
-    leads: &[ListedLead],
+    sought: SoughtLinks<'_, '_, '_>,
     bytes: &B,
     count: usize,
 ) -> Result<Vec<Result<Vec<TargetPlace>, CheckError>>, NoMemory>
     ensures len { IfOk result (λ chunks. length chunks.items ≡ count) }
-    ensures links { IfOk result (λ chunks. All (λ chunk. IfOk chunk (λ places. All (IsTargetPlace site.entry.files.now site.entry.pages.results.now (B.reads bytes.now) leads.now) (map placed_at places.items))) chunks.items) }
-    ensures whole { IfOk result (λ chunks. (rest : ℕ) (other : Result (Vec TargetPlace Global) CheckError) → rest < count → IfOk (slice_index_or chunks.items rest other) (λ places. All (HasTaken site.entry.files.now site.entry.pages.results.now (B.reads bytes.now) count rest (map placed_at places.items)) leads.now)) }
+    ensures links { IfOk result (λ chunks. All (λ chunk. IfOk chunk (λ places. All (IsTargetPlace (LeadsAsSaid site.entry.pages.results.now (map result_at sought.entry.linked.now)) site.entry.files.now site.entry.pages.results.now (B.reads bytes.now) sought.entry.leads.now) (map placed_at places.items))) chunks.items) }
+    ensures whole { IfOk result (λ chunks. (rest : ℕ) (other : Result (Vec TargetPlace Global) CheckError) → rest < count → IfOk (slice_index_or chunks.items rest other) (λ places. All (HasTaken (LeadsAsSaid site.entry.pages.results.now (map result_at sought.entry.linked.now)) site.entry.files.now site.entry.pages.results.now (B.reads bytes.now) count rest (map placed_at places.items)) sought.entry.leads.now)) }
 {
     thread::map_indices(
         rt,
         alloc,
         count,
-        &|rest: usize| { every_place(alloc, site, leads, bytes, rest, count) },
+        &|rest: usize| { every_place(alloc, site, sought, bytes, rest, count) },
     )
 }
 
