@@ -21,7 +21,7 @@ use Rattle.site_check.specs.Located.{IsFileOf, IsFirstPage, Pushes, PushesPlaces
 use Rattle.site_check.specs.Locations.{IsLinkAt, root_of, text_kind}
 use Rattle.site_check.specs.declared.check_error.CheckError.{CheckError}
 use Rattle.site_check.specs.declared.check_error.CheckError.TheVariants as wrong
-use Rattle.site_check.specs.declared.located.ListedLead.{ListedLead}
+use Rattle.site_check.specs.declared.leads.ListedLead.{ListedLead}
 use Rattle.site_check.specs.declared.located.PageLeads.{PageLeads}
 use Rattle.site_check.specs.declared.located.TargetPlace.{TargetPlace}
 

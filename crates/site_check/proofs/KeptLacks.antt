@@ -22,7 +22,7 @@ use Rattle.site_check.specs.Lacks.{Anchor, AreLacks, Lack, anchor_of, anchor_sho
 use Rattle.site_check.specs.Located.{AddsListed, TargetLocation, link_place, listed, placed_at}
 use Rattle.site_check.specs.Locations.{location_in}
 use Rattle.site_check.specs.declared.linked.Linked as code
-use Rattle.site_check.specs.declared.located.ListedLead.{ListedLead}
+use Rattle.site_check.specs.declared.leads.ListedLead.{ListedLead}
 use Rattle.site_check.specs.declared.located.TargetPlace.{TargetPlace}
 use Rattle.site_check.specs.declared.missing_anchors.MissingAnchor.{MissingAnchor}
 use Rattle.site_check.specs.declared.missing_anchors.MissingAnchorLink.{MissingAnchorLink}

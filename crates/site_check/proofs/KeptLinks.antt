@@ -20,7 +20,7 @@ use Rattle.site_check.specs.Leads.{is_reported}
 use Rattle.site_check.specs.Located.{AddsListed, LeadsAsSaid, TargetLocation, link_place, listed, page_text, placed_at}
 use Rattle.site_check.specs.Locations.{EndsAt, location_in}
 use Rattle.site_check.specs.declared.linked.Linked as code
-use Rattle.site_check.specs.declared.located.ListedLead.{ListedLead}
+use Rattle.site_check.specs.declared.leads.ListedLead.{ListedLead}
 use Rattle.site_check.specs.declared.located.TargetPlace.{TargetPlace}
 use Rattle.site_check.specs.declared.missing_anchors.MissingAnchor.{MissingAnchor}
 

@@ -18,7 +18,7 @@ use Rattle.site_check.proofs.Placed.{contains_slice_get, slice_get_contains, som
 use Rattle.site_check.specs.Leads.{is_reported, moved_number}
 use Rattle.site_check.specs.Located.{AddsListed, IsListed, IsLocatedRow, IsRowPlace, IsTargetPlace, LeadsAsSaid, TargetLocation, list_of, listed, located_row, page_text, placed_at, target_texts, texts_at}
 use Rattle.site_check.specs.Locations.{IsLocated, IsRowLink, LeadsFromFile, LeadsTo, LeadsToPage, Location, in_row, location_of}
-use Rattle.site_check.specs.declared.located.ListedLead.{ListedLead}
+use Rattle.site_check.specs.declared.leads.ListedLead.{ListedLead}
 use Rattle.site_check.specs.declared.invalid.InvalidText.{InvalidText}
 use Rattle.site_check.specs.declared.linked.Linked as code
 use Rattle.site_check.specs.declared.located.TargetPlace.{TargetPlace}

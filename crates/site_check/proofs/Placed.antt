@@ -27,7 +27,7 @@ use Rattle.site_files.specs.declared.files.SiteFile.{SiteFile}
 use Rattle.site_files.specs.declared.notes.Left.{Left}
 use Rattle.site_check.specs.Located.{AllLead, IsFileOf, IsFirstPage, IsRowPlace, IsTargetPlace, IsToTarget, Pushes, PushesPlaces, TargetLocation, comes_last, document_of, index_of, is_of, is_to, items_of, link_place, link_places, placed_at, places_from, put_last}
 use Rattle.site_check.specs.Locations.{Location, comes_before, in_row, location_of, root_of, text_kind}
-use Rattle.site_check.specs.declared.located.ListedLead.{ListedLead}
+use Rattle.site_check.specs.declared.leads.ListedLead.{ListedLead}
 use Rattle.site_check.specs.declared.located.PageLeads.{PageLeads}
 use Rattle.site_check.specs.declared.located.TargetPlace.{TargetPlace}
 
@@ -101,7 +101,7 @@ none_is_some : {X : Type 0} (x : X) → None ≡ Some x → ⊥
 none_is_some x is = cc
 
 -- a link below the path of the top, if there is one
-below : Option (Bor (List ℕ)) → List ℕ → List ℕ
+abbrev below : Option (Bor (List ℕ)) → List ℕ → List ℕ
 below None link = link
 below (Some root) link = rooted root.now link
 

@@ -14,7 +14,7 @@ use Rattle.site_check.specs.Leads.{indices_in, is_reported}
 use Rattle.site_check.specs.Located.{TargetLocation, link_place, list_of, page_text}
 use Rattle.site_check.specs.Locations.{EndsAt, IsLinkAt, LeadsFromFile, Location, location_in, location_of}
 use Rattle.site_check.specs.declared.linked.Linked.{Linked}
-use Rattle.site_check.specs.declared.located.ListedLead.{ListedLead}
+use Rattle.site_check.specs.declared.leads.ListedLead.{ListedLead}
 use Rattle.site_check.specs.declared.missing_anchors.MissingAnchor.{MissingAnchor}
 
 -- ---- each link to a missing page is in its row
@@ -68,8 +68,8 @@ pub record IsBrokenLink (front : List ℕ) (entries : List (List ℕ)) (aliases 
   pub ends : EndsAt results url one
   pub reported : is_reported front entries one ≡ true
 
--- the link with this number on a page has an index among the links of the page's file, and the location of the link with this index is in a
--- row of the missing page that is shown with this text, unless an entry matches it
+-- the link with this number on a page has an index among the links of the page's file. The link with this index leads to the missing page,
+-- too, and its location is in a row of this page, unless an entry matches it
 pub record IsLinkKept (front : List ℕ) (entries : List (List ℕ)) (places : List LinkPlaces) (files : SiteFiles) (results : List PageResult) (reads : ℕ → Option (List ℕ) → Type 0) (rows : List Broken) (page : PageResult) (at : ℕ) (one : PageResult) : Type 0 where
   pub index : ℕ
   pub is_index : slice_get (indices_in places page.url) at ≡ Some index

@@ -9,7 +9,7 @@ use Rattle.site_check.specs.Complete.{IsKept}
 use Rattle.site_check.specs.Lacks.{IsLack, Lack, lack_shown}
 use Rattle.site_check.specs.Located.{listed}
 use Rattle.site_check.specs.Locations.{IsLinkAt, location_in}
-use Rattle.site_check.specs.declared.located.ListedLead.{ListedLead}
+use Rattle.site_check.specs.declared.leads.ListedLead.{ListedLead}
 use Rattle.site_files.specs.declared.alias.Alias.{Alias}
 use Rattle.site_files.specs.declared.files.SiteFiles.{SiteFiles}
 

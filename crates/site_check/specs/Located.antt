@@ -20,7 +20,7 @@ use Rattle.site_check.specs.Locations.{IsFileAt, IsLinkAt, LeadsFromFile, Locati
 use Rattle.site_check.specs.declared.invalid.InvalidText.{InvalidText}
 use Rattle.site_check.specs.declared.leads.Lead.{Lead}
 use Rattle.site_check.specs.declared.linked.Linked.{Linked}
-use Rattle.site_check.specs.declared.located.ListedLead.{ListedLead}
+use Rattle.site_check.specs.declared.leads.ListedLead.{ListedLead}
 use Rattle.site_check.specs.declared.located.PageLeads.{PageLeads}
 use Rattle.site_check.specs.declared.located.TargetPlace.{TargetPlace}
 use Rattle.site_check.specs.declared.missing_anchors.MissingAnchor.{MissingAnchor}

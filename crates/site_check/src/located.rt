@@ -6,9 +6,8 @@ ghost use Rattle.site_check.specs.Located.{IsFileOf, IsFirstPage, IsRowPlace, Is
 ghost use Rattle.site_check.specs.Locations.{ascends, comes_before, if_any, in_row, is_earlier, location_in, location_of, root_of, text_kind, unless_same};
 
 use crate::check_error::CheckError;
-use crate::leads::Lead;
-use crate::linked::Linked;
-use crate::own_links::{OwnPage, own_links};
+use crate::leads::{ANCHORS, ListedLead, PAGES, TEXTS, URLS};
+use crate::own_links::{LinkSite, own_links, page_of_file};
 use crate::site_pages::Site;
 use crate::worst::is_less;
 use check_report::{Kind, Place};
@@ -18,18 +17,6 @@ use document_links::{Syntax, TextKind, TextPlace};
 use site_files::{Body, FileBytes, FileKind, SiteFile, SiteFiles};
 use std::alloc::Global;
 use std::cmp::Ordering;
-
-/// The number of the list of missing pages, among the four lists of targets.
-pub(crate) const PAGES: usize = 0;
-
-/// The number of the list of missing anchors.
-pub(crate) const ANCHORS: usize = 1;
-
-/// The number of the list of the texts of invalid links.
-pub(crate) const TEXTS: usize = 2;
-
-/// The number of the list of URLs outside the site.
-pub(crate) const URLS: usize = 3;
 
 /// The number of the list with the target of a row of this kind.
 pub(crate) fn list_of(kind: Kind) -> usize
@@ -47,15 +34,6 @@ pub(crate) fn list_of(kind: Kind) -> usize
     }
 }
 
-/// A link to a target of a list.
-#[derive(Clone, Copy)]
-pub(crate) struct ListedLead {
-    /// The number of the list.
-    pub(crate) list: usize,
-    /// The link, and the number of its target in the list.
-    pub(crate) lead: Lead,
-}
-
 /// The location of a link to a target of a list.
 #[derive(Drop)]
 pub(crate) struct TargetPlace {
@@ -67,14 +45,6 @@ pub(crate) struct TargetPlace {
 }
 
 // ---- links in files
-
-/// The links whose locations are looked for.
-#[derive(Clone, Copy)]
-pub(crate) struct SoughtLinks<'a, 'b, 'p> {
-    pub(crate) leads: &'a [ListedLead],
-    /// The results that found no page, which have the targets of links to missing pages.
-    pub(crate) linked: &'b [Linked<'p>],
-}
 
 /// The links of one result, and those of the results after it.
 #[derive(Clone, Copy)]
@@ -93,24 +63,24 @@ pub(crate) struct PageLeads<'a> {
 #[tactic(auto, using(crate::proofs::Placed::all_contained, crate::proofs::AllPlaced::passed_none))]
 pub(crate) fn every_place<B: FileBytes>(
     alloc: Global,
-    site: Site<'_, '_>,
-    sought: SoughtLinks<'_, '_, '_>,
+    on: LinkSite<'_, '_, '_>,
+    leads: &[ListedLead],
     bytes: &B,
     rest: usize,
     of: usize,
 ) -> Result<Vec<TargetPlace>, CheckError>
-    ensures links { IfOk result (λ all. All (IsTargetPlace (LeadsAsSaid site.entry.pages.results.now (map result_at sought.entry.linked.now)) site.entry.files.now site.entry.pages.results.now (B.reads bytes.now) sought.entry.leads.now) (map placed_at all.items)) }
-    ensures whole { IfOk result (λ all. All (HasTaken (LeadsAsSaid site.entry.pages.results.now (map result_at sought.entry.linked.now)) site.entry.files.now site.entry.pages.results.now (B.reads bytes.now) of rest (map placed_at all.items)) sought.entry.leads.now) }
+    ensures links { IfOk result (λ all. All (IsTargetPlace (LeadsAsSaid on.entry.site.pages.results.now (map result_at on.entry.linked.now)) on.entry.site.files.now on.entry.site.pages.results.now (B.reads bytes.now) leads.now) (map placed_at all.items)) }
+    ensures whole { IfOk result (λ all. All (HasTaken (LeadsAsSaid on.entry.site.pages.results.now (map result_at on.entry.linked.now)) on.entry.site.files.now on.entry.site.pages.results.now (B.reads bytes.now) of rest (map placed_at all.items)) leads.now) }
 {
     let mut all = Vec::new(alloc);
     let mut body = Body::new(alloc);
-    let mut left = sought.leads;
+    let mut left = leads;
     'pages: loop {
         match first_page(left) {
             Some(page) => {
                 left = page.more;
                 if is_taken(of, rest, page.source) {
-                    push_page(alloc, site, sought.linked, page, bytes, &mut body, &mut all)?;
+                    push_page(alloc, on, page, bytes, &mut body, &mut all)?;
                 }
             }
             None => return Ok(all),
@@ -161,25 +131,24 @@ fn is_of(source: usize, one: &ListedLead) -> bool
 /// `FileUnread`, `FileChanged`, `LinkLost`, `NoMemory`.
 fn push_page<B: FileBytes>(
     alloc: Global,
-    site: Site<'_, '_>,
-    linked: &[Linked<'_>],
+    on: LinkSite<'_, '_, '_>,
     page: PageLeads<'_>,
     bytes: &B,
     body: &mut Body,
     all: &mut Vec<TargetPlace>,
 ) -> Result<(), CheckError>
     requires { All (λ one. one.lead.source ≡ page.source) page.own.now }
-    ensures links { OnOk result (Pushes (IsTargetPlace (LeadsAsSaid site.entry.pages.results.now (map result_at linked.now)) site.entry.files.now site.entry.pages.results.now (B.reads bytes.now) page.entry.own.now) (map placed_at all.old.items) (map placed_at all.new.items)) }
-    ensures whole { OnOk result (All (HasPlace (LeadsAsSaid site.entry.pages.results.now (map result_at linked.now)) site.entry.files.now site.entry.pages.results.now (B.reads bytes.now) (map placed_at all.new.items)) page.entry.own.now) }
+    ensures links { OnOk result (Pushes (IsTargetPlace (LeadsAsSaid on.entry.site.pages.results.now (map result_at on.entry.linked.now)) on.entry.site.files.now on.entry.site.pages.results.now (B.reads bytes.now) page.entry.own.now) (map placed_at all.old.items) (map placed_at all.new.items)) }
+    ensures whole { OnOk result (All (HasPlace (LeadsAsSaid on.entry.site.pages.results.now (map result_at on.entry.linked.now)) on.entry.site.files.now on.entry.site.pages.results.now (B.reads bytes.now) (map placed_at all.new.items)) page.entry.own.now) }
 {
-    let Some(file) = file_of(site, page.source) else {
+    let Some(file) = file_of(on.site, page.source) else {
         return Err(CheckError::LinkLost);
     };
     body.clear();
     if bytes.read(file.file, body)?.is_some() {
         return Err(CheckError::FileUnread);
     }
-    push_places(alloc, site, linked, page.own, file, body.as_slice(), all)?;
+    push_places(alloc, on, page.own, file, body.as_slice(), all)?;
     Ok(())
 }
 
@@ -208,23 +177,17 @@ pub(crate) struct PageFile<'p, 'f> {
 /// Appends the locations of these links in the contents of this file.
 fn push_places(
     alloc: Global,
-    site: Site<'_, '_>,
-    linked: &[Linked<'_>],
+    on: LinkSite<'_, '_, '_>,
     leads: &[ListedLead],
     page: PageFile<'_, '_>,
     body: &[u8],
     all: &mut Vec<TargetPlace>,
 ) -> Result<(), CheckError>
-    ensures { OnOk result (PushesPlaces (LeadsAsSaid site.entry.pages.results.now (map result_at linked.now)) (root_of site.entry.files.now) page.entry.url.now page.entry.file.name.now (text_kind site.entry.files.now.rules.now.styles page.entry.file.kind) body.now leads.now (map placed_at all.old.items) (map placed_at all.new.items)) }
+    ensures { OnOk result (PushesPlaces (LeadsAsSaid on.entry.site.pages.results.now (map result_at on.entry.linked.now)) (root_of on.entry.site.files.now) page.entry.url.now page.entry.file.name.now (text_kind on.entry.site.files.now.rules.now.styles page.entry.file.kind) body.now leads.now (map placed_at all.old.items) (map placed_at all.new.items)) }
 {
-    let kind = text_kind(site.files.rules().styles, page.file.kind);
-    let own = OwnPage {
-        url: page.url,
-        root: root_of(site.files),
-        results: site.pages.results,
-        linked,
-    };
-    let links = own_links(alloc, body, kind, own, leads)?;
+    let kind = text_kind(on.site.files.rules().styles, page.file.kind);
+    let from = page_of_file(page.url, root_of(on.site.files));
+    let links = own_links(alloc, body, kind, from, on, leads)?;
     push_all(alloc, page.file.name, links.places.as_slice(), leads, all)?;
     Ok(())
 }
@@ -256,7 +219,7 @@ fn text_kind(styles: bool, kind: FileKind) -> TextKind
     }
 }
 
-/// The path of the top, if absolute paths are below it.
+/// The path of the top, if absolute paths are below it: as `saved_site`, which this crate does not use, has it for the links of a page.
 fn root_of<'a>(files: &'a SiteFiles<'_>) -> Option<&'a str>
     ensures { option_map (λ path. path.now) result ≡ root_of files.now }
 {

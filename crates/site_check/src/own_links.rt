@@ -7,21 +7,31 @@ ghost use Rattle.site_check.specs.Located.{AllLead, LeadsAsSaid, index_of};
 ghost use Rattle.site_check.specs.Locations.{EndsAtUrl};
 
 use crate::check_error::CheckError;
+use crate::leads::{ListedLead, PAGES};
 use crate::linked::Linked;
-use crate::located::{ListedLead, PAGES};
+use crate::site_pages::Site;
 use crawl_keys::CanonUrl;
 use crawl_pages::{NoMemory, Page, PageResult};
 use document_links::{FileLinks, LinkPage, TextKind, indexed_links};
 use std::alloc::Global;
 
-/// The page of a file that is read again, the results of the crawl, and those that found no page.
+/// A site, and its results that found no page, which have the targets of links to missing pages.
 #[derive(Clone, Copy)]
-pub(crate) struct OwnPage<'a, 'p> {
-    pub(crate) url: &'a CanonUrl,
-    /// The path of the site's top, if absolute paths are below it.
-    pub(crate) root: Option<&'a str>,
-    pub(crate) results: &'a [PageResult],
+pub(crate) struct LinkSite<'a, 'p, 'f> {
+    pub(crate) site: Site<'p, 'f>,
     pub(crate) linked: &'a [Linked<'p>],
+}
+
+/// The page of a file at this URL, below this path of the top. A `base` in the file does not count.
+pub(crate) fn page_of_file<'a>(url: &'a CanonUrl, root: Option<&'a str>) -> LinkPage<'a>
+    ensures url { result.url.now ≡ url.now }
+    ensures root { result.root ≡ root.entry }
+{
+    LinkPage {
+        url,
+        root,
+        base: false,
+    }
 }
 
 /// The links of a file with the indices of these leads. A document is read up to the last of them, as if it had no `base`. If one of them
@@ -33,42 +43,49 @@ pub(crate) fn own_links(
     alloc: Global,
     body: &[u8],
     kind: TextKind,
-    page: OwnPage<'_, '_>,
+    page: LinkPage<'_>,
+    on: LinkSite<'_, '_, '_>,
     leads: &[ListedLead],
 ) -> Result<FileLinks, CheckError>
     ensures are { IfOk result (λ links. AreFileLinks page.entry.root page.entry.url.now kind body.now (map index_of leads.now) links.places.items links.urls.items) }
-    ensures lead { IfOk result (λ links. AllLead (LeadsAsSaid page.entry.results.now (map result_at page.entry.linked.now)) links.urls.items leads.now) }
+    ensures lead { IfOk result (λ links. AllLead (LeadsAsSaid on.entry.site.pages.results.now (map result_at on.entry.linked.now)) links.urls.items leads.now) }
 {
-    let links = links_with(alloc, body, kind, page, leads, false)?;
-    if lead_there(page, &links, leads) {
+    let links = links_with(alloc, body, kind, page, leads)?;
+    if lead_there(on, &links, leads) {
         return Ok(links);
     }
-    let links = links_with(alloc, body, kind, page, leads, true)?;
-    if lead_there(page, &links, leads) {
+    let links = links_with(alloc, body, kind, with_base(page), leads)?;
+    if lead_there(on, &links, leads) {
         Ok(links)
     } else {
         Err(CheckError::FileChanged)
     }
 }
 
-/// The links of a file with the indices of these leads. `base` says whether a document's `base` counts.
+/// The page, with the `base` of its file.
+fn with_base(page: LinkPage<'_>) -> LinkPage<'_>
+    ensures url { result.url.now ≡ page.entry.url.now }
+    ensures root { result.root ≡ page.entry.root }
+{
+    LinkPage {
+        url: page.url,
+        root: page.root,
+        base: true,
+    }
+}
+
+/// The links of a file with the indices of these leads.
 fn links_with(
     alloc: Global,
     body: &[u8],
     kind: TextKind,
-    page: OwnPage<'_, '_>,
+    page: LinkPage<'_>,
     leads: &[ListedLead],
-    base: bool,
 ) -> Result<FileLinks, NoMemory>
     ensures { IfOk result (λ links. AreFileLinks page.entry.root page.entry.url.now kind body.now (map index_of leads.now) links.places.items links.urls.items) }
 {
     let indices = indices_of(alloc, leads)?;
-    let from = LinkPage {
-        url: page.url,
-        root: page.root,
-        base,
-    };
-    indexed_links(alloc, body, kind, from, indices.as_slice())
+    indexed_links(alloc, body, kind, page, indices.as_slice())
 }
 
 /// The indices of these links among the links of their file.
@@ -79,13 +96,13 @@ fn indices_of(alloc: Global, leads: &[ListedLead]) -> Result<Vec<usize>, NoMemor
 }
 
 /// Whether each of these links that is said to lead to a missing page has a URL that leads there.
-fn lead_there(page: OwnPage<'_, '_>, links: &FileLinks, leads: &[ListedLead]) -> bool
-    ensures { result ≡ true → AllLead (LeadsAsSaid page.entry.results.now (map result_at page.entry.linked.now)) links.now.urls.items leads.now }
+fn lead_there(on: LinkSite<'_, '_, '_>, links: &FileLinks, leads: &[ListedLead]) -> bool
+    ensures { result ≡ true → AllLead (LeadsAsSaid on.entry.site.pages.results.now (map result_at on.entry.linked.now)) links.now.urls.items leads.now }
 {
     for (number, one) in leads.iter().enumerate() {
         match links.urls.get(number) {
             Some(url) => {
-                if !leads_there(page, url, *one) {
+                if !leads_there(on, url, *one) {
                     return false;
                 }
             }
@@ -96,15 +113,19 @@ fn lead_there(page: OwnPage<'_, '_>, links: &FileLinks, leads: &[ListedLead]) ->
 }
 
 /// Whether a link with this URL leads to its missing page. Nothing is required of links to other targets.
-fn leads_there(page: OwnPage<'_, '_>, url: &Option<CanonUrl>, one: ListedLead) -> bool
-    ensures { result ≡ true → LeadsAsSaid page.entry.results.now (map result_at page.entry.linked.now) url.now one }
+fn leads_there(on: LinkSite<'_, '_, '_>, url: &Option<CanonUrl>, one: ListedLead) -> bool
+    ensures { result ≡ true → LeadsAsSaid on.entry.site.pages.results.now (map result_at on.entry.linked.now) url.now one }
 {
     if one.list != PAGES {
         return true;
     }
     match url {
-        Some(url) => match page.linked.get(one.lead.number) {
-            Some(target) => ends_at(page.results, url.as_str(), target.result.url.as_str()),
+        Some(url) => match on.linked.get(one.lead.number) {
+            Some(target) => ends_at(
+                on.site.pages.results,
+                url.as_str(),
+                target.result.url.as_str(),
+            ),
             None => false,
         },
         None => false,

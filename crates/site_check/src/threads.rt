@@ -16,10 +16,11 @@ ghost use Rattle.site_check.specs.declared.missing_anchors.MissingAnchorLink.{Mi
 
 use crate::anchors::every_lacked;
 use crate::check_error::CheckError;
-use crate::leads::{Lead, Maps, leads_from};
+use crate::leads::{Lead, ListedLead, Maps, leads_from};
 use crate::linked::Linked;
-use crate::located::{ListedLead, SoughtLinks, TargetPlace, every_place, sort_by_target};
+use crate::located::{TargetPlace, every_place, sort_by_target};
 use crate::missing_anchors::MissingAnchorLink;
+use crate::own_links::LinkSite;
 use crate::site_pages::Site;
 use crawl_pages::{NoMemory, PageResult};
 use site_files::FileBytes;
@@ -149,20 +150,20 @@ fn lacked_in_parts<'p, R: Threads + Sync>(
 ///
 /// # Errors
 /// `FileUnread`, `FileChanged`, `LinkLost`, `NoMemory`.
-pub(crate) fn locate_by<R: Threads + Sync, B: FileBytes + Sync>(
+pub(crate) fn locate_by<'p, R: Threads + Sync, B: FileBytes + Sync>(
     rt: &R,
     alloc: Global,
-    site: Site<'_, '_>,
+    site: Site<'p, '_>,
+    linked: &[Linked<'p>],
     leads: &[ListedLead],
-    linked: &[Linked<'_>],
     bytes: &B,
 ) -> Result<Vec<TargetPlace>, CheckError>
     ensures links { IfOk result (λ places. All (IsTargetPlace (LeadsAsSaid site.entry.pages.results.now (map result_at linked.now)) site.entry.files.now site.entry.pages.results.now (B.reads bytes.now) leads.now) (map placed_at places.items)) }
     ensures whole { IfOk result (λ places. All (HasPlace (LeadsAsSaid site.entry.pages.results.now (map result_at linked.now)) site.entry.files.now site.entry.pages.results.now (B.reads bytes.now) (map placed_at places.items)) leads.now) }
 {
     let count = site.files.threads().min(leads.len()).max(1);
-    let sought = SoughtLinks { leads, linked };
-    let chunks = places_by(rt, alloc, site, sought, bytes, count)?;
+    let on = LinkSite { site, linked };
+    let chunks = places_by(rt, alloc, on, leads, bytes, count)?;
     let mut places = joined(alloc, chunks)?;
     sort_by_target(&mut places)?;
     Ok(places)
@@ -172,20 +173,20 @@ pub(crate) fn locate_by<R: Threads + Sync, B: FileBytes + Sync>(
 fn places_by<R: Threads + Sync, B: FileBytes + Sync>(
     rt: &R,
     alloc: Global,
-    site: Site<'_, '_>,
-    sought: SoughtLinks<'_, '_, '_>,
+    on: LinkSite<'_, '_, '_>,
+    leads: &[ListedLead],
     bytes: &B,
     count: usize,
 ) -> Result<Vec<Result<Vec<TargetPlace>, CheckError>>, NoMemory>
     ensures len { IfOk result (λ chunks. length chunks.items ≡ count) }
-    ensures links { IfOk result (λ chunks. All (λ chunk. IfOk chunk (λ places. All (IsTargetPlace (LeadsAsSaid site.entry.pages.results.now (map result_at sought.entry.linked.now)) site.entry.files.now site.entry.pages.results.now (B.reads bytes.now) sought.entry.leads.now) (map placed_at places.items))) chunks.items) }
-    ensures whole { IfOk result (λ chunks. (rest : ℕ) (other : Result (Vec TargetPlace Global) CheckError) → rest < count → IfOk (slice_index_or chunks.items rest other) (λ places. All (HasTaken (LeadsAsSaid site.entry.pages.results.now (map result_at sought.entry.linked.now)) site.entry.files.now site.entry.pages.results.now (B.reads bytes.now) count rest (map placed_at places.items)) sought.entry.leads.now)) }
+    ensures links { IfOk result (λ chunks. All (λ chunk. IfOk chunk (λ places. All (IsTargetPlace (LeadsAsSaid on.entry.site.pages.results.now (map result_at on.entry.linked.now)) on.entry.site.files.now on.entry.site.pages.results.now (B.reads bytes.now) leads.now) (map placed_at places.items))) chunks.items) }
+    ensures whole { IfOk result (λ chunks. (rest : ℕ) (other : Result (Vec TargetPlace Global) CheckError) → rest < count → IfOk (slice_index_or chunks.items rest other) (λ places. All (HasTaken (LeadsAsSaid on.entry.site.pages.results.now (map result_at on.entry.linked.now)) on.entry.site.files.now on.entry.site.pages.results.now (B.reads bytes.now) count rest (map placed_at places.items)) leads.now)) }
 {
     thread::map_indices(
         rt,
         alloc,
         count,
-        &|rest: usize| { every_place(alloc, site, sought, bytes, rest, count) },
+        &|rest: usize| { every_place(alloc, on, leads, bytes, rest, count) },
     )
 }
 

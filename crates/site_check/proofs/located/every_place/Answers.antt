@@ -8,12 +8,12 @@ use Rattle.site_check.proofs.located.every_place.Goals as goal
 -- the page is read
 pub pages-preserved-in-Continue-1 : goal.pages-preserved-in-Continue-1
 pages-preserved-in-Continue-1 g c =
-    let site = c.args.site in
-    let f = LeadsAsSaid c.args.site.pages.results.now (map result_at c.args.sought.linked.now) in
+    let site = c.args.on.site in
+    let f = LeadsAsSaid c.args.on.site.pages.results.now (map result_at c.args.on.linked.now) in
     let files = site.files.now in
     let results = site.pages.results.now in
     let reads = g.B.FileBytes.reads c.args.bytes.now in
-    let leads = c.args.sought.leads.now in
+    let leads = c.args.leads.now in
     let left = c.pages.left.now in
     let page = c.in-Some.page in
     let old = map placed_at c.pages.all.items in
@@ -29,19 +29,19 @@ pages-preserved-in-Continue-1 g c =
 -- another thread reads it
 pub pages-preserved : goal.pages-preserved
 pages-preserved g c =
-    let site = c.args.site in
-    let leads = c.args.sought.leads.now in
+    let site = c.args.on.site in
+    let leads = c.args.leads.now in
     let left = c.pages.left.now in
     let page = c.in-Some.page in
     record {
       placed = c.pages.invariant.placed;
       within = left_more leads left page c.in-Some.ensures c.pages.invariant.within;
       passed =
-          passed_other (LeadsAsSaid c.args.site.pages.results.now (map result_at c.args.sought.linked.now)) site.files.now site.pages.results.now (g.B.FileBytes.reads c.args.bytes.now) c.args.of c.args.rest (map placed_at c.pages.all.items) leads left page c.in-Some.ensures
+          passed_other (LeadsAsSaid c.args.on.site.pages.results.now (map result_at c.args.on.linked.now)) site.files.now site.pages.results.now (g.B.FileBytes.reads c.args.bytes.now) c.args.of c.args.rest (map placed_at c.pages.all.items) leads left page c.in-Some.ensures
           (sym c.is_taken.ensures ∙ c.if-is_taken.false) c.pages.invariant.passed;
     }
 
 pub returns-in-None-clause-whole : goal.returns-in-None-clause-whole
 returns-in-None-clause-whole g c =
-    let site = c.args.site in
-    passed_all (LeadsAsSaid c.args.site.pages.results.now (map result_at c.args.sought.linked.now)) site.files.now site.pages.results.now (g.B.FileBytes.reads c.args.bytes.now) c.args.of c.args.rest (map placed_at c.pages.all.items) c.args.sought.leads.now c.pages.left.now c.in-None.ensures c.pages.invariant.passed
+    let site = c.args.on.site in
+    passed_all (LeadsAsSaid c.args.on.site.pages.results.now (map result_at c.args.on.linked.now)) site.files.now site.pages.results.now (g.B.FileBytes.reads c.args.bytes.now) c.args.of c.args.rest (map placed_at c.pages.all.items) c.args.leads.now c.pages.left.now c.in-None.ensures c.pages.invariant.passed

@@ -7,9 +7,9 @@ use Rattle.site_check.proofs.located.every_place.Given as goal
 
 abbrev pub invariant-pages : goal.invariant-pages
 invariant-pages g l = record {
-  placed : All (IsTargetPlace (LeadsAsSaid l.site.pages.results.now (map result_at l.sought.linked.now)) l.site.files.now l.site.pages.results.now (g.B.FileBytes.reads l.bytes) l.sought.leads.now) (map placed_at l.all.items);
-  within : All (Contains l.sought.leads.now) l.left;
-  passed : HasPassed (LeadsAsSaid l.site.pages.results.now (map result_at l.sought.linked.now)) l.site.files.now l.site.pages.results.now (g.B.FileBytes.reads l.bytes) l.of l.rest (map placed_at l.all.items) l.sought.leads.now l.left;
+  placed : All (IsTargetPlace (LeadsAsSaid l.on.site.pages.results.now (map result_at l.on.linked.now)) l.on.site.files.now l.on.site.pages.results.now (g.B.FileBytes.reads l.bytes) l.leads) (map placed_at l.all.items);
+  within : All (Contains l.leads) l.left;
+  passed : HasPassed (LeadsAsSaid l.on.site.pages.results.now (map result_at l.on.linked.now)) l.on.site.files.now l.on.site.pages.results.now (g.B.FileBytes.reads l.bytes) l.of l.rest (map placed_at l.all.items) l.leads l.left;
 }
 
 abbrev pub decreases-pages : goal.decreases-pages

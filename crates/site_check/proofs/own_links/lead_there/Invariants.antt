@@ -4,4 +4,4 @@ use Rattle.site_check.specs.Located.{AllLead, LeadsAsSaid}
 use Rattle.site_check.proofs.own_links.lead_there.Given as goal
 
 abbrev pub invariant-loop-number : goal.invariant-loop-number
-invariant-loop-number l = AllLead (LeadsAsSaid l.page.results.now (map result_at l.page.linked.now)) l.links.urls.items (take l.number l.leads)
+invariant-loop-number l = AllLead (LeadsAsSaid l.on.site.pages.results.now (map result_at l.on.linked.now)) l.links.urls.items (take l.number l.leads)
