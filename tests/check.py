@@ -525,7 +525,7 @@ def details(row: Row) -> Iterator[str]:
         yield HINT_KINDS.get(row["hint"]) or ("hint_fallback" if row["hint"].endswith(": --fallback html") else "hint_index_file")
     if row.get("same_name"):
         yield from suggestion_kinds(row["target"], row["same_name"])
-    if row["kind"] == "place" and printing.question(row, row):
+    if "question" in row:
         yield "question"
     if row.get("written"):
         yield "written"

@@ -17,6 +17,7 @@ from urllib.parse import quote, unquote_to_bytes
 import drawn
 from checking import feeds
 from checking.documents import TOOL, Document, document_of, form_of, is_page, known_schemes, with_query_in
+from checking.questions import question
 
 Row = Dict[str, Any]
 FRAGMENT = "\"<>`"  # percent-encoded in a fragment, in addition to controls, spaces and everything beyond ASCII
@@ -865,9 +866,11 @@ class Model:
         return "../" * (len(top) - shared) + "/".join(path[shared:])
 
     def place_rows(self, shown: Row, places: Located) -> Iterator[Row]:
-        """The rows of the locations of links to a target. The text of a link is there if it is not the target."""
+        """The rows of the locations of links to a target. The text of a link is there if it is not the target, and a question if one is asked."""
         for row in in_order(places):
-            yield {**shown, **row, "written": None if row["written"] in ("", shown["target"]) else row["written"]}
+            place = {**row, "written": None if row["written"] in ("", shown["target"]) else row["written"]}
+            asked = question(shown, place)
+            yield {**shown, **place, **({"question": asked} if asked else {})}
 
     def places(self, redirects: Iterable[str]) -> Dict[str, Located]:
         """The locations of links to each URL, and of links to those of these redirects that lead to it."""

@@ -5,6 +5,7 @@ use Rattle.json.specs.Print.{print}
 use Rattle.json.specs.Tree.{json_tokens}
 use Rattle.check_report.specs.Rows as line
 use Rattle.check_report.specs.Rows.{Line}
+use Rattle.check_report.specs.Schemes.{scheme_note}
 use Rattle.check_report.specs.declared.row.Counts.{Counts}
 use Rattle.check_report.specs.declared.row.Section.{Section}
 use Rattle.check_report.specs.declared.row.Section.TheVariants as section
@@ -26,6 +27,11 @@ count_at key count rest = member key (number (decimal count)) rest
 abbrev pub count_if_at : List ℕ → Option ℕ → Members → Members
 count_if_at key None rest = rest
 count_if_at key (Some count) rest = count_at key count rest
+
+-- a text if it is not empty, otherwise nothing
+abbrev pub text_if_any_at : List ℕ → List ℕ → Members → Members
+text_if_any_at key [] rest = rest
+text_if_any_at key (first ∷ text) rest = text_at key (first ∷ text) rest
 
 -- a text, or `null` if there is none
 abbrev pub text_or_null : Option (List ℕ) → Json
@@ -105,9 +111,13 @@ wrong_word OutsideBase = codes "outside_base"
 wrong_word NotInMap = codes "not_in_map"
 
 -- the line and the column, and the link as it is written, or `null`
-abbrev pub place_counts : Place → Members
-place_counts p =
-    count_at (codes "line") p.line (count_at (codes "column") p.column (member (codes "written") (text_or_null (option_map string_bytes p.written)) no_members))
+abbrev pub place_counts : Place → Members → Members
+place_counts p rest =
+    count_at (codes "line") p.line (count_at (codes "column") p.column (member (codes "written") (text_or_null (option_map string_bytes p.written)) rest))
+
+-- the question about the link, if there is one
+abbrev pub question_at : Broken → Place → Members → Members
+question_at b p rest = text_if_any_at (codes "question") (scheme_note b p) rest
 
 -- the target and what is wrong
 abbrev pub target_at : Broken → Members → Members
@@ -160,7 +170,7 @@ members_of (line.finish of_section) = no_members
 members_of (line.broken b) =
     kind (target_kind b.kind) (target_at b (count_at (codes "pages") b.pages (same_name_at b (hint_at b no_members))))
 members_of (line.place b p) =
-    kind (place_kind b.kind) (target_at b (text_at (codes "file") (string_bytes p.file) (place_counts p)))
+    kind (place_kind b.kind) (target_at b (text_at (codes "file") (string_bytes p.file) (place_counts p (question_at b p no_members))))
 members_of (line.rest b count) = no_members
 members_of (line.more count) = kind (codes "more") (count_at (codes "places") count no_members)
 members_of (line.worst c) = kind (codes "worst") (text_at (codes "file") (string_bytes c.file) (count_at (codes "links") c.links no_members))

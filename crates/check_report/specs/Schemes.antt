@@ -68,12 +68,12 @@ lacks_colon link = starts_with nat_eq link (codes "http//") || starts_with nat_e
 -- the note about a link to a missing page, or an empty text
 abbrev pub link_note : List ℕ → List ℕ
 link_note link =
-    if lacks_colon link then codes "(is a colon missing?)"
-    else (if starts_with nat_eq link (codes "www.") then codes "(is https:// missing?)" else (if is_mail_address link then codes "(is mailto: missing?)" else []))
+    if lacks_colon link then codes "is a colon missing?"
+    else (if starts_with nat_eq link (codes "www.") then codes "is https:// missing?" else (if is_mail_address link then codes "is mailto: missing?" else []))
 
 -- likewise about one that is no URL
 abbrev pub slashes_note : List ℕ → List ℕ
-slashes_note link = if lacks_slashes link then codes "(are slashes missing?)" else []
+slashes_note link = if lacks_slashes link then codes "are slashes missing?" else []
 
 -- no other links have a note
 abbrev pub kind_note : Kind → List ℕ → List ℕ

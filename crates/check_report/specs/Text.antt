@@ -76,7 +76,7 @@ written_text how word b (Some link) = if ends_with_link how b link then [] else 
 
 -- a blank and a note; nothing if the note is empty
 abbrev pub noted : List ℕ → List ℕ → List ℕ
-noted blank note = if length note == 0 then [] else blank ++ note
+noted blank note = if length note == 0 then [] else blank ++ codes "(" ++ note ++ codes ")"
 
 abbrev pub redirect_target : Escape → Option (List ℕ) → List ℕ
 redirect_target how None = codes "-"

@@ -7,6 +7,7 @@ ghost use Rattle.check_report.specs.Rows.{line_of};
 use crate::member::{Member, put_object};
 use crate::put::NoMemory;
 use crate::row::{Counts, Row, Section};
+use crate::schemes::scheme_note;
 use crate::value::{BaseHint, Broken, External, FileCount, Kind, Place, Redirect, Totals};
 
 /// Appends the row as an object without spaces and LF, if the row has an object. The start and the end of a section, the number of other
@@ -92,8 +93,8 @@ fn put_broken(out: &mut Vec<u8>, broken: &Broken) -> Result<(), NoMemory>
     )
 }
 
-/// Appends the object of the location of a link: the target, what is wrong, the file, the line, the column, and the link as it is
-/// written, null if that is its target.
+/// Appends the object of the location of a link: the target, what is wrong, the file, the line, the column, the link as it is written,
+/// null if that is its target, and the question about the link, if there is one.
 fn put_place<'r>(out: &mut Vec<u8>, broken: &'r Broken, place: &'r Place) -> Result<(), NoMemory>
     ensures { OnOk result (out.new.items ≡ out.old.items ++ object_line (members_of (line.place broken.now place.now))) }
 {
@@ -108,6 +109,7 @@ fn put_place<'r>(out: &mut Vec<u8>, broken: &'r Broken, place: &'r Place) -> Res
             Member::Count("line", place.line),
             Member::Count("column", place.column),
             Member::TextOrNull("written", &place.written),
+            Member::TextIfAny("question", scheme_note(broken, place)),
         ],
     )
 }

@@ -37,11 +37,11 @@ fn link_note(link: &str) -> &'static str
     ensures { result.now ≡ link_note link.now }
 {
     if lacks_colon(link) {
-        "(is a colon missing?)"
+        "is a colon missing?"
     } else if link.as_bytes().starts_with(b"www.") {
-        "(is https:// missing?)"
+        "is https:// missing?"
     } else if is_mail_address(link) {
-        "(is mailto: missing?)"
+        "is mailto: missing?"
     } else {
         ""
     }
@@ -59,7 +59,7 @@ fn slashes_note(link: &str) -> &'static str
     ensures { result.now ≡ slashes_note link.now }
 {
     if lacks_slashes(link) {
-        "(are slashes missing?)"
+        "are slashes missing?"
     } else {
         ""
     }

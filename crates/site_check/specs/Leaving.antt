@@ -1,6 +1,7 @@
 -- The links that lead out of a site: to URLs on its host that are not below its top.
 use Rattle.std.specs.Prelude.{◌==◌, ◌+◌, ℕ, Bool, true, false, not, ◌&&◌, if◌then◌else◌, List, [], ◌∷◌, ◌++◌, codes, filter, map, Option, None, Some, option_map, string_bytes, drop, length}
 use Rattle.std.specs.List.{flat_map}
+use Rattle.std.specs.Option.{option_and_then}
 use Rattle.check_report.specs.declared.value.Broken.{Broken}
 use Rattle.check_report.specs.declared.value.Kind.{Kind}
 use Rattle.check_report.specs.declared.value.Kind.TheVariants.{Leaves, OutsideBase, NotInMap}
@@ -65,10 +66,14 @@ outside_texts rooted files found = map (λ r. outside_text rooted files r.url) (
 abbrev pub page_of_file : SiteFiles → List ℕ → Option (List ℕ)
 page_of_file files url = option_map (λ file. url) (found_file (entry_at files.pages url))
 
+-- what follows the front of a URL, if it begins with that
+abbrev pub after_front : List ℕ → List ℕ → Option (List ℕ)
+after_front front url = if begins front url then Some (drop (length front) url) else None
+
 -- the page that has the same path below the top as this URL has below the host
 abbrev pub page_below : SiteFiles → List ℕ → Option (List ℕ)
 page_below files url =
-    if is_on_host files url then page_of_file files (string_bytes files.site.top ++ drop (length (string_bytes files.site.origin) + 1) (before_query url)) else None
+    option_and_then (λ path. page_of_file files (string_bytes files.site.top ++ path)) (after_front (string_bytes files.site.origin ++ 47 ∷ []) (before_query url))
 
 -- this is reported only of links that lead outside the URL of the site, if that is known
 abbrev pub page_for : Kind → Option (List ℕ) → Option (List ℕ)

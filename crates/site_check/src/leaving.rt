@@ -8,7 +8,7 @@ ghost use Rattle.site_check.specs.Hints.{hints_in};
 ghost use Rattle.site_check.specs.Ignored.{anchors_in};
 ghost use Rattle.site_check.specs.Invalid.{invalid_rows_in};
 ghost use Rattle.site_check.specs.Leads.{indices_in, leads_from, number_at, number_in, target_at};
-ghost use Rattle.site_check.specs.Leaving.{is_left, is_outside, leaving_in, leaving_kind, outside_at, outside_linked, outside_number, outside_of, outside_row, outside_targets, outside_text, page_below, page_for, page_of_file, path_from, row_at, shown_at, steps_up};
+ghost use Rattle.site_check.specs.Leaving.{after_front, is_left, is_outside, leaving_in, leaving_kind, outside_at, outside_linked, outside_number, outside_of, outside_row, outside_targets, outside_text, page_below, page_for, page_of_file, path_from, row_at, shown_at, steps_up};
 ghost use Rattle.site_check.specs.Located.{KeepsRows, located_row, placed_at, row_unless};
 ghost use Rattle.site_check.specs.Locations.{location_of};
 ghost use Rattle.site_check.specs.Names.{AreNamed};
@@ -148,7 +148,8 @@ fn page_for(
 fn page_below(alloc: Global, files: &SiteFiles<'_>, url: &str) -> Result<Option<String>, NoMemory>
     ensures { IfOk result (λ page. option_map string_bytes page ≡ page_below files.now url.now) }
 {
-    match path_below(files.origin(), before_query(url)) {
+    let host = host_front(alloc, files)?;
+    match after_front(host.as_str(), before_query(url)) {
         Some(path) => {
             let mut text = String::from_str(alloc, files.top())?;
             text.push_str(path)?;
@@ -158,12 +159,22 @@ fn page_below(alloc: Global, files: &SiteFiles<'_>, url: &str) -> Result<Option<
     }
 }
 
-/// What follows the origin and a slash.
-fn path_below<'a>(origin: &str, url: &'a str) -> Option<&'a str>
-    ensures { option_map (λ path. path.now) result ≡ (if begins (origin.now ++ 47 ∷ []) url.now then Some (drop (length origin.now + 1) url.now) else None) }
+/// The beginning of the URLs on the host: the origin and a slash.
+fn host_front(alloc: Global, files: &SiteFiles<'_>) -> Result<String, NoMemory>
+    ensures { IfOk result (λ front. string_bytes front ≡ string_bytes files.now.site.origin ++ 47 ∷ []) }
 {
-    match url.strip_prefix(origin) {
-        Some(rest) => rest.strip_prefix("/"),
+    let mut front = String::from_str(alloc, files.origin())?;
+    front.push_str("/")?;
+    Ok(front)
+}
+
+/// What follows the front of a URL, if it begins with that.
+#[tactic(auto, using(crate::proofs::Fronts::front_after, crate::proofs::Fronts::none_after))]
+fn after_front<'a>(front: &str, url: &'a str) -> Option<&'a str>
+    ensures { option_map (λ rest. rest.now) result ≡ after_front front.now url.now }
+{
+    match url.strip_prefix(front) {
+        Some(rest) => Some(rest),
         None => None,
     }
 }
