@@ -17,9 +17,11 @@ ghost use Rattle.site_check.specs.Totals.{is_leaving};
 
 use crate::ignored::is_ignored;
 use crate::input::CheckInput;
-use crate::leads::{Lead, Maps, Target, TargetNumbers, insert_all, link_indices, push_target};
+use crate::leads::{
+    Lead, Maps, Target, TargetNumbers, URLS, insert_all, link_indices, push_target,
+};
 use crate::linked::{Linked, linked_among};
-use crate::located::{TargetPlace, URLS, row_places};
+use crate::located::{TargetPlace, row_places};
 use crate::maps::folder_of;
 use crate::outside::Outside;
 use crate::shown::{begins, is_below};
