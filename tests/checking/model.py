@@ -775,11 +775,12 @@ class Model:
         return [total, *base_hint, *broken, *invalid, *leaving, *worst, *redirects, *names, *external, *self.unused()]
 
     def base_hints(self, broken: List[Row]) -> Iterator[Row]:
-        """The hints at BASE, of which the first is reported: at a missing one, by paths from the root or by all links, and at one without its path."""
+        """The hints at BASE, of which the first is reported: by all links, by those to other URLs, and by paths from the root, at a folder or its URL."""
+        yield from self.host_hint(broken)
+        yield from self.other_hint()
         at_root = list(self.root_hint(broken))
         if self.settings.is_rooted():
             yield from at_root
-        yield from self.host_hint(broken)
         for hint in at_root:
             yield from self.url_hint(origin_of(self.site.base)[:-1] + hint["base"], self.link_urls())
 
@@ -798,16 +799,27 @@ class Model:
         lost = sum(row["kind"] == "place" and row["missing"] == "page" for row in broken)
         if 2 * max(sum(link.startswith(top) for link in links) - lost, 0) >= len(links):
             return
+        yield from self.folder_hints(links)
+
+    def other_hint(self) -> Iterator[Row]:
+        """The hint that BASE is missing or another one: most links to other URLs begin with one. It counts all links."""
+        links = self.link_urls()
+        others = [link for link in links if not link.startswith(str(self.site.base))]
+        for hint in self.folder_hints(others):
+            yield {**hint, "paths": sum(link.startswith(hint["base"]) for link in links), "of": len(links)}
+
+    def folder_hints(self, links: List[str]) -> Iterator[Row]:
+        """The hints at the URLs with which most of these links begin, from the shortest to the longest."""
         for count in SLASHES:
             folders = [found[0] for found in (re.match(f"(?:[^/]*/){{{count}}}", link) for link in links) if found]
             often = [folder for folder, times in Counter(folders).items() if 2 * times >= max(len(links), 4)]
             yield from self.url_hint(often[0], links) if often else ()
 
     def url_hint(self, url: str, links: List[str]) -> Iterator[Row]:
-        """The hint at a URL with which some links begin, unless it is the top or the folder does not have most of what is below it."""
+        """The hint at a URL with which some links begin, unless it is the top or the folder does not have most of the pages below it."""
         files, top = {page for page, _ in self.site.pages()}, str(self.site.base)
         below = [link[len(url):] for link in links if link.startswith(url)]
-        if url != top and len(below) >= 2 and 2 * sum(top + rest in files for rest in below) >= len(below):
+        if url != top and len(below) >= 2 and 2 * sum(rest != "" and top + rest in files for rest in below) >= len(below):
             yield {"kind": "hint", "base": url, "paths": len(below), "of": len(links)}
 
     def link_urls(self) -> List[str]:
