@@ -853,7 +853,9 @@ class Model:
                 yield from self.place_rows({"kind": "leaving_place", **shown}, left)
 
     def page_below(self, url: str) -> Optional[str]:
-        """The page that has the same path below the top as this URL has below the host."""
+        """The top if this URL lacks only its slash; otherwise the page that has the same path below the top as the URL has below the host."""
+        if path_of(url) + "/" == str(self.site.base):
+            return str(self.site.base)
         page = str(self.site.base) + path_of(url)[len(origin_of(self.site.base)):]
         return page if self.files.get(page) else None
 

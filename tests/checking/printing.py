@@ -173,7 +173,7 @@ def list_line(row: Row) -> str:
 
 
 HEADINGS = {
-    "worst": "files with the most broken, invalid and leaving links:", "redirect": "links to redirects (not errors; --fix --dry-run shows where):", "unreached": "unreached files:", "unlisted": "documents that no sitemap lists:",
+    "worst": "files with the most broken, invalid and leaving links:", "redirect": "links to redirects (not errors; in documents, --fix --dry-run shows where):", "unreached": "unreached files:", "unlisted": "documents that no sitemap lists:",
     "external": "external links (not checked):", "unused": "unused --ignore entries:",
 }
 

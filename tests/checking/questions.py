@@ -8,6 +8,7 @@ from typing import Any, Dict
 # By the beginning of a link to a missing page, what may be missing in it
 INCOMPLETE = {"http//": "a colon", "https//": "a colon", "www.": "https://"}
 SLASHLESS = re.compile(r"https?:(?![/\\]{2})", re.IGNORECASE)
+MAY_LACK_SLASHES = ("not_url", "above_folder", "outside_base", "not_in_map")
 IN_MAIL = re.compile("[A-Za-z0-9+._-]+")  # what the name and the host of a mail address may consist of
 
 
@@ -18,9 +19,9 @@ def is_mail_address(text: str) -> bool:
 
 
 def question(row: Dict[str, Any], place: Dict[str, Any]) -> str:
-    """What may be missing in a link to a missing page, or in one that is no URL; otherwise an empty text."""
+    """What may be missing in a link to a missing page, in one that is no URL, or in one that leaves the site; otherwise an empty text."""
     text = row["target"] if place["written"] is None else place["written"]
-    if row.get("reason") == "not_url" and SLASHLESS.match(text):
+    if (row.get("missing") == "page" or row.get("reason") in MAY_LACK_SLASHES) and SLASHLESS.match(text):
         return "are slashes missing?"
     if row.get("missing") != "page":
         return ""

@@ -63,7 +63,7 @@ pub(crate) struct CrawledSite<'a> {
 /// Checks a site whose files are in memory.
 ///
 /// # Errors
-/// `BadBase`, `NoFiles`, `TooLarge`, `PagesLost`, `FileUnread`, `LinkLost`, `BadHost`, `BadSeed`, `NoStart`, `NoDocuments`, `NoMemory`; `Crawl` if the crawl is incomplete.
+/// `BadBase`, `NoFiles`, `TooLarge`, `PagesLost`, `FileUnread`, `FileChanged`, `LinkLost`, `BadHost`, `BadSeed`, `NoStart`, `NoDocuments`, `NoMemory`; `Crawl` if the crawl is incomplete.
 pub fn report_of_files<R: Threads + Wait + Sync>(
     rt: &R,
     alloc: Global,
@@ -92,7 +92,7 @@ pub fn report_of_files<R: Threads + Wait + Sync>(
 /// Checks a site with these files. Appends a note about each page that is skipped or changed.
 ///
 /// # Errors
-/// `BadSeed`, `NoStart`, `NoDocuments`, `TooLarge`, `PagesLost`, `FileUnread`, `LinkLost`, `BadHost`, `NoMemory`; `Crawl` if the crawl is incomplete.
+/// `BadSeed`, `NoStart`, `NoDocuments`, `TooLarge`, `PagesLost`, `FileUnread`, `FileChanged`, `LinkLost`, `BadHost`, `NoMemory`; `Crawl` if the crawl is incomplete.
 pub(crate) fn report_of_site<R: Threads + Wait + Sync, B: FileBytes + Sync>(
     rt: &R,
     alloc: Global,
@@ -186,7 +186,7 @@ fn report_of_crawled<R: Threads + Sync, B: FileBytes + Sync>(
 /// Checks a site that was crawled.
 ///
 /// # Errors
-/// `FileUnread`, `LinkLost`, `NoMemory`.
+/// `FileUnread`, `FileChanged`, `LinkLost`, `NoMemory`.
 pub(crate) fn checked_of<R: Threads + Sync, B: FileBytes + Sync>(
     rt: &R,
     alloc: Global,

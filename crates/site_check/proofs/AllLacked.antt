@@ -16,7 +16,7 @@ use Rattle.site_check.specs.Complete.{is_taken}
 use Rattle.site_check.specs.LackedLinks.{lack_of}
 use Rattle.site_check.specs.Lacks.{AreAnchors, AreLacks, IsLack, Lack, is_any}
 use Rattle.site_check.specs.Located.{items_of}
-use Rattle.site_check.specs.declared.located.ListedLead.{ListedLead}
+use Rattle.site_check.specs.declared.leads.ListedLead.{ListedLead}
 use Rattle.site_check.specs.declared.missing_anchors.MissingAnchorLink.{MissingAnchorLink}
 use Rattle.site_files.specs.declared.alias.Alias.{Alias}
 

@@ -22,7 +22,7 @@ use Rattle.site_check.specs.Lacks.{Anchor, AreLacks, Lack, anchor_of, anchor_sho
 use Rattle.site_check.specs.Located.{AddsListed, TargetLocation, link_place, listed, placed_at}
 use Rattle.site_check.specs.Locations.{location_in}
 use Rattle.site_check.specs.declared.linked.Linked as code
-use Rattle.site_check.specs.declared.located.ListedLead.{ListedLead}
+use Rattle.site_check.specs.declared.leads.ListedLead.{ListedLead}
 use Rattle.site_check.specs.declared.located.TargetPlace.{TargetPlace}
 use Rattle.site_check.specs.declared.missing_anchors.MissingAnchor.{MissingAnchor}
 use Rattle.site_check.specs.declared.missing_anchors.MissingAnchorLink.{MissingAnchorLink}
@@ -101,14 +101,14 @@ module _ (front : List ℕ) (entries : List (List ℕ)) (documents : List PageAn
             };
       }
 
-  lacks_kept : (reads : ℕ → Option (List ℕ) → Type 0) (all : List code.Linked) (anchors : List MissingAnchor) (leads : List ListedLead) (placed : List TargetLocation) (rows : List Broken) → HasLackLeads front entries documents aliases files results (map anchor_text anchors) leads →
-      All (HasPlace files results reads placed) leads → All (IsKeptPlace front entries all anchors rows) placed → HasAllLacks front entries documents aliases files results reads rows
-  lacks_kept reads all anchors leads placed rows led has kept =
+  lacks_kept : (led_there : Option (List ℕ) → ListedLead → Type 0) (reads : ℕ → Option (List ℕ) → Type 0) (all : List code.Linked) (anchors : List MissingAnchor) (leads : List ListedLead) (placed : List TargetLocation) (rows : List Broken) → HasLackLeads front entries documents aliases files results (map anchor_text anchors) leads →
+      All (HasPlace led_there files results reads placed) leads → All (IsKeptPlace front entries all anchors rows) placed → HasAllLacks front entries documents aliases files results reads rows
+  lacks_kept led_there reads all anchors leads placed rows led has kept =
       record {
         each = λ lack index page is at_page.
             let own = led.each lack index is in
             let one : ListedLead = listed 1 (record { source = lack.source; index = index; number = own.number }) in
-            let place = (All-contains (HasPlace files results reads placed) leads one has own.has).placed page at_page in
+            let place = (All-contains (HasPlace led_there files results reads placed) leads one has own.has).placed page at_page in
             let target = image anchor_text anchors own.number (lack_shown front lack) own.is_text in
             let of_anchors : ◌≡◌ {A = ℕ} 1 1 = refl in
             let row : IsKept entries rows 1 (anchor_text target.x) (location_in place.name place.place) =
@@ -116,6 +116,7 @@ module _ (front : List ℕ) (entries : List (List ℕ)) (documents : List PageAn
             record {
               name = place.name;
               place = place.place;
+              own = place.own;
               is_link = place.is_link;
               kept = subst (λ (text : List ℕ). IsKept entries rows 1 text (location_in place.name place.place)) target.is row;
             };
@@ -123,16 +124,16 @@ module _ (front : List ℕ) (entries : List (List ℕ)) (documents : List PageAn
 
 -- ---- the rows of a check
 
-pub all_lacks : (front : List ℕ) (entries : List (List ℕ)) (documents own_documents : List PageAnchors) (aliases own_aliases : List Alias) (files own_files : SiteFiles) (results own_results : List PageResult) (reads : ℕ → Option (List ℕ) → Type 0) (all : List code.Linked)
+pub all_lacks : (led_there : Option (List ℕ) → ListedLead → Type 0) (front : List ℕ) (entries : List (List ℕ)) (documents own_documents : List PageAnchors) (aliases own_aliases : List Alias) (files own_files : SiteFiles) (results own_results : List PageResult) (reads : ℕ → Option (List ℕ) → Type 0) (all : List code.Linked)
     (anchors : List MissingAnchor) (own_leads leads : List ListedLead) (found own_found : List TargetPlace) (rows : List Broken) → own_documents ≡ documents → own_aliases ≡ aliases → own_files ≡ files → own_results ≡ results → own_leads ≡ leads → own_found ≡ found →
-    HasLackLeads front entries own_documents own_aliases own_files own_results (map anchor_text anchors) leads → All (HasPlace own_files own_results reads (map placed_at found)) own_leads → All (IsKeptPlace front entries all anchors rows) (map placed_at own_found) →
+    HasLackLeads front entries own_documents own_aliases own_files own_results (map anchor_text anchors) leads → All (HasPlace led_there own_files own_results reads (map placed_at found)) own_leads → All (IsKeptPlace front entries all anchors rows) (map placed_at own_found) →
     HasAllLacks front entries documents aliases files results reads rows
-all_lacks front entries documents own_documents aliases own_aliases files own_files results own_results reads all anchors own_leads leads found own_found rows same_documents same_aliases same_files same_results same_leads same_found led has kept =
+all_lacks led_there front entries documents own_documents aliases own_aliases files own_files results own_results reads all anchors own_leads leads found own_found rows same_documents same_aliases same_files same_results same_leads same_found led has kept =
     let placed = map placed_at found in
-    let has_leads : All (HasPlace own_files own_results reads placed) leads = subst (All (HasPlace own_files own_results reads placed)) same_leads has in
+    let has_leads : All (HasPlace led_there own_files own_results reads placed) leads = subst (All (HasPlace led_there own_files own_results reads placed)) same_leads has in
     let kept_found : All (IsKeptPlace front entries all anchors rows) placed = subst (λ (f : List TargetPlace). All (IsKeptPlace front entries all anchors rows) (map placed_at f)) same_found kept in
     subst (λ (ds : List PageAnchors). HasAllLacks front entries ds aliases files results reads rows) same_documents
     (subst (λ (al : List Alias). HasAllLacks front entries own_documents al files results reads rows) same_aliases
     (subst (λ (f : SiteFiles). HasAllLacks front entries own_documents own_aliases f results reads rows) same_files
     (subst (λ (rs : List PageResult). HasAllLacks front entries own_documents own_aliases own_files rs reads rows) same_results
-    (lacks_kept front entries own_documents own_aliases own_files own_results reads all anchors leads placed rows led has_leads kept_found))))
+    (lacks_kept front entries own_documents own_aliases own_files own_results led_there reads all anchors leads placed rows led has_leads kept_found))))

@@ -23,6 +23,7 @@ pub mod LocatedRows
 pub mod Marks
 pub mod Namesakes
 pub mod Orders
+pub mod Origins
 pub mod Outsides
 pub mod PageIndices
 pub mod Patterns

@@ -9,7 +9,7 @@ use Rattle.site_check.specs.Complete.{IsKept}
 use Rattle.site_check.specs.Lacks.{IsLack, Lack, lack_shown}
 use Rattle.site_check.specs.Located.{listed}
 use Rattle.site_check.specs.Locations.{IsLinkAt, location_in}
-use Rattle.site_check.specs.declared.located.ListedLead.{ListedLead}
+use Rattle.site_check.specs.declared.leads.ListedLead.{ListedLead}
 use Rattle.site_files.specs.declared.alias.Alias.{Alias}
 use Rattle.site_files.specs.declared.files.SiteFiles.{SiteFiles}
 
@@ -23,7 +23,8 @@ pub record IsIndexedLack (front : List ℕ) (entries : List (List ℕ)) (documen
 pub record IsLackKept (entries : List (List ℕ)) (files : SiteFiles) (reads : ℕ → Option (List ℕ) → Type 0) (rows : List Broken) (page : PageResult) (index : ℕ) (target : List ℕ) : Type 0 where
   pub name : List ℕ
   pub place : TextPlace
-  pub is_link : IsLinkAt files reads page index name place
+  pub own : Option (List ℕ)
+  pub is_link : IsLinkAt files reads page index name place own
   pub kept : IsKept entries rows 1 target (location_in name place)
 
 -- so it is for each link to a missing anchor

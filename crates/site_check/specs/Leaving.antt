@@ -1,5 +1,5 @@
 -- The links that lead out of a site: to URLs on its host that are not below its top.
-use Rattle.std.specs.Prelude.{◌==◌, ◌+◌, ℕ, Bool, true, false, not, ◌&&◌, if◌then◌else◌, List, [], ◌∷◌, ◌++◌, codes, filter, map, Option, None, Some, option_map, string_bytes, drop, length}
+use Rattle.std.specs.Prelude.{◌==◌, ◌+◌, ℕ, Bool, true, false, not, ◌&&◌, if◌then◌else◌, List, [], ◌∷◌, ◌++◌, codes, filter, map, Option, None, Some, option_map, string_bytes, bytes_eq, drop, length}
 use Rattle.std.specs.List.{flat_map}
 use Rattle.std.specs.Option.{option_and_then}
 use Rattle.check_report.specs.declared.value.Broken.{Broken}
@@ -70,10 +70,17 @@ page_of_file files url = option_map (λ file. url) (found_file (entry_at files.p
 abbrev pub after_front : List ℕ → List ℕ → Option (List ℕ)
 after_front front url = if begins front url then Some (drop (length front) url) else None
 
+abbrev pub with_slash : List ℕ → List ℕ
+with_slash text = text ++ 47 ∷ []
+
 -- the page that has the same path below the top as this URL has below the host
+abbrev pub page_at_path : SiteFiles → List ℕ → Option (List ℕ)
+page_at_path files url = option_and_then (λ path. page_of_file files (string_bytes files.site.top ++ path)) (after_front (with_slash (string_bytes files.site.origin)) url)
+
+-- the top, if this URL lacks only its last slash, and otherwise that page
 abbrev pub page_below : SiteFiles → List ℕ → Option (List ℕ)
 page_below files url =
-    option_and_then (λ path. page_of_file files (string_bytes files.site.top ++ path)) (after_front (string_bytes files.site.origin ++ 47 ∷ []) (before_query url))
+    if bytes_eq (with_slash (before_query url)) (string_bytes files.site.top) then Some (with_slash (before_query url)) else page_at_path files (before_query url)
 
 -- this is reported only of links that lead outside the URL of the site, if that is known
 abbrev pub page_for : Kind → Option (List ℕ) → Option (List ℕ)

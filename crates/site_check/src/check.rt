@@ -36,11 +36,11 @@ use crate::ignored::unused;
 use crate::indexed::has_indices;
 use crate::input::CheckInput;
 use crate::invalid::{InvalidText, invalid_texts, push_texts};
-use crate::leads::{Lead, Maps, link_indices, targets};
+use crate::leads::{ANCHORS, Lead, ListedLead, Maps, PAGES, TEXTS, URLS, link_indices, targets};
 use crate::leaving::{outside_leads, outside_urls, push_outside};
 use crate::link_base::base_hint;
 use crate::linked::{Linked, linked_results};
-use crate::located::{ANCHORS, ListedLead, PAGES, TEXTS, TargetPlace, URLS};
+use crate::located::TargetPlace;
 use crate::missing_anchors::{MissingAnchor, MissingAnchorLink, missing_anchors, sort_by_anchor};
 use crate::names::{Named, lower_names_of, names_of};
 use crate::outside::Outside;
@@ -110,7 +110,7 @@ impl Checked {
 /// count links and find those to missing pages, or one thread if the rules name fewer than four.
 ///
 /// # Errors
-/// `FileUnread`, `LinkLost`, `NoMemory`.
+/// `FileUnread`, `FileChanged`, `LinkLost`, `NoMemory`.
 #[tactic(auto, using(crate::proofs::AllRows::ways_of_all))]
 pub fn check_site<'f, R: Threads + Sync, B: FileBytes + Sync>(
     rt: &R,
@@ -130,12 +130,12 @@ pub fn check_site<'f, R: Threads + Sync, B: FileBytes + Sync>(
     // to which a link of a found page leads and that the document at its target lacks, each once and in the order of URLs and fragments,
     // with the number of results that have such a link, and without those that an entry matches.
     ensures anchors { IfOk result (λ checked. AreInOrder input.entry.anchors.now input.entry.aliases.now results.now → ReportsAnchors input.entry.front.now (map string_bytes input.entry.ignores.now) input.entry.anchors.now input.entry.aliases.now files.now results.now checked.broken.items) }
-    // Each location of a row is that of a link in what was read of the file of a page. If the row reports a missing page, the link leads to
-    // it, directly or by a redirect.
+    // Each location of a row is that of a link in what was read of the file of a page. If the row reports a missing page, the page links to
+    // it, directly or by a redirect, and so does the link in the file, by the URL that `indexed_links` finds for it.
     ensures places { IfOk result (λ checked. All (IsLocated input.entry.front.now input.entry.places.now files.now results.now (B.reads bytes.now)) checked.broken.items) }
     // No link to a missing page is left out. If each URL is that of one result, and the rules of the site ask for positions, each link of a
-    // page that leads to a missing page, directly or by a redirect, has an index, and its location is in the row of the missing page, unless
-    // an entry matches the page or the location. The link of an alias has none.
+    // page that leads to a missing page, directly or by a redirect, has an index. The link with this index in the file leads there, too, and
+    // its location is in the row of the missing page, unless an entry matches the page or the location. The link of an alias has none.
     ensures complete { IfOk result (λ checked. AreOnce results.now → HasAllLinks input.entry.front.now (map string_bytes input.entry.ignores.now) input.entry.aliases.now input.entry.places.now files.now results.now (B.reads bytes.now) checked.broken.items) }
     // No link to a missing anchor is left out. If documents, aliases and results are in the order of their URLs, each URL once, the location
     // of each kept link to an anchor that its document lacks is in a row of the anchor, unless the index of the link is not known, or an
@@ -165,7 +165,7 @@ pub fn check_site<'f, R: Threads + Sync, B: FileBytes + Sync>(
     let linked = linked_results(rt, alloc, results, files.threads())?;
     let all = linked.as_slice();
     let sought = sought_by(rt, alloc, input, site, all)?;
-    let places = locate_by(rt, alloc, site, sought.leads.as_slice(), bytes)?;
+    let places = locate_by(rt, alloc, site, all, sought.leads.as_slice(), bytes)?;
     results_of(alloc, input, site, all, &sought, places.as_slice())
 }
 

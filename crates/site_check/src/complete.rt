@@ -8,8 +8,9 @@ ghost use Rattle.site_check.specs.declared.linked.Linked.{Linked};
 ghost use Rattle.site_check.specs.declared.missing_anchors.MissingAnchor.{MissingAnchor};
 
 use crate::file_entries::is_place_ignored;
+use crate::leads::{ANCHORS, PAGES};
 use crate::linked::Linked;
-use crate::located::{ANCHORS, PAGES, TargetPlace, list_of};
+use crate::located::{TargetPlace, list_of};
 use crate::missing_anchors::MissingAnchor;
 use crate::shown::shown;
 use check_report::{Broken, Place};

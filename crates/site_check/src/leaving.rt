@@ -8,7 +8,7 @@ ghost use Rattle.site_check.specs.Hints.{hints_in};
 ghost use Rattle.site_check.specs.Ignored.{anchors_in};
 ghost use Rattle.site_check.specs.Invalid.{invalid_rows_in};
 ghost use Rattle.site_check.specs.Leads.{indices_in, leads_from, number_at, number_in, target_at};
-ghost use Rattle.site_check.specs.Leaving.{after_front, is_left, is_outside, leaving_in, leaving_kind, outside_at, outside_linked, outside_number, outside_of, outside_row, outside_targets, outside_text, page_below, page_for, page_of_file, path_from, row_at, shown_at, steps_up};
+ghost use Rattle.site_check.specs.Leaving.{after_front, is_left, is_outside, leaving_in, leaving_kind, outside_at, outside_linked, outside_number, outside_of, outside_row, outside_targets, outside_text, page_at_path, page_below, page_for, page_of_file, path_from, row_at, shown_at, steps_up, with_slash};
 ghost use Rattle.site_check.specs.Located.{KeepsRows, located_row, placed_at, row_unless};
 ghost use Rattle.site_check.specs.Locations.{location_of};
 ghost use Rattle.site_check.specs.Names.{AreNamed};
@@ -17,9 +17,11 @@ ghost use Rattle.site_check.specs.Totals.{is_leaving};
 
 use crate::ignored::is_ignored;
 use crate::input::CheckInput;
-use crate::leads::{Lead, Maps, Target, TargetNumbers, insert_all, link_indices, push_target};
+use crate::leads::{
+    Lead, Maps, Target, TargetNumbers, URLS, insert_all, link_indices, push_target,
+};
 use crate::linked::{Linked, linked_among};
-use crate::located::{TargetPlace, URLS, row_places};
+use crate::located::{TargetPlace, row_places};
 use crate::maps::folder_of;
 use crate::outside::Outside;
 use crate::shown::{begins, is_below};
@@ -142,12 +144,25 @@ fn page_for(
     }
 }
 
-/// The page of the site that has the same path below the top as this URL has below the host.
+/// The top of the site, if this URL lacks only its last slash. Otherwise the page that has the same path below the top as the URL has
+/// below the host.
 fn page_below(alloc: Global, files: &SiteFiles<'_>, url: &str) -> Result<Option<String>, NoMemory>
     ensures { IfOk result (λ page. option_map string_bytes page ≡ page_below files.now url.now) }
 {
-    let host = host_front(alloc, files)?;
-    match after_front(host.as_str(), before_query(url)) {
+    let own = before_query(url);
+    let folder = with_slash(alloc, own)?;
+    if folder.as_str() == files.top() {
+        return Ok(Some(folder));
+    }
+    page_at_path(alloc, files, own)
+}
+
+/// The page of the site that has the same path below the top as this URL has below the host.
+fn page_at_path(alloc: Global, files: &SiteFiles<'_>, url: &str) -> Result<Option<String>, NoMemory>
+    ensures { IfOk result (λ page. option_map string_bytes page ≡ page_at_path files.now url.now) }
+{
+    let host = with_slash(alloc, files.origin())?;
+    match after_front(host.as_str(), url) {
         Some(path) => {
             let mut text = String::from_str(alloc, files.top())?;
             text.push_str(path)?;
@@ -157,13 +172,13 @@ fn page_below(alloc: Global, files: &SiteFiles<'_>, url: &str) -> Result<Option<
     }
 }
 
-/// The beginning of the URLs on the host: the origin and a slash.
-fn host_front(alloc: Global, files: &SiteFiles<'_>) -> Result<String, NoMemory>
-    ensures { IfOk result (λ front. string_bytes front ≡ string_bytes files.now.site.origin ++ 47 ∷ []) }
+/// A text and a slash.
+fn with_slash(alloc: Global, text: &str) -> Result<String, NoMemory>
+    ensures { IfOk result (λ new. string_bytes new ≡ with_slash text.now) }
 {
-    let mut front = String::from_str(alloc, files.origin())?;
-    front.push_str("/")?;
-    Ok(front)
+    let mut new = String::from_str(alloc, text)?;
+    new.push_str("/")?;
+    Ok(new)
 }
 
 /// What follows the front of a URL, if it begins with that.

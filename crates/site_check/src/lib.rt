@@ -22,6 +22,7 @@ mod maps;
 mod missing_anchors;
 mod names;
 mod outside;
+mod own_links;
 mod pattern;
 mod rows;
 mod shown;

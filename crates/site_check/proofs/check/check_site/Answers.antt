@@ -5,7 +5,9 @@ use Rattle.site_check.proofs.KeptLacks.{all_lacks}
 use Rattle.site_check.proofs.KeptLinks.{all_links}
 use Rattle.site_check.proofs.LeadTargets.{located_rows}
 use Rattle.site_check.proofs.Verdicts.{verdict_of_rows}
+use Rattle.site_check.specs.Broken.{result_at}
 use Rattle.site_check.specs.LinkBase.{base_hint_of}
+use Rattle.site_check.specs.Located.{LeadsAsSaid}
 use Rattle.site_check.specs.declared.check.Checked.{Checked}
 use Rattle.site_check.proofs.check.check_site.Goals as goal
 
@@ -82,7 +84,7 @@ returns-clause-anchor_places g c =
     let made = c.site_of-site.ensures in
     let sought = c.in_ok-sought.sought in
     IfOk-weaker c.results_of.result _ _
-    (λ (checked : Checked) own order. all_lacks input.front.now (map string_bytes input.ignores.now) input.anchors.now site.pages.anchors.now input.aliases.now site.pages.aliases.now c.args.files.now site.files.now c.args.results.now site.pages.results.now
+    (λ (checked : Checked) own order. all_lacks (LeadsAsSaid site.pages.results.now (map result_at c.as_slice-all.result.now)) input.front.now (map string_bytes input.ignores.now) input.anchors.now site.pages.anchors.now input.aliases.now site.pages.aliases.now c.args.files.now site.files.now c.args.results.now site.pages.results.now
     (g.B.FileBytes.reads c.args.bytes.now) c.as_slice-all.result.now sought.anchors.items c.as_slice-2.result.now sought.leads.items c.in_ok-places.places.items c.as_slice-3.result.now checked.broken.items
     made.anchors made.aliases made.files made.results c.as_slice-2.ensures.value c.as_slice-3.ensures.value
     (c.in_ok-sought.ensures.anchor_leads

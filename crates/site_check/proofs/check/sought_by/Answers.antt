@@ -7,7 +7,7 @@ use Rattle.site_check.specs.Complete.{HasIndices}
 use Rattle.site_check.specs.Leads.{indices_in, leads_from, number_in, targets_of}
 use Rattle.site_check.specs.Located.{listed}
 use Rattle.site_check.specs.declared.check_error.CheckError.{CheckError}
-use Rattle.site_check.specs.declared.located.ListedLead.{ListedLead}
+use Rattle.site_check.specs.declared.leads.ListedLead.{ListedLead}
 use Rattle.site_check.proofs.KeptLinks.{all_led}
 use Rattle.site_check.proofs.LeadTargets.{all_listed}
 use Rattle.site_check.proofs.AllLacked.{anchors_found, lacks_given}
