@@ -816,11 +816,11 @@ class Model:
             yield from self.url_hint(often[0], links) if often else ()
 
     def url_hint(self, url: str, links: List[str]) -> Iterator[Row]:
-        """The hint at a URL with which some links begin, unless it is the top or the folder does not have most of the pages below it."""
+        """The hint at a URL with which some links begin, unless the top begins with it or the folder does not have most of the pages below it."""
         files, top = {page for page, _ in self.site.pages()}, str(self.site.base)
-        below = [link[len(url):] for link in links if link.startswith(url)]
-        if url != top and len(below) >= 2 and 2 * sum(rest != "" and top + rest in files for rest in below) >= len(below):
-            yield {"kind": "hint", "base": url, "paths": len(below), "of": len(links)}
+        below = [link[len(url):] for link in links if link.startswith(url) and link != url]
+        if not top.startswith(url) and len(below) >= 2 and 2 * sum(top + rest in files for rest in below) >= len(below):
+            yield {"kind": "hint", "base": url, "paths": sum(link.startswith(url) for link in links), "of": len(links)}
 
     def link_urls(self) -> List[str]:
         """The URLs, without queries, to which the links of each page lead, in the order of the pages. An alias has a link to its own URL."""

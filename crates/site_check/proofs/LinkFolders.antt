@@ -14,7 +14,7 @@ use Rattle.site_check.proofs.RootFolders.{cut_here}
 use Rattle.site_check.specs.Base.{Hint, hint_at, root_hint_of}
 use Rattle.site_check.specs.Totals.{is_page, place_count}
 use Rattle.site_files.specs.Server.{before_query}
-use Rattle.site_check.specs.LinkBase.{Cuts, all_count, are_few_below, below_count, is_few, other_url, other_urls, page_links, page_others, first_hint, folder_to, folders_to, has_file_at, hint_in, hint_of_urls, hint_on_host, hint_to, hint_with_counts, host_hint, leads_to_file, link_hint, link_urls}
+use Rattle.site_check.specs.LinkBase.{Cuts, all_count, are_few_below, below_count, is_few, other_url, other_urls, page_links, page_others, first_hint, folder_to, folders_to, goes_below, has_file_at, hint_in, hint_of_urls, hint_on_host, hint_to, hint_with_counts, host_hint, leads_to_file, link_hint, link_urls}
 
 -- ---- counts
 
@@ -163,15 +163,15 @@ pub hint_lacks : (files : SiteFiles) (urls folders : List (List ℕ)) (counts : 
 hint_lacks files urls folders counts of n listed are first =
     ap (option_and_then (hint_in files urls of)) (first ∙ (λ i. often_first of (λ other. are other i) folders) ∙ ap (λ l. often_first of (path_count l) l) listed)
 
--- the top itself has none
-pub hint_at_top : (files : SiteFiles) (urls : List (List ℕ)) (of : ℕ) (folder top : List ℕ) → top ≡ string_bytes files.site.top → bytes_eq folder top ≡ true → None ≡ hint_in files urls of folder
-hint_at_top files urls of folder top is same = sym (cond-true (bytes_eq folder (string_bytes files.site.top)) _ _ (ap (bytes_eq folder) (sym is) ∙ same))
+-- a URL with which the top begins has none
+pub hint_at_top : (files : SiteFiles) (urls : List (List ℕ)) (of : ℕ) (folder top : List ℕ) → top ≡ string_bytes files.site.top → begins folder top ≡ true → None ≡ hint_in files urls of folder
+hint_at_top files urls of folder top is same = sym (cond-true (begins folder (string_bytes files.site.top)) _ _ (ap (begins folder) (sym is) ∙ same))
 
 -- another URL has the one with its counts
-pub hint_elsewhere : (files : SiteFiles) (urls : List (List ℕ)) (of : ℕ) (folder top : List ℕ) (paths found : ℕ) (hint : Option Hint) → top ≡ string_bytes files.site.top → bytes_eq folder top ≡ false →
-    paths ≡ count_by (begins folder) urls → found ≡ count_by (leads_to_file files folder) urls → hint ≡ hint_with_counts of folder paths found → hint ≡ hint_in files urls of folder
-hint_elsewhere files urls of folder top paths found hint is differ counted lead own =
-    own ∙ (λ i. hint_with_counts of folder (counted i) (lead i)) ∙ sym (cond-false (bytes_eq folder (string_bytes files.site.top)) _ _ (ap (bytes_eq folder) (sym is) ∙ differ))
+pub hint_elsewhere : (files : SiteFiles) (urls : List (List ℕ)) (of : ℕ) (folder top : List ℕ) (paths longer found : ℕ) (hint : Option Hint) → top ≡ string_bytes files.site.top → begins folder top ≡ false →
+    paths ≡ count_by (begins folder) urls → longer ≡ count_by (goes_below folder) urls → found ≡ count_by (leads_to_file files folder) urls → hint ≡ hint_with_counts of folder paths longer found → hint ≡ hint_in files urls of folder
+hint_elsewhere files urls of folder top paths longer found hint is differ counted below lead own =
+    own ∙ (λ i. hint_with_counts of folder (counted i) (below i) (lead i)) ∙ sym (cond-false (begins folder (string_bytes files.site.top)) _ _ (ap (begins folder) (sym is) ∙ differ))
 
 -- ---- the links to other URLs
 

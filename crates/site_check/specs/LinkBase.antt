@@ -1,6 +1,6 @@
 -- The hint at another URL of the folder: most links, or most of those to other URLs, begin with it, and the folder has the files to which
 -- they would lead.
-use Rattle.std.specs.Prelude.{◌≡◌, ◌==◌, ◌-◌, ◌++◌, ◌∷◌, ℕ, zero, suc, Bool, true, false, ◌&&◌, if◌then◌else◌, List, [], bytes_eq, length, drop, map, count_by, sum_by, nat_le, nat_lt, Option, None, Some, is_some, option_and_then, option_map, string_bytes}
+use Rattle.std.specs.Prelude.{◌≡◌, ◌==◌, ◌-◌, ◌++◌, ◌∷◌, ℕ, zero, suc, Bool, true, false, ◌&&◌, if◌then◌else◌, List, [], length, drop, map, count_by, sum_by, nat_le, nat_lt, Option, None, Some, is_some, option_and_then, option_map, string_bytes}
 use Rattle.std.specs.List.{flat_map}
 use Rattle.std.specs.Option.{option_or, option_to_list}
 use Rattle.check_report.specs.declared.value.Broken.{Broken}
@@ -69,11 +69,15 @@ folders_to n urls = flat_map (λ url. option_to_list (folder_to n url)) urls
 
 -- ---- files at other URLs
 
--- a file has the URL of this path from the top. The path is not empty: many pages link to the first page of another site
+-- a file has the URL of this path from the top. The path is not empty
 abbrev pub has_file_at : SiteFiles → List ℕ → Bool
 has_file_at files path = if length path == 0 then false else is_some (found_file (entry_at files.pages (string_bytes files.site.top ++ path)))
 
--- the URL begins with the folder, and is that of a file if the folder is the top
+-- the URL begins with the folder, and does not end there
+abbrev pub goes_below : List ℕ → List ℕ → Bool
+goes_below folder url = nat_lt (length folder) (length url) && begins folder url
+
+-- such a URL is that of a file if the folder is the top
 abbrev pub leads_to_file : SiteFiles → List ℕ → List ℕ → Bool
 leads_to_file files folder url = begins folder url && has_file_at files (drop (length folder) url)
 
@@ -87,15 +91,16 @@ are_enough part of = nat_le 2 of && nat_le (of - part) part
 abbrev pub is_few : ℕ → ℕ → Bool
 is_few part of = nat_lt part (of - part)
 
-abbrev pub hint_with_counts : ℕ → List ℕ → ℕ → ℕ → Option Hint
-hint_with_counts of folder paths found = if are_enough found paths then Some (record { folder = folder; paths = paths; of = of }) else None
+abbrev pub hint_with_counts : ℕ → List ℕ → ℕ → ℕ → ℕ → Option Hint
+hint_with_counts of folder paths longer found = if are_enough found longer then Some (record { folder = folder; paths = paths; of = of }) else None
 
--- the folder is not the top, and at least half of the links that begin with it lead to files
+-- the top does not begin with the folder, and at least half of the links that go below the folder lead to files. Links to the folder
+-- itself tell nothing: many pages link to the first page of another site
 abbrev pub hint_in : SiteFiles → List (List ℕ) → ℕ → List ℕ → Option Hint
 hint_in files urls of folder =
-    if bytes_eq folder (string_bytes files.site.top)
+    if begins folder (string_bytes files.site.top)
     then None
-    else hint_with_counts of folder (count_by (begins folder) urls) (count_by (leads_to_file files folder) urls)
+    else hint_with_counts of folder (count_by (begins folder) urls) (count_by (goes_below folder) urls) (count_by (leads_to_file files folder) urls)
 
 -- the folder is the first with this number of slashes with which at least two and at least half of the links begin
 abbrev pub hint_to : SiteFiles → List (List ℕ) → ℕ → ℕ → Option Hint

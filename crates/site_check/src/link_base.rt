@@ -6,7 +6,7 @@ ghost use Rattle.crawl_sources.specs.Tallies.{pointed};
 ghost use Rattle.site_files.specs.Server.{before_query};
 ghost use Rattle.site_check.specs.Base.{hint_at};
 ghost use Rattle.site_check.specs.Broken.{begins};
-ghost use Rattle.site_check.specs.LinkBase.{Cuts, all_count, among_all, are_enough, are_few_below, base_hint_of, first_hint, folder_to, folders_to, has_file_at, hint_in, hint_of_urls, hint_on_host, hint_to, hint_with_counts, host_hint, is_few, leads_to_file, link_hint, link_urls, other_hint, other_url, other_urls, page_links, path_hint_of, url_hint_of};
+ghost use Rattle.site_check.specs.LinkBase.{Cuts, all_count, among_all, are_enough, are_few_below, base_hint_of, first_hint, folder_to, folders_to, goes_below, has_file_at, hint_in, hint_of_urls, hint_on_host, hint_to, hint_with_counts, host_hint, is_few, leads_to_file, link_hint, link_urls, other_hint, other_url, other_urls, page_links, path_hint_of, url_hint_of};
 
 use crate::base::{often_first, path_counts, root_hint};
 use crate::shown::begins;
@@ -379,7 +379,8 @@ fn rest_after(slashes: usize, url: &str) -> Option<&str>
     }
 }
 
-/// The hint at a URL, unless it is the top, or fewer than two links begin with it, or fewer than half of those would lead to files at the top.
+/// The hint at a URL, unless the top begins with it, or fewer than two links go below it, or fewer than half of those would lead to files at
+/// the top.
 #[tactic(auto, using(crate::proofs::LinkFolders::hint_at_top, crate::proofs::LinkFolders::hint_elsewhere))]
 fn hint_in(
     alloc: Global,
@@ -390,32 +391,53 @@ fn hint_in(
 ) -> Result<Option<BaseHint>, NoMemory>
     ensures { IfOk result (λ hint. option_map hint_at hint ≡ hint_in files.now (pointed urls.now) of folder.now) }
 {
-    if folder == files.top() {
+    if begins(folder, files.top()) {
         return Ok(None);
     }
     let paths = count_with(folder, urls);
+    let longer = count_below(folder, urls);
     let found = count_files(alloc, files, folder, urls)?;
-    hint_with_counts(alloc, of, folder, paths, found)
+    hint_with_counts(alloc, of, folder, paths, longer, found)
 }
 
-/// The hint at a URL with these numbers, if enough links begin with it and lead to files.
+/// The hint at a URL with these numbers of links, if of the `longer` ones that go below it enough lead to files.
 fn hint_with_counts(
     alloc: Global,
     of: u64,
     folder: &str,
     paths: u64,
+    longer: u64,
     found: u64,
 ) -> Result<Option<BaseHint>, NoMemory>
-    ensures { IfOk result (λ hint. option_map hint_at hint ≡ hint_with_counts of folder.now paths found) }
+    ensures { IfOk result (λ hint. option_map hint_at hint ≡ hint_with_counts of folder.now paths longer found) }
 {
-    if !are_enough(found, paths) {
+    if !are_enough(found, longer) {
         return Ok(None);
     }
     let folder = String::from_str(alloc, folder)?;
     Ok(Some(BaseHint { folder, paths, of }))
 }
 
-/// The number of URLs that begin with the folder and lead to files if the folder is the top.
+/// The number of URLs that begin with the folder and do not end there.
+#[tactic(auto, using(crate::proofs::LinkFolders::count_more, crate::proofs::LinkFolders::count_fits, crate::proofs::LinkFolders::count_end))]
+fn count_below(folder: &str, urls: &[&str]) -> u64
+    ensures { result ≡ count_by (goes_below folder.now) (pointed urls.now) }
+{
+    let mut count: u64 = 0;
+    for url in urls {
+        count += number_of(goes_below(folder, *url));
+    }
+    count
+}
+
+/// Whether a URL begins with the folder and does not end there.
+fn goes_below(folder: &str, url: &str) -> bool
+    ensures { result ≡ goes_below folder.now url.now }
+{
+    folder.len() < url.len() && begins(folder, url)
+}
+
+/// The number of URLs that go below the folder and lead to files if the folder is the top.
 #[tactic(auto, using(crate::proofs::LinkFolders::count_more, crate::proofs::LinkFolders::count_fits, crate::proofs::LinkFolders::count_end))]
 fn count_files(
     alloc: Global,
@@ -433,7 +455,7 @@ fn count_files(
     Ok(count)
 }
 
-/// Whether a URL begins with the folder, and is that of a file if the folder is the top.
+/// Whether a URL goes below the folder, and is that of a file if the folder is the top.
 #[tactic(auto, using(crate::proofs::LinkFolders::leads_on, crate::proofs::LinkFolders::leads_off))]
 fn leads_to_file(
     alloc: Global,
@@ -449,8 +471,7 @@ fn leads_to_file(
     }
 }
 
-/// Whether a file has the URL of this path from the top. None has that of an empty path: many pages link to the first page of another
-/// site.
+/// Whether a file has the URL of this path from the top. The path is not empty.
 fn has_file_at(alloc: Global, files: &SiteFiles<'_>, path: &str) -> Result<bool, NoMemory>
     ensures { IfOk result (λ has. has ≡ has_file_at files.now path.now) }
 {
