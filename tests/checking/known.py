@@ -925,8 +925,8 @@ KNOWN = [
     ),
     Known(
         "links with the host of the site, without BASE",
-        {"index.html": "<a href=http://h.test/p/a.html#x><a href=http://h.test/p/?q><a href=d/gone>", "a.html": "<img src=http://h.test/p/gone.png><a href=mailto:x>"},
-        ["d/gone index.html:1:69"], ({"kind": "hint", "base": "http://h.test/p/", "paths": 3, "of": 4},), settings=NO_BASE,
+        {"index.html": "<a href=http://h.test/p/a.html#x><a href=http://h.test/p/a.html?q><a href=d/gone>", "a.html": "<img src=http://h.test/p/gone.png><a href=mailto:x>"},
+        ["d/gone index.html:1:75"], ({"kind": "hint", "base": "http://h.test/p/", "paths": 3, "of": 4},), settings=NO_BASE,
     ),
     Known(
         "links with the host of the site, at its top", {"index.html": "<a href=https://h.test/d/index.html><a href=https://h.test/d/>", "d/index.html": ""}, [],
@@ -934,11 +934,16 @@ KNOWN = [
     ),
     Known(
         "as many links with a host as without one", {"index.html": "<a href=http://o.test/a.html><a href=http://o.test/b.html><a href=a.html><a href=b.html>", "a.html": "", "b.html": ""}, [],
-        settings=NO_BASE, without=("hint",),
+        ({"kind": "hint", "base": "http://o.test/", "paths": 2, "of": 4},), settings=NO_BASE,
     ),
     Known(
         "links with a host, and an alias, which has a link to the file's own URL",
-        {"index.html": "<a href=http://o.test/a.html><a href=http://o.test/b.html><a href=a.html?x>", "a.html": "", "b.html": ""}, [], settings=NO_BASE, without=("hint",),
+        {"index.html": "<a href=http://o.test/a.html><a href=http://o.test/b.html><a href=a.html?x>", "a.html": "", "b.html": ""}, [],
+        ({"kind": "hint", "base": "http://o.test/", "paths": 2, "of": 4},), settings=NO_BASE,
+    ),
+    Known(
+        "links to the first page of another site", {"index.html": "<a href=http://o.test/><a href=http://o.test/?q><a href=http://o.test/a.html>", "a.html": ""}, [],
+        settings=NO_BASE, without=("hint",),
     ),
     Known(
         "links to another site with few pages of the folder", {"index.html": "<a href=http://o.test/a.html><a href=http://o.test/b.html><a href=http://o.test/c.html>", "a.html": ""}, [],
@@ -966,7 +971,7 @@ KNOWN = [
     Known(
         "paths from the root, and links with the host of the site",
         {"index.html": "<a href=/p/a><a href=/p/b><a href=http://h.test/p/c.html><a href=http://h.test/p/><a href=http://h.test/p/c.html>", "c.html": ""},
-        ["p/a index.html:1:9", "p/b index.html:1:22"], ({"kind": "hint", "base": "/p/", "paths": 2, "of": 2},), settings=NO_BASE,
+        ["p/a index.html:1:9", "p/b index.html:1:22"], ({"kind": "hint", "base": "http://h.test/p/", "paths": 3, "of": 5},), settings=NO_BASE,
     ),
     Known("links above the folder", {"index.html": "<a href=../a.html><a href=../../b.html>", "a.html": ""}, ["../../b.html index.html:1:27", "../a.html index.html:1:9"], settings=NO_BASE, without=("hint",)),
     Known(
