@@ -1,6 +1,5 @@
 -- The links to missing anchors that several threads find are all of them.
-use Rattle.site_check.proofs.Prelude.{Global, IfOk, IfOk-at_ok, IfOk-weaker, PageResult, SiteFiles, Vec, flat_map, ◌≡◌, ◌∙◌, ℕ, ◌<◌, true, List, [], length, map, get_or, refl, sym, ap, subst, arith}
-use Rattle.std.proofs.lemmas.List.Elements.{All-contains, All-contains_itself, All-weaker}
+use Rattle.site_check.proofs.Prelude.{Global, IfOk, IfOk-at_ok, IfOk-weaker, PageResult, SiteFiles, Vec, flat_map, ◌≡◌, ℕ, ◌<◌, true, List, [], length, map, get_or, refl, sym, subst, arith}
 use Rattle.std.proofs.lemmas.List.Sorted.{All-permutation, Contains-permutation, IsPermutation-map}
 use Rattle.std.specs.List.{All, Contains}
 use Rattle.std.specs.List.Sorted.{IsPermutation, IsSortedBy}

@@ -1,5 +1,5 @@
 -- The URLs with which links begin, and the links that begin with them.
-use Rattle.site_check.proofs.Prelude.{◌≡◌, ◌∙◌, ℕ, suc, zero, ◌+◌, ◌^◌, ◌<◌, ◌≤◌, ◌&&◌, Bool, true, false, List, [], ◌∷◌, ◌++◌, Option, Some, None, length, drop, take, get_or, count_by, refl, subst, sym, ap, inl, inr, arith, append_assoc, cases_Bool, cond-false, cond-true, string_bytes, take-append-drop, bytes_eq, bytes_eq-Decides, begins, Bor, flat_map, option_map, pointed, Counts, PageResult, SiteFiles, count_at, is_slash, often_first, one_if, path_count}
+use Rattle.site_check.proofs.Prelude.{◌≡◌, ◌∙◌, ℕ, suc, zero, ◌+◌, ◌^◌, ◌<◌, ◌≤◌, ◌&&◌, Bool, true, false, List, [], ◌∷◌, ◌++◌, Option, Some, None, length, drop, take, get_or, count_by, refl, subst, sym, ap, inl, inr, arith, append_assoc, cases_Bool, cond-false, cond-true, string_bytes, take-append-drop, bytes_eq-Decides, begins, Bor, flat_map, option_map, pointed, Counts, PageResult, SiteFiles, count_at, is_slash, often_first, one_if, path_count}
 use Rattle.std.proofs.Common.{◌*◌, ◌-◌, ◌≢◌, MatchOption, cond, length-append, take_all}
 use Rattle.std.proofs.lemmas.List.{append_cancel_right, drop_all, flat_map_more}
 use Rattle.std.proofs.lemmas.List.Sums.{sum_by-append, sum_by-cons}

@@ -1,6 +1,5 @@
 -- The hint at a missing BASE: paths from the root that begin with a folder which the site does not have.
 use Rattle.std.specs.Prelude.{◌==◌, ◌-◌, ℕ, Bool, false, not, ◌&&◌, ◌||◌, if◌then◌else◌, List, [], ◌∷◌, ◌++◌, length, filter, count_by, nat_le, Option, None, Some, option_and_then, option_map, unwrap_or, string_bytes, bytes_eq}
-use Rattle.std.specs.Borrow.{Bor}
 use Rattle.std.specs.BTreeMap.{BTreeMap, get_by}
 use Rattle.std.specs.Char.{is_ascii_alphanumeric}
 use Rattle.std.specs.List.{flat_map, list_any}

@@ -95,7 +95,7 @@ abbrev pub hint_with_counts : ℕ → List ℕ → ℕ → ℕ → ℕ → Optio
 hint_with_counts of folder paths longer found = if are_enough found longer then Some (record { folder = folder; paths = paths; of = of }) else None
 
 -- the top does not begin with the folder, and at least half of the links that go below the folder lead to files. Links to the folder
--- itself tell nothing: many pages link to the first page of another site
+-- itself say nothing: many pages link to the first page of another site
 abbrev pub hint_in : SiteFiles → List (List ℕ) → ℕ → List ℕ → Option Hint
 hint_in files urls of folder =
     if begins folder (string_bytes files.site.top)
