@@ -946,6 +946,10 @@ KNOWN = [
         settings=NO_BASE, without=("hint",),
     ),
     Known(
+        "links outside BASE to files of the folder", {"index.html": "<a href=/a.html><a href=/b.html>", "a.html": "", "b.html": ""}, ["http://docs.test/a.html index.html:1:9", "http://docs.test/b.html index.html:1:25"],
+        settings=(("base", "http://docs.test/q/"),), without=("hint",),
+    ),
+    Known(
         "links to another site with few pages of the folder", {"index.html": "<a href=http://o.test/a.html><a href=http://o.test/b.html><a href=http://o.test/c.html>", "a.html": ""}, [],
         settings=NO_BASE, without=("hint",),
     ),
@@ -975,7 +979,7 @@ KNOWN = [
     ),
     Known("links above the folder", {"index.html": "<a href=../a.html><a href=../../b.html>", "a.html": ""}, ["../../b.html index.html:1:27", "../a.html index.html:1:9"], settings=NO_BASE, without=("hint",)),
     Known(
-        "links with another scheme than BASE", {"index.html": "<a href=https://docs.test/a.html><a href=https://docs.test/#x><a href=a.html>", "a.html": ""}, [],
+        "links with another scheme than BASE", {"index.html": "<a href=https://docs.test/a.html><a href=https://docs.test/a.html#x><a href=a.html>", "a.html": ""}, [],
         ({"kind": "hint", "base": "https://docs.test/", "paths": 2, "of": 3},),
     ),
     Known(
