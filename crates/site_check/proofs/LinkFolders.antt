@@ -14,7 +14,7 @@ use Rattle.site_check.proofs.RootFolders.{cut_here}
 use Rattle.site_check.specs.Base.{Hint, hint_at, root_hint_of}
 use Rattle.site_check.specs.Totals.{is_page, place_count}
 use Rattle.site_files.specs.Server.{before_query}
-use Rattle.site_check.specs.LinkBase.{Cuts, all_count, are_few_below, below_count, is_few, other_url, other_urls, page_links, page_others, first_hint, folder_to, folders_to, goes_below, has_file_at, hint_in, hint_of_urls, hint_on_host, hint_to, hint_with_counts, host_hint, leads_to_file, link_hint, link_urls}
+use Rattle.site_check.specs.LinkBase.{Cuts, all_count, are_few_below, below_count, is_few, other_url, other_urls, page_links, page_others, first_hint, folder_to, folder_with, folders_to, goes_below, has_file_at, hint_in, hint_of_urls, hint_on_host, hint_with_counts, host_hint, leads_to_file, link_hint, link_urls}
 
 -- ---- counts
 
@@ -136,32 +136,32 @@ leads_off files folder url lacks = λ i. sym (not_begun folder url lacks) i && h
 -- ---- the hint
 
 -- the hint at an index, and those after it
-hint_at_index : (files : SiteFiles) (urls : List (List ℕ)) (of : ℕ) (numbers : List ℕ) (i n : ℕ) → i < length numbers → n ≡ get_or numbers i n →
-    first_hint files urls of (drop i numbers) ≡ option_or (hint_to files urls of n) (first_hint files urls of (drop (i + 1) numbers))
-hint_at_index files urls of numbers i n below is = ap (first_hint files urls of) (cut_here numbers i n below is)
+hint_at_index : (files : SiteFiles) (urls : List (List ℕ)) (of : ℕ) (numbers : List ℕ) (i n : ℕ) (found : Option (List ℕ)) → i < length numbers → n ≡ get_or numbers i n → found ≡ folder_with urls of n →
+    first_hint files urls of (drop i numbers) ≡ option_and_then (λ folder. option_or (hint_in files urls of folder) (first_hint files urls of (drop (i + 1) numbers))) found
+hint_at_index files urls of numbers i n found below is there =
+    ap (first_hint files urls of) (cut_here numbers i n below is) ∙ ap (option_and_then (λ folder. option_or (hint_in files urls of folder) (first_hint files urls of (drop (i + 1) numbers)))) (sym there)
 
-pub hint_here : (files : SiteFiles) (urls : List (List ℕ)) (of : ℕ) (numbers : List ℕ) (i n : ℕ) (hint : Hint) (all : Option Hint) → i < length numbers → n ≡ get_or numbers i n →
-    Some hint ≡ hint_to files urls of n → first_hint files urls of (drop i numbers) ≡ all → Some hint ≡ all
-hint_here files urls of numbers i n hint all below is found so_far =
-    sym (hint_at_index files urls of numbers i n below is ∙ ap (λ o. option_or o (first_hint files urls of (drop (i + 1) numbers))) (sym found)) ∙ so_far
+pub hint_here : (files : SiteFiles) (urls : List (List ℕ)) (of : ℕ) (numbers : List ℕ) (i n : ℕ) (folder : List ℕ) (hint : Hint) (all : Option Hint) → i < length numbers → n ≡ get_or numbers i n →
+    Some folder ≡ folder_with urls of n → Some hint ≡ hint_in files urls of folder → first_hint files urls of (drop i numbers) ≡ all → Some hint ≡ all
+hint_here files urls of numbers i n folder hint all below is there found so_far =
+    sym (hint_at_index files urls of numbers i n (Some folder) below is there ∙ ap (λ o. option_or o (first_hint files urls of (drop (i + 1) numbers))) (sym found)) ∙ so_far
 
-pub hint_later : (files : SiteFiles) (urls : List (List ℕ)) (of : ℕ) (numbers : List ℕ) (i n : ℕ) (all : Option Hint) → i < length numbers → n ≡ get_or numbers i n →
-    None ≡ hint_to files urls of n → first_hint files urls of (drop i numbers) ≡ all → first_hint files urls of (drop (i + 1) numbers) ≡ all
-hint_later files urls of numbers i n all below is none so_far =
-    sym (hint_at_index files urls of numbers i n below is ∙ ap (λ o. option_or o (first_hint files urls of (drop (i + 1) numbers))) (sym none)) ∙ so_far
+pub hint_later : (files : SiteFiles) (urls : List (List ℕ)) (of : ℕ) (numbers : List ℕ) (i n : ℕ) (folder : List ℕ) (all : Option Hint) → i < length numbers → n ≡ get_or numbers i n →
+    Some folder ≡ folder_with urls of n → None ≡ hint_in files urls of folder → first_hint files urls of (drop i numbers) ≡ all → first_hint files urls of (drop (i + 1) numbers) ≡ all
+hint_later files urls of numbers i n folder all below is there none so_far =
+    sym (hint_at_index files urls of numbers i n (Some folder) below is there ∙ ap (λ o. option_or o (first_hint files urls of (drop (i + 1) numbers))) (sym none)) ∙ so_far
+
+pub none_with : (files : SiteFiles) (urls : List (List ℕ)) (of : ℕ) (numbers : List ℕ) (i n : ℕ) (all : Option Hint) → i < length numbers → n ≡ get_or numbers i n → None ≡ folder_with urls of n →
+    first_hint files urls of (drop i numbers) ≡ all → None ≡ all
+none_with files urls of numbers i n all below is lacks so_far = sym (hint_at_index files urls of numbers i n None below is lacks) ∙ so_far
 
 pub no_hint : (files : SiteFiles) (urls : List (List ℕ)) (of : ℕ) (numbers : List ℕ) (i : ℕ) (all : Option Hint) → length numbers ≤ i → first_hint files urls of (drop i numbers) ≡ all → None ≡ all
 no_hint files urls of numbers i all past so_far = sym (ap (first_hint files urls of) (drop_all i numbers past)) ∙ so_far
 
-pub hint_chosen : (files : SiteFiles) (urls folders : List (List ℕ)) (counts : Counts) (of n : ℕ) (folder : List ℕ) → folders ≡ folders_to n urls →
-    ((other : List ℕ) → count_at counts other ≡ path_count folders other) → Some folder ≡ often_first of (count_at counts) folders → hint_in files urls of folder ≡ hint_to files urls of n
-hint_chosen files urls folders counts of n folder listed are first =
-    ap (option_and_then (hint_in files urls of)) (first ∙ (λ i. often_first of (λ other. are other i) folders) ∙ ap (λ l. often_first of (path_count l) l) listed)
-
-pub hint_lacks : (files : SiteFiles) (urls folders : List (List ℕ)) (counts : Counts) (of n : ℕ) → folders ≡ folders_to n urls → ((other : List ℕ) → count_at counts other ≡ path_count folders other) →
-    None ≡ often_first of (count_at counts) folders → None ≡ hint_to files urls of n
-hint_lacks files urls folders counts of n listed are first =
-    ap (option_and_then (hint_in files urls of)) (first ∙ (λ i. often_first of (λ other. are other i) folders) ∙ ap (λ l. often_first of (path_count l) l) listed)
+-- the first folder by the counts of all
+pub first_folder : (urls folders : List (List ℕ)) (counts : Counts) (of n : ℕ) (found : Option (List ℕ)) → folders ≡ folders_to n urls → ((other : List ℕ) → count_at counts other ≡ path_count folders other) →
+    found ≡ often_first of (count_at counts) folders → found ≡ folder_with urls of n
+first_folder urls folders counts of n found listed are first = first ∙ (λ i. often_first of (λ other. are other i) folders) ∙ ap (λ l. often_first of (path_count l) l) listed
 
 -- a URL with which the top begins has none
 pub hint_at_top : (files : SiteFiles) (urls : List (List ℕ)) (of : ℕ) (folder top : List ℕ) → top ≡ string_bytes files.site.top → begins folder top ≡ true → None ≡ hint_in files urls of folder
@@ -207,6 +207,7 @@ hint_of_most files results rows most = sym (cond-false (are_few_below (string_by
 
 -- the number of links, as of the references to them
 pub hint_counts : (files : SiteFiles) (urls : List (Bor (List ℕ))) (hint : Option Hint) → hint ≡ first_hint files (pointed urls) (length urls) (3 ∷ 4 ∷ 5 ∷ 6 ∷ 7 ∷ 8 ∷ []) → hint ≡ hint_of_urls files (pointed urls)
+unfolding hint_of_urls
 hint_counts files urls hint own = own ∙ ap (λ n. first_hint files (pointed urls) n (3 ∷ 4 ∷ 5 ∷ 6 ∷ 7 ∷ 8 ∷ [])) (sym (length_pointed urls))
 
 -- ---- a folder on the host

@@ -102,20 +102,22 @@ hint_in files urls of folder =
     then None
     else hint_with_counts of folder (count_by (begins folder) urls) (count_by (goes_below folder) urls) (count_by (leads_to_file files folder) urls)
 
--- the folder is the first with this number of slashes with which at least two and at least half of the links begin
-abbrev pub hint_to : SiteFiles → List (List ℕ) → ℕ → ℕ → Option Hint
-hint_to files urls of n = option_and_then (hint_in files urls of) (often_first of (path_count (folders_to n urls)) (folders_to n urls))
+-- the first folder with this number of slashes with which at least two and at least half of the links begin
+abbrev pub folder_with : List (List ℕ) → ℕ → ℕ → Option (List ℕ)
+folder_with urls of n = often_first of (path_count (folders_to n urls)) (folders_to n urls)
 
+-- the first hint at such a folder with one of these numbers of slashes, up to a number with which there is none: then there is none with
+-- more slashes
 abbrev pub first_hint : SiteFiles → List (List ℕ) → ℕ → List ℕ → Option Hint
 first_hint files urls of [] = None
-first_hint files urls of (n ∷ more) = option_or (hint_to files urls of n) (first_hint files urls of more)
+first_hint files urls of (n ∷ more) = option_and_then (λ folder. option_or (hint_in files urls of folder) (first_hint files urls of more)) (folder_with urls of n)
 
 -- fewer than half of the links begin with the top, after the number of locations of links to missing pages is taken off
 abbrev pub are_few_below : List ℕ → List PageResult → List Broken → Bool
 are_few_below top results rows = is_few (below_count top results - place_count is_page rows) (all_count results)
 
 -- the third slash of a URL ends the host
-abbrev pub hint_of_urls : SiteFiles → List (List ℕ) → Option Hint
+unfoldable pub hint_of_urls : SiteFiles → List (List ℕ) → Option Hint
 hint_of_urls files urls = first_hint files urls (length urls) (3 ∷ 4 ∷ 5 ∷ 6 ∷ 7 ∷ 8 ∷ [])
 
 -- then there is a hint by all links

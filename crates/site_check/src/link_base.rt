@@ -6,7 +6,7 @@ ghost use Rattle.crawl_sources.specs.Tallies.{pointed};
 ghost use Rattle.site_files.specs.Server.{before_query};
 ghost use Rattle.site_check.specs.Base.{hint_at};
 ghost use Rattle.site_check.specs.Broken.{begins};
-ghost use Rattle.site_check.specs.LinkBase.{Cuts, all_count, among_all, are_enough, are_few_below, base_hint_of, first_hint, folder_to, folders_to, goes_below, has_file_at, hint_in, hint_of_urls, hint_on_host, hint_to, hint_with_counts, host_hint, is_few, leads_to_file, link_hint, link_urls, other_hint, other_url, other_urls, page_links, path_hint_of, url_hint_of};
+ghost use Rattle.site_check.specs.LinkBase.{Cuts, all_count, among_all, are_enough, are_few_below, base_hint_of, first_hint, folder_to, folder_with, folders_to, goes_below, has_file_at, hint_in, hint_of_urls, hint_on_host, hint_with_counts, host_hint, is_few, leads_to_file, link_hint, link_urls, other_hint, other_url, other_urls, page_links, path_hint_of, url_hint_of};
 
 use crate::base::{often_first, path_counts, root_hint};
 use crate::shown::begins;
@@ -156,7 +156,6 @@ fn among_all(alloc: Global, results: &[PageResult], hint: BaseHint) -> Result<Ba
 }
 
 /// The hint at a URL with three to eight slashes with which many of these links begin. The third slash ends the host.
-#[tactic(auto, using(crate::proofs::LinkFolders::hint_counts))]
 fn hint_of_urls(
     alloc: Global,
     files: &SiteFiles<'_>,
@@ -289,8 +288,9 @@ fn are_enough(part: u64, of: u64) -> bool
     2 <= of && of.saturating_sub(part) <= part
 }
 
-/// The first hint at a URL with one of these numbers of slashes.
-#[tactic(auto, using(crate::proofs::LinkFolders::hint_here, crate::proofs::LinkFolders::hint_later, crate::proofs::LinkFolders::no_hint))]
+/// The first hint at a URL with one of these numbers of slashes, which rise: if no URL with one of them begins enough links, none with more
+/// slashes does.
+#[tactic(auto, using(crate::proofs::LinkFolders::hint_here, crate::proofs::LinkFolders::hint_later, crate::proofs::LinkFolders::none_with, crate::proofs::LinkFolders::no_hint))]
 fn first_hint(
     alloc: Global,
     files: &SiteFiles<'_>,
@@ -301,7 +301,10 @@ fn first_hint(
     ensures { IfOk result (λ hint. option_map hint_at hint ≡ first_hint files.now (pointed urls.now) of numbers.now) }
 {
     for slashes in numbers {
-        match hint_to(alloc, files, urls, of, *slashes)? {
+        let Some(folder) = folder_with(alloc, urls, of, *slashes)? else {
+            return Ok(None);
+        };
+        match hint_in(alloc, files, urls, of, folder)? {
             Some(hint) => return Ok(Some(hint)),
             None => {}
         }
@@ -309,24 +312,19 @@ fn first_hint(
     Ok(None)
 }
 
-/// The hint at the first URL with this number of slashes with which at least half and at least two of the links begin.
-#[tactic(auto, using(crate::proofs::LinkFolders::hint_lacks))]
-fn hint_to(
+/// The first URL with this number of slashes with which at least half and at least two of the links begin.
+fn folder_with<'a>(
     alloc: Global,
-    files: &SiteFiles<'_>,
-    urls: &[&str],
+    urls: &[&'a str],
     of: u64,
     slashes: usize,
-) -> Result<Option<BaseHint>, NoMemory>
-    ensures { IfOk result (λ hint. option_map hint_at hint ≡ hint_to files.now (pointed urls.now) of slashes) }
+) -> Result<Option<&'a str>, NoMemory>
+    ensures { IfOk result (λ folder. option_map (λ f. f.now) folder ≡ folder_with (pointed urls.now) of slashes) }
 {
     let folders = folders_to(alloc, urls, slashes)?;
     let those = folders.as_slice();
     let counts = path_counts(alloc, those)?;
-    match often_first(of, &counts, those) {
-        Some(folder) => hint_in(alloc, files, urls, of, folder),
-        None => Ok(None),
-    }
+    Ok(often_first(of, &counts, those))
 }
 
 /// The texts of URLs to their slashes with this number. URLs with fewer slashes have none.
