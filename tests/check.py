@@ -250,8 +250,10 @@ def fixed_errors(program: Optional[str], number: int) -> Errors:
         found = fixes.fixes_of(Model(folder, settings))
         actual = {os.fsdecode(change.name): change.new for change in found.changes}
         expected = {name: content if isinstance(content, bytes) else content.encode() for name, content in fixed.changed.items()}
+        # Most known results do not say which link is the first that stays as it is.
+        notes = [note if note in fixed.notes else note.partition(" (the first is at ")[0] for note in found.notes]
         error = f"{actual} {found.notes}, expected {expected} {fixed.notes}"
-        errors: Errors = [(f"{fixed.name}, model", None if (actual, found.notes) == (expected, fixed.notes) else error)]
+        errors: Errors = [(f"{fixed.name}, model", None if (actual, notes) == (expected, fixed.notes) else error)]
         if program:
             errors.append((fixed.name, fix_error(program, settings, folder)))
         return errors
@@ -449,7 +451,7 @@ def snapshot(folder: str) -> Dict[str, Any]:
     return found
 
 
-FIX_NOTE = re.compile(r"^mercator: (.*: (?:links left as they are: [0-9]+|links rewritten: [0-9]+|not rewritten, .*))$", re.M)
+FIX_NOTE = re.compile(r"^mercator: (.*: (?:links left as they are: .*|links rewritten: [0-9]+|not rewritten, .*))$", re.M)
 
 
 def fix_notes(done: "subprocess.CompletedProcess[bytes]") -> List[str]:
@@ -523,7 +525,7 @@ def details(row: Row) -> Iterator[str]:
         yield HINT_KINDS.get(row["hint"]) or ("hint_fallback" if row["hint"].endswith(": --fallback html") else "hint_index_file")
     if row.get("same_name"):
         yield from suggestion_kinds(row["target"], row["same_name"])
-    if row["kind"] == "place" and printing.question(row, row):
+    if "question" in row:
         yield "question"
     if row.get("written"):
         yield "written"

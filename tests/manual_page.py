@@ -207,7 +207,7 @@ def described_by_manual(helps: Dict[str, Described]) -> Dict[str, Described]:
 
 def without_marks(text: str) -> str:
     """A text without the marks of code and of emphasis. A star in the middle of a word is no mark."""
-    return re.sub(r"(?<![\w/])\*+|\*+(?![\w.])", "", text.replace("`", ""))
+    return re.sub(r"(?<![\w/])\*+(?!\.)|\*+(?![\w.])", "", text.replace("`", ""))
 
 
 def cells_of(row: str) -> List[str]:

@@ -21,6 +21,9 @@ SCHEME = re.compile("[A-Za-z][A-Za-z0-9+.-]*:")
 PLAIN = re.compile(r"[A-Za-z0-9._~%/:@!$*+;=\[\]^{}|-]*")
 PATH = re.compile("[^?#]*")
 DOCUMENTS = ("html", "xml", "")  # the forms of files whose links are rewritten
+# Why a link stays as it is
+ENCODING, WRITTEN = "the file is not in UTF-8, or begins with a byte order mark", "it is not written as it is read, or follows another one in a list"
+NEW_TEXT, OTHER_CHANGES = "it has no path, or its new text would need escapes or lead elsewhere", "rewriting the file would change other links or text"
 
 Moves = Dict[str, str]  # where links lead, and where they are to lead
 
@@ -99,7 +102,7 @@ class Fixer:
                 if (left or new != page.body) and self.has_link(name):
                     notes.append(f"{shown(os.fsdecode(name))}: not rewritten, because its path has a symbolic link")
                     continue
-                notes += [f"{shown(os.fsdecode(name))}: links left as they are: {left}"] if left else []
+                notes += [f"{shown(os.fsdecode(name))}: links left as they are: {left}{page.first_left(new != page.body)}"] if left else []
                 changes += [Change(name, page.body, new, len(edits))] if new != page.body else []
                 kinds += [edit.kind for edit in edits] if new != page.body else []
         return Fixes(changes, notes, kinds)
@@ -134,6 +137,7 @@ class Page:
         self.redirects = fixer.redirects
         self.moves = {**fixer.redirects, **fixer.candidates.get(os.fsdecode(name), {})}
         self.leads = self.leads_of(document)
+        self.reasons: List[Tuple[int, int, Optional[str]]] = []  # the location of each link with a move, and why it has no edit
 
     def leads_of(self, document: Document) -> List[str]:
         """Where each link of a version of the document leads: to a URL, or the text of one that is neither http nor https. Nowhere if it is too long."""
@@ -146,12 +150,24 @@ class Page:
         """The changes of the document in the order of its text. Of the links at one location the first one that can be rewritten counts."""
         found: Dict[int, Edit] = {}
         for link, lead in zip(self.document.links, self.leads):
-            at = self.position(*self.document.lines.place(link.at))
+            if lead not in self.moves:
+                continue
+            line, column = self.document.lines.place(link.at)
+            at = self.position(line, column)
             written = TOOL.cleaned(link.text)
-            new = self.new_text(written, lead) if lead in self.moves else None
-            if self.text is not None and at is not None and new is not None and self.text.startswith(written, at):
-                found.setdefault(at, Edit(at, written, new, self.kind_of(lead)))
+            new = self.new_text(written, lead)
+            is_there = self.text is not None and at is not None and at not in found and self.text.startswith(written, at)
+            reason = ENCODING if self.text is None else WRITTEN if not is_there else NEW_TEXT if new is None else None
+            self.reasons.append((line, column, reason))
+            if at is not None and new is not None and reason is None:
+                found[at] = Edit(at, written, new, self.kind_of(lead))
         return [found[at] for at in sorted(found)]
+
+    def first_left(self, is_changed: bool) -> str:
+        """The first link in the file that stays as it is, and why, in brackets. The attributes of a tag are not read in their order."""
+        left = [(line, column, reason or OTHER_CHANGES) for line, column, reason in self.reasons if reason or not is_changed]
+        line, column, reason = min(left, key=lambda link: link[:2], default=(0, 0, ""))
+        return f" (the first is at {line}:{column}: {reason})" if left else ""
 
     def kind_of(self, lead: str) -> str:
         """The kind of a link that leads to a URL with a move, as it is counted."""

@@ -14,7 +14,7 @@ from typing import Dict, List, Optional, Tuple
 from urllib.parse import quote
 
 from checking.model import Row
-from checking.printing import CONTROL, Target, advice, as_written, base_hint, decoded, in_order, message, named, pages_text, question, shown, targets
+from checking.printing import CONTROL, Target, advice, as_written, asked, base_hint, decoded, in_order, message, named, pages_text, shown, targets
 
 CODES = re.compile(rb"\x1b\[[0-9]+m")
 POLICY = re.compile(r"script-src 'sha256-([^']*)'")
@@ -94,7 +94,7 @@ def target_fields(target: Target) -> List[List[str]]:
     row = target.row
     lines = [[named(row), message(row) + advice(row)]]
     for place in target.places:
-        notes = [as_written(place, named(row)).lstrip(" "), question(row, place).lstrip(" ")]
+        notes = [as_written(place, named(row)).lstrip(" "), asked(row, place).lstrip(" ")]
         lines.append(["", f"{place['file']}:{place['line']}:{place['column']}", *filter(None, notes)])
     return lines
 

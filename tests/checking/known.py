@@ -95,9 +95,9 @@ FOLDERS = {
 # Missing pages, and the page that is suggested for each
 SUGGESTED: Dict[str, Optional[str]] = {
     "old/a.html": "n/a.html", "b.html": None, "c.html?x": "n/c.html", "gone.html": None, "n/": None, "x/sub": None, "N/A.html": "n/a.html", "c.HTML?x": "n/c.html",
-    "img/LOGO.png": "img/logo.png", "M/B.html": None, "x/readme.html": "o/readme.html", "x/README.html": "README.html", "Readme.html": None, "x/Sub": None, "x/index.html": None,
+    "img/LOGO.png": "img/logo.png", "M/B.html": "m/b.html", "x/B.html": None, "N/b.html?x": "n/b.html", "x/readme.html": "o/readme.html", "x/README.html": "README.html", "Readme.html": "README.html", "x/Sub": None, "x/index.html": None,
     "x/Index.html": None, "x/INDEX.htm": "o/index.htm", "%C3%BC.html": None, "x/%c3%9c.HTML": "%C3%9C.html", "x/e.HTML/": "e.html", "Q/": "q/", "x/q/": "q/", "x/q/?y": "q/", "Q": "q/", "x/Q.HTML": None,
-    "T/": None, "T/U/": "t/u/", "x/U": "t/u/", "w/t": None, "p/t/": None, "X/T": None, "v/": "o/v",
+    "T/": "t/", "T": None, "T/U/": "t/u/", "x/U": "t/u/", "w/t": None, "p/t/": None, "P/T": "p/t", "X/T": None, "v/": "o/v",
 }
 NAMESAKES: Dict[str, Union[str, bytes, To, Zeros]] = {
     "index.html": "\n".join(f"<a href={link}>" for link in SUGGESTED),
@@ -761,10 +761,23 @@ KNOWN = [
         ],
         (
             {"kind": "total", "links": 9, "broken": 2, "leaving": 5, "external": 2},
-            {"kind": "leaving", "target": "http://docs.test/x", "reason": "outside_base", "pages": 1},
+            {"kind": "leaving", "target": "http://docs.test/x", "reason": "outside_base", "pages": 1, "same_name": None},
             {"kind": "external", "url": "http://docs.test:8080/x", "links": 1}, {"kind": "external", "url": "https://docs.test/x", "links": 1},
         ),
         settings=(("base", "http://docs.test/project/"), ("external", True)),
+    ),
+    Known(
+        "links outside BASE to paths that the folder has",
+        {"index.html": "<a href=/><a href=/a.html><a href=/d/?x><a href=/d><a href=/A.html>", "a.html": "<a href=/a.html>", "d/index.html": ""},
+        [
+            "http://docs.test/ index.html:1:9", "http://docs.test/A.html index.html:1:60", "http://docs.test/a.html a.html:1:9", "http://docs.test/a.html index.html:1:19",
+            "http://docs.test/d index.html:1:49", "http://docs.test/d/?x index.html:1:35",
+        ],
+        tuple(
+            {"kind": "leaving", "target": f"http://docs.test/{path}", "same_name": None if page is None else f"http://docs.test/project/{page}"}
+            for path, page in {"": "", "a.html": "a.html", "d/?x": "d/", "d": None, "A.html": None}.items()
+        ),
+        settings=(("base", "http://docs.test/project/"),),
     ),
     Known(
         "links that leave and are ignored",
@@ -912,8 +925,8 @@ KNOWN = [
     ),
     Known(
         "links with the host of the site, without BASE",
-        {"index.html": "<a href=http://h.test/p/a.html#x><a href=http://h.test/p/?q><a href=d/gone>", "a.html": "<img src=http://h.test/p/gone.png><a href=mailto:x>"},
-        ["d/gone index.html:1:69"], ({"kind": "hint", "base": "http://h.test/p/", "paths": 3, "of": 4},), settings=NO_BASE,
+        {"index.html": "<a href=http://h.test/p/a.html#x><a href=http://h.test/p/a.html?q><a href=d/gone>", "a.html": "<img src=http://h.test/p/gone.png><a href=mailto:x>"},
+        ["d/gone index.html:1:75"], ({"kind": "hint", "base": "http://h.test/p/", "paths": 3, "of": 4},), settings=NO_BASE,
     ),
     Known(
         "links with the host of the site, at its top", {"index.html": "<a href=https://h.test/d/index.html><a href=https://h.test/d/>", "d/index.html": ""}, [],
@@ -921,11 +934,20 @@ KNOWN = [
     ),
     Known(
         "as many links with a host as without one", {"index.html": "<a href=http://o.test/a.html><a href=http://o.test/b.html><a href=a.html><a href=b.html>", "a.html": "", "b.html": ""}, [],
-        settings=NO_BASE, without=("hint",),
+        ({"kind": "hint", "base": "http://o.test/", "paths": 2, "of": 4},), settings=NO_BASE,
     ),
     Known(
         "links with a host, and an alias, which has a link to the file's own URL",
-        {"index.html": "<a href=http://o.test/a.html><a href=http://o.test/b.html><a href=a.html?x>", "a.html": "", "b.html": ""}, [], settings=NO_BASE, without=("hint",),
+        {"index.html": "<a href=http://o.test/a.html><a href=http://o.test/b.html><a href=a.html?x>", "a.html": "", "b.html": ""}, [],
+        ({"kind": "hint", "base": "http://o.test/", "paths": 2, "of": 4},), settings=NO_BASE,
+    ),
+    Known(
+        "links to the first page of another site", {"index.html": "<a href=http://o.test/><a href=http://o.test/?q><a href=http://o.test/a.html>", "a.html": ""}, [],
+        settings=NO_BASE, without=("hint",),
+    ),
+    Known(
+        "links outside BASE to files of the folder", {"index.html": "<a href=/a.html><a href=/b.html>", "a.html": "", "b.html": ""}, ["http://docs.test/a.html index.html:1:9", "http://docs.test/b.html index.html:1:25"],
+        settings=(("base", "http://docs.test/q/"),), without=("hint",),
     ),
     Known(
         "links to another site with few pages of the folder", {"index.html": "<a href=http://o.test/a.html><a href=http://o.test/b.html><a href=http://o.test/c.html>", "a.html": ""}, [],
@@ -953,11 +975,11 @@ KNOWN = [
     Known(
         "paths from the root, and links with the host of the site",
         {"index.html": "<a href=/p/a><a href=/p/b><a href=http://h.test/p/c.html><a href=http://h.test/p/><a href=http://h.test/p/c.html>", "c.html": ""},
-        ["p/a index.html:1:9", "p/b index.html:1:22"], ({"kind": "hint", "base": "/p/", "paths": 2, "of": 2},), settings=NO_BASE,
+        ["p/a index.html:1:9", "p/b index.html:1:22"], ({"kind": "hint", "base": "http://h.test/p/", "paths": 3, "of": 5},), settings=NO_BASE,
     ),
     Known("links above the folder", {"index.html": "<a href=../a.html><a href=../../b.html>", "a.html": ""}, ["../../b.html index.html:1:27", "../a.html index.html:1:9"], settings=NO_BASE, without=("hint",)),
     Known(
-        "links with another scheme than BASE", {"index.html": "<a href=https://docs.test/a.html><a href=https://docs.test/#x><a href=a.html>", "a.html": ""}, [],
+        "links with another scheme than BASE", {"index.html": "<a href=https://docs.test/a.html><a href=https://docs.test/a.html#x><a href=a.html>", "a.html": ""}, [],
         ({"kind": "hint", "base": "https://docs.test/", "paths": 2, "of": 3},),
     ),
     Known(
@@ -1006,6 +1028,12 @@ KNOWN = [
         ["gone index.html:1:9"],
         (*unlisted("a.html", "c.html", "d/", "f"), {"kind": "total", "unlisted": 4, "pages": 9}),
         settings=(("sitemap", True),),
+    ),
+    Known(
+        "documents that no sitemap lists, and entries that match some",
+        {"index.html": "<a href=a.html>", "a.html": "", "b.html": "", "c/index.html": "", "d.html": "<a href=e.html>", "sitemap.txt": "http://docs.test/\n"},
+        [], (*unlisted("b.html"), {"kind": "total", "unlisted": 1, "missing_pages": 0}, *({"kind": "unused", "name": name} for name in ("b.html: *", "index", "x"))),
+        settings=(("sitemap", True), ("ignores", ("a.html", "c*", "d", "b.html: *", "index", "x", "e.html"))),
     ),
     Known(
         "documents that a list of URLs names", {"index.html": "", "a.html": "", "sitemap.txt": "http://docs.test/\n", "feed.rss": "<rss><link>a.html</link></rss>"},

@@ -19,7 +19,7 @@ class Fixed(NamedTuple):
     settings: Tuple[Tuple[str, Any], ...] = ()
 
 
-def page(name: str, old: str, new: str, left: int = 0, *others: str) -> Fixed:
+def page(name: str, old: str, new: str, left: Union[int, str] = 0, *others: str) -> Fixed:
     """An index file with this text before and after, and other files. An old text that stays is the same as the new one."""
     files: Files = {"index.html": old, "d/index.html": "", "new/a.html": "", "new/b.png": "", **{other: "" for other in others}}
     return Fixed(name, files, {"index.html": new} if old != new else {}, [f"index.html: links left as they are: {left}"] if left else [], NO_BASE)
@@ -42,23 +42,25 @@ FIXED = [
     page("the same name in the same case, in a folder in another case", "<a href=New/a.html><a href=x/C.html>", "<a href=new/a.html><a href=o/C.html>", 0, "o/C.html", "c.html"),
     page("a folder in another case", "<a href=D/><a href='D/?x#y'><a href=D><a href=NEW/E/>", "<a href=d/><a href='d/?x#y'><a href=D><a href=new/e/>", 0, "new/e/index.html"),
     page("a folder of the same name in another folder", "<a href=old/d/><a href=old/D/><a href=old/d>", "<a href=old/d/><a href=old/D/><a href=old/d>"),
-    page("two pages in another case", "<a href=e.html><a href=NEW/A.html>", "<a href=e.html><a href=NEW/A.html>", 0, "E.html", "E.HTML", "o/A.HTML"),
+    page("two pages in another case", "<a href=e.html><a href=x/A.html>", "<a href=e.html><a href=x/A.html>", 0, "E.html", "E.HTML", "o/A.HTML"),
+    page("one of several pages of the name, by its path in another case", "<a href=NEW/A.html><a href=O/a.html?x#y><a href=p/A.html>", "<a href=new/a.html><a href=o/a.html?x#y><a href=p/A.html>", 0, "o/a.html", "p/a.HTML", "P/a.html"),
     page("a suggestion that is an index file", "<a href=e/index.htm>", "<a href=e/index.htm>", 0, "f/index.htm"),
-    page("character references", "<a href='old/a&#46;html'><a href=old/a.html>", "<a href='old/a&#46;html'><a href=new/a.html>", 1),
+    page("character references", "<a href='old/a&#46;html'><a href=old/a.html>", "<a href='old/a&#46;html'><a href=new/a.html>", "1 (the first is at 1:10: it is not written as it is read, or follows another one in a list)"),
     page("white space in a link", "<a href=' old/a.html'><a href='old/a\n.html'><a href='old/a.html '>", "<a href=' old/a.html'><a href='old/a\n.html'><a href='new/a.html '>", 2),
     page("a list of links", "<img srcset='b.png 1x, ./b.png 2x'>", "<img srcset='new/b.png 1x, ./b.png 2x'>", 1),
     page("the same link twice in a list", "<img srcset='b.png 1x, b.png 2x'>", "<img srcset='new/b.png 1x, b.png 2x'>", 1),
-    page("the beginning of another link in a list", "<img srcset='d.png 1x, d 2x'><a href=old/a.html>", "<img srcset='d.png 1x, d 2x'><a href=old/a.html>", 2, "d.png"),
+    page("the beginning of another link in a list", "<img srcset='d.png 1x, d 2x'><a href=old/a.html>", "<img srcset='d.png 1x, d 2x'><a href=old/a.html>", "2 (the first is at 1:14: rewriting the file would change other links or text)", "d.png"),
+    page("the first link of a tag whose attributes are read in another order", "<img srcset='b&#46;png 2x' src='old/b&#46;png'>", "<img srcset='b&#46;png 2x' src='old/b&#46;png'>", "2 (the first is at 1:14: it is not written as it is read, or follows another one in a list)"),
     page("a refresh", "<meta http-equiv=refresh content='0;url=d'>", "<meta http-equiv=refresh content='0;url=d'>", 1),
     page("styles in a document", "<style>p{a:url(b.png)}</style>\n<p style='b:url( \"c/b.png\" )'>", "<style>p{a:url(new/b.png)}</style>\n<p style='b:url( \"new/b.png\" )'>"),
     page("a document in a frame", "<iframe srcdoc='<a href=d>'></iframe><a href=d>", "<iframe srcdoc='<a href=d>'></iframe><a href=d/>", 1),
-    page("a document in a frame that begins with the text of a link", "<iframe srcdoc='d<a href=d>'></iframe><a href=d>", "<iframe srcdoc='d<a href=d>'></iframe><a href=d>", 2),
+    page("a document in a frame that begins with the text of a link", "<iframe srcdoc='d<a href=d>'></iframe><a href=d>", "<iframe srcdoc='d<a href=d>'></iframe><a href=d>", "2 (the first is at 1:17: rewriting the file would change other links or text)"),
     page("a path with a space", "<a href=c.html>", "<a href=new%20name/c.html>", 0, "new name/c.html"),
-    page("a path with a character that may end a link", "<a href=c.html>", "<a href=c.html>", 1, "a&b/c.html"),
+    page("a path with a character that may end a link", "<a href=c.html>", "<a href=c.html>", "1 (the first is at 1:9: it has no path, or its new text would need escapes or lead elsewhere)", "a&b/c.html"),
     page("a path that would be a scheme", "<a href='old/x:y.html'><a href=d>", "<a href='old/x:y.html'><a href=d/>", 1, "x:y.html"),
     page("letters beyond ASCII before a link", "\u00fc\u65e5<a href=old/a.html>\U0001f514", "\u00fc\u65e5<a href=new/a.html>\U0001f514"),
     page("lines that end in CR and LF", "<p>\r\n<a\r\nhref=d>\r\n<a href=old/a.html>\r\n", "<p>\r\n<a\r\nhref=d/>\r\n<a href=new/a.html>\r\n"),
-    page("a base", "<base href=s/><a href=a.html><a href=/d>", "<base href=s/><a href=a.html><a href=/d/>", 1),
+    page("a base", "<base href=s/><a href=a.html><a href=/d>", "<base href=s/><a href=a.html><a href=/d/>", "1 (the first is at 1:23: it has no path, or its new text would need escapes or lead elsewhere)"),
     page("a base with a folder", "<base href=/><a href=d><a href=a.html>", "<base href=/><a href=d/><a href=new/a.html>"),
     page("ASCII in windows-1252", "<meta charset=l1><a href=old/a.html>", "<meta charset=l1><a href=new/a.html>"),
     page("UTF-8 that is read as windows-1252", "<meta charset=l1>\u00fc<a href=old/a.html>", "<meta charset=l1>\u00fc<a href=old/a.html>", 1),
@@ -110,7 +112,7 @@ FIXED = [
         "only the exact spelling of a URL", {"index.html": "<a href=a.html?x><a href=a.html><a href=d?x><a href=d>", "new/a.html": "", "d/index.html": ""},
         {"index.html": "<a href=a.html?x><a href=new/a.html><a href=d?x><a href=d/>"}, settings=(*NO_BASE, ("exact", True)),
     ),
-    Fixed("bytes that are not UTF-8", {"index.html": b"\xe9<a href=d>", "d/index.html": "<a href=../d>"}, {"d/index.html": "<a href=../d/>"}, ["index.html: links left as they are: 1"], NO_BASE),
+    Fixed("bytes that are not UTF-8", {"index.html": b"\xe9<a href=d>", "d/index.html": "<a href=../d>"}, {"d/index.html": "<a href=../d/>"}, ["index.html: links left as they are: 1 (the first is at 1:10: the file is not in UTF-8, or begins with a byte order mark)"], NO_BASE),
     Fixed("a byte order mark", {"index.html": "\ufeff<a href=d>", "a.html": b"\xff\xfe" + "<a href=d>".encode("utf-16-le"), "d/index.html": ""}, {}, ["a.html: links left as they are: 1", "index.html: links left as they are: 1"], NO_BASE),
     Fixed("without styles", {"index.html": "<style>a{b:url(b.png)}</style><a href=d>", "new/b.png": "", "d/index.html": ""}, {"index.html": "<style>a{b:url(b.png)}</style><a href=d/>"}, settings=(*NO_BASE, ("styles", False))),
     Fixed("only what can be reached", {"index.html": "<a href=d>", "a.html": "<a href=d>", "d/index.html": ""}, {"index.html": "<a href=d/>"}, settings=(*NO_BASE, ("reachable", True))),

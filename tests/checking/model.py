@@ -17,6 +17,7 @@ from urllib.parse import quote, unquote_to_bytes
 import drawn
 from checking import feeds
 from checking.documents import TOOL, Document, document_of, form_of, is_page, known_schemes, with_query_in
+from checking.questions import question
 
 Row = Dict[str, Any]
 FRAGMENT = "\"<>`"  # percent-encoded in a fragment, in addition to controls, spaces and everything beyond ASCII
@@ -256,6 +257,11 @@ def last_of(url: str) -> str:
 def name_of(url: str) -> str:
     """The name of the file or folder at the end of a URL's path, after which there may be a slash."""
     return re.split("[?]", url)[0].removesuffix("/").rpartition("/")[2]
+
+
+def path_of(url: str) -> str:
+    """A URL without its query."""
+    return url.partition("?")[0]
 
 
 def in_lower_case(text: str) -> bytes:
@@ -748,7 +754,7 @@ class Model:
         ]
         files = sorted(Counter(row["file"] for row in places).items(), key=lambda row: (-row[1], row[0].encode()))
         unreached = list(self.unreached()) if self.settings.unreached else []
-        unlisted = list(self.unlisted()) if self.settings.sitemap else []
+        unlisted = [name for name in self.unlisted() if not matches_any(self.settings.ignores, name)] if self.settings.sitemap else []
         external = self.external() if self.settings.external else []
         counts = {"unreached": len(unreached)} if self.settings.unreached else {}
         counts.update({"unlisted": len(unlisted)} if self.settings.sitemap else {})
@@ -769,11 +775,12 @@ class Model:
         return [total, *base_hint, *broken, *invalid, *leaving, *worst, *redirects, *names, *external, *self.unused()]
 
     def base_hints(self, broken: List[Row]) -> Iterator[Row]:
-        """The hints at BASE, of which the first is reported: at a missing one, by paths from the root or by all links, and at one without its path."""
+        """The hints at BASE, of which the first is reported: by all links, by those to other URLs, and by paths from the root, at a folder or its URL."""
+        yield from self.host_hint(broken)
+        yield from self.other_hint()
         at_root = list(self.root_hint(broken))
         if self.settings.is_rooted():
             yield from at_root
-        yield from self.host_hint(broken)
         for hint in at_root:
             yield from self.url_hint(origin_of(self.site.base)[:-1] + hint["base"], self.link_urls())
 
@@ -792,17 +799,28 @@ class Model:
         lost = sum(row["kind"] == "place" and row["missing"] == "page" for row in broken)
         if 2 * max(sum(link.startswith(top) for link in links) - lost, 0) >= len(links):
             return
+        yield from self.folder_hints(links)
+
+    def other_hint(self) -> Iterator[Row]:
+        """The hint that BASE is missing or another one: most links to other URLs begin with one. It counts all links."""
+        links = self.link_urls()
+        others = [link for link in links if not link.startswith(str(self.site.base))]
+        for hint in self.folder_hints(others):
+            yield {**hint, "paths": sum(link.startswith(hint["base"]) for link in links), "of": len(links)}
+
+    def folder_hints(self, links: List[str]) -> Iterator[Row]:
+        """The hints at the URLs with which most of these links begin, from the shortest to the longest."""
         for count in SLASHES:
             folders = [found[0] for found in (re.match(f"(?:[^/]*/){{{count}}}", link) for link in links) if found]
             often = [folder for folder, times in Counter(folders).items() if 2 * times >= max(len(links), 4)]
             yield from self.url_hint(often[0], links) if often else ()
 
     def url_hint(self, url: str, links: List[str]) -> Iterator[Row]:
-        """The hint at a URL with which some links begin, unless it is the top or the folder does not have most of what is below it."""
+        """The hint at a URL with which some links begin, unless the top begins with it or the folder does not have most of the pages below it."""
         files, top = {page for page, _ in self.site.pages()}, str(self.site.base)
-        below = [link[len(url):] for link in links if link.startswith(url)]
-        if url != top and len(below) >= 2 and 2 * sum(top + rest in files for rest in below) >= len(below):
-            yield {"kind": "hint", "base": url, "paths": len(below), "of": len(links)}
+        below = [link[len(url):] for link in links if link.startswith(url) and link != url]
+        if not top.startswith(url) and len(below) >= 2 and 2 * sum(top + rest in files for rest in below) >= len(below):
+            yield {"kind": "hint", "base": url, "paths": sum(link.startswith(url) for link in links), "of": len(links)}
 
     def link_urls(self) -> List[str]:
         """The URLs, without queries, to which the links of each page lead, in the order of the pages. An alias has a link to its own URL."""
@@ -842,8 +860,16 @@ class Model:
                 folder = self.mapped.folder_of(url)
                 usual = "above_folder" if self.settings.is_rooted() else "outside_base"
                 shown = {"target": target, "reason": "not_in_map" if folder else usual}
-                yield {"kind": "leaving", **shown, "pages": len(linking[url]), **({"hint": folder} if folder else {})}
+                page = {"same_name": self.page_below(url)} if shown["reason"] == "outside_base" else {}
+                yield {"kind": "leaving", **shown, "pages": len(linking[url]), **page, **({"hint": folder} if folder else {})}
                 yield from self.place_rows({"kind": "leaving_place", **shown}, left)
+
+    def page_below(self, url: str) -> Optional[str]:
+        """The top if this URL lacks only its slash; otherwise the page that has the same path below the top as the URL has below the host."""
+        if path_of(url) + "/" == str(self.site.base):
+            return str(self.site.base)
+        page = str(self.site.base) + path_of(url)[len(origin_of(self.site.base)):]
+        return page if self.files.get(page) else None
 
     def shown_outside(self, url: str) -> str:
         """A URL that is not below the top as the report prints it: without BASE, as a path from the top."""
@@ -854,9 +880,11 @@ class Model:
         return "../" * (len(top) - shared) + "/".join(path[shared:])
 
     def place_rows(self, shown: Row, places: Located) -> Iterator[Row]:
-        """The rows of the locations of links to a target. The text of a link is there if it is not the target."""
+        """The rows of the locations of links to a target. The text of a link is there if it is not the target, and a question if one is asked."""
         for row in in_order(places):
-            yield {**shown, **row, "written": None if row["written"] in ("", shown["target"]) else row["written"]}
+            place = {**row, "written": None if row["written"] in ("", shown["target"]) else row["written"]}
+            asked = question(shown, place)
+            yield {**shown, **place, **({"question": asked} if asked else {})}
 
     def places(self, redirects: Iterable[str]) -> Dict[str, Located]:
         """The locations of links to each URL, and of links to those of these redirects that lead to it."""
@@ -946,10 +974,15 @@ class Model:
         return None if file is None else Namesake(self.settings.front + other, file)
 
     def namesake(self, url: str) -> Optional[Namesake]:
-        """The only page with the name of a URL or, if no page has that, the only one with it in another case."""
+        """The only page with the name of a URL or, if no page has that, the only one with it in another case.
+
+        If there are several, it is the only one whose path differs from that of the URL in nothing but case.
+        """
         name = name_of(self.shown(url))
         pages = self.namesakes.get(in_lower_case(name), []) if name else []
         found = [page for page in pages if name_of(page.url) == name] or pages
+        if len(found) > 1:
+            found = [page for page in pages if in_lower_case(path_of(page.url)) == in_lower_case(path_of(url))]
         return found[0] if len(found) == 1 else None
 
     def unreached(self) -> Iterator[str]:
@@ -990,8 +1023,9 @@ class Model:
         return [{"kind": "external", "url": url, "links": count} for url, count in sorted(urls.items(), key=lambda row: row[0].encode())]
 
     def unused(self) -> Iterator[Row]:
-        """The rows of ignore entries that match nothing. Those for some files match nothing that one for all files matches."""
+        """The rows of ignore entries that match nothing. Those for some files match nothing that one for all files matches, and no document that no sitemap lists."""
         broken = list(self.targets())
+        broken += [(name, {}) for name in self.unlisted()] if self.settings.sitemap else []
         left = [one for one in broken if not matches_any(self.settings.ignores, one[0])]
         for entry in self.settings.ignores:
             if not any(is_used(entry, target, places) for target, places in (broken if is_everywhere(entry) else left)):

@@ -7,6 +7,7 @@ from typing import Iterator, List, NamedTuple, Tuple
 from urllib.parse import unquote_to_bytes
 
 from checking.model import Row
+from checking.questions import question
 
 LISTED = 3  # the locations of a target that a report as text lists
 ESCAPES = re.compile("(?:%[0-9A-Fa-f]{2})+")
@@ -17,10 +18,6 @@ REASONS = {
     "above_folder": "leaves the folder", "outside_base": "outside BASE, on the same host", "not_in_map": "no such page in the mapped folder",
 }
 UNLISTED = "not in a sitemap"
-# By the beginning of a link to a missing page, what may be missing in it
-INCOMPLETE = {"http//": "a colon", "https//": "a colon", "www.": "https://"}
-SLASHLESS = re.compile(r"https?:(?![/\\]{2})", re.IGNORECASE)
-IN_MAIL = re.compile("[A-Za-z0-9+._-]+")  # what the name and the host of a mail address may consist of
 KINDS = ("broken", "invalid", "leaving")
 
 
@@ -113,26 +110,15 @@ def as_written(place: Row, name: str) -> str:
     return f" (written as {text})" if text is not None and not name.endswith(text) else ""
 
 
-def is_mail_address(text: str) -> bool:
-    """Whether a text is a mail address: a name and a host, which begins with a letter and has a dot."""
-    name, _, host = text.partition("@")
-    return all(map(IN_MAIL.fullmatch, (name, host))) and host[0].isalpha() and "." in host
-
-
-def question(row: Row, place: Row) -> str:
-    """What may be missing in a link to a missing page, or in one that is no URL, in brackets."""
-    text = row["target"] if place["written"] is None else place["written"]
-    if row.get("reason") == "not_url" and SLASHLESS.match(text):
-        return " (are slashes missing?)"
-    if row.get("missing") != "page":
-        return ""
-    found = [what for begin, what in INCOMPLETE.items() if text.startswith(begin)] + ["mailto:"] * is_mail_address(text)
-    return f" (is {found[0]} missing?)" if found else ""
+def asked(row: Row, place: Row) -> str:
+    """The question about a link, in brackets, or nothing."""
+    text = question(row, place)
+    return f" ({text})" if text else ""
 
 
 def line_of(row: Row, place: Row) -> str:
     """The line of a location in a report as text."""
-    return f"{place['file']}:{place['line']}:{place['column']}: {named(row)}: {message(row)}{as_written(place, named(row))}{question(row, place)}{advice(row)}"
+    return f"{place['file']}:{place['line']}:{place['column']}: {named(row)}: {message(row)}{as_written(place, named(row))}{asked(row, place)}{advice(row)}"
 
 
 def rest_text(count: int) -> str:
@@ -187,7 +173,7 @@ def list_line(row: Row) -> str:
 
 
 HEADINGS = {
-    "worst": "files with the most broken, invalid and leaving links:", "redirect": "links to redirects (not errors; --fix --dry-run shows where):", "unreached": "unreached files:", "unlisted": "documents that no sitemap lists:",
+    "worst": "files with the most broken, invalid and leaving links:", "redirect": "links to redirects (not errors; in documents, --fix --dry-run shows where):", "unreached": "unreached files:", "unlisted": "documents that no sitemap lists:",
     "external": "external links (not checked):", "unused": "unused --ignore entries:",
 }
 
@@ -229,7 +215,7 @@ def as_annotations(rows: List[Row], folder: str) -> str:
         begin, end = row["target"] + ": " + message(row), advice(row, True)
         for place in places:
             file = f" file={escaped(front + place['file'], True)},line={place['line']},col={place['column']}"
-            lines.append(f"::error{file}::{escaped(begin + as_written(place, row['target']) + question(row, place) + end, False)}\n")
+            lines.append(f"::error{file}::{escaped(begin + as_written(place, row['target']) + asked(row, place) + end, False)}\n")
         lines += [f"::error::{escaped(begin + end, False)}\n"] if not places else []
     lines += [f"::error::{escaped(row['name'], False)}: {message(row)}\n" for row in rows if row["kind"] == "unlisted"]
     return "".join(lines)

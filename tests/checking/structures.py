@@ -10,7 +10,7 @@ from urllib.parse import quote
 from xml.etree import ElementTree
 
 from checking.model import Row
-from checking.printing import advice, as_written, base_hint, in_order, message, named, place_order, question, shown, targets
+from checking.printing import advice, as_written, asked, base_hint, in_order, message, named, place_order, shown, targets
 
 # A URI reference by RFC 3986, as far as its characters show it
 PCHAR = r"(?:[A-Za-z0-9\-._~!$&'()*+,;=:@]|%[0-9A-Fa-f]{2})"
@@ -81,7 +81,7 @@ class Link(NamedTuple):
 
     def text(self) -> str:
         """What is wrong."""
-        notes = as_written(self.place, named(self.row)) + question(self.row, self.place) if self.place else ""
+        notes = as_written(self.place, named(self.row)) + asked(self.row, self.place) if self.place else ""
         return f"{named(self.row)}: {message(self.row)}{notes}{advice(self.row)}"
 
     def suite(self) -> str:

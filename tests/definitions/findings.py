@@ -187,9 +187,8 @@ class Check:
             "site_check.*.base_hint_of", self.settings.is_rooted(), files, crawled.own, report.broken)))
         if self.settings.unreached:
             yield Statement("unreached_of", lambda: equal(report.unreached, self.call("site_check.Unreached.unreached_of", self.front, files, crawled.reached)))
-        if self.settings.sitemap:
-            yield Statement("unlisted_of", lambda: equal(report.unlisted, self.call(
-                "site_check.Unlisted.unlisted_of", self.front, crawled.aliases, crawled.documents, crawled.listed)))
+        yield Statement("not_ignored", lambda: equal(report.unlisted, self.call("site_check.Ignored.not_ignored", self.entries, self.documents_in_no_sitemap())))
+        yield Statement("unused_by", lambda: equal(report.unused, self.call("site_check.Ignored.unused_by", self.documents_in_no_sitemap(), self.unused_by_rows())))
         if self.settings.external:
             yield Statement("AreExternal", self.external_error)
         yield Statement("AreReported", self.reported_error)
@@ -224,7 +223,7 @@ class Check:
         whole = self.whole()
         arguments = [
             self.front, self.entries, scope, crawled.places, self.settings.is_rooted(), names, self.files.value, crawled.own, crawled.found,
-            self.report.broken, self.report.unused,
+            self.report.broken, self.unused_by_rows(),
         ]
         failures = self.library.record_failures("site_check.Reported.AreReported", arguments, {
             "whole": whole,
@@ -300,6 +299,20 @@ class Check:
         ignores = tuple(filter(is_everywhere, self.settings.ignores))
         other = Model("", self.settings._replace(ignores=ignores), self.model.site)
         return broken_of(other.rows())
+
+    def documents_in_no_sitemap(self) -> Value:
+        """The documents that no sitemap lists, ignored or not, if they are reported."""
+        if not self.settings.sitemap:
+            return NIL
+        crawled = self.crawled
+        return self.call("site_check.Unlisted.unlisted_of", self.front, crawled.aliases, crawled.documents, crawled.listed)
+
+    def unused_by_rows(self) -> Value:
+        """The entries that match nothing but, perhaps, documents that no sitemap lists."""
+        if not self.settings.sitemap:
+            return self.report.unused
+        other = Model("", self.settings._replace(sitemap=False), self.model.site)
+        return listed(shown_text(row["name"]) for row in other.rows() if row["kind"] == "unused")
 
     def anchors(self) -> List[Value]:
         """The rows of the missing anchors as they are reported, without the list of what is ignored."""

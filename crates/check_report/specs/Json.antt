@@ -5,6 +5,7 @@ use Rattle.json.specs.Print.{print}
 use Rattle.json.specs.Tree.{json_tokens}
 use Rattle.check_report.specs.Rows as line
 use Rattle.check_report.specs.Rows.{Line}
+use Rattle.check_report.specs.Schemes.{scheme_note}
 use Rattle.check_report.specs.declared.row.Counts.{Counts}
 use Rattle.check_report.specs.declared.row.Section.{Section}
 use Rattle.check_report.specs.declared.row.Section.TheVariants as section
@@ -26,6 +27,11 @@ count_at key count rest = member key (number (decimal count)) rest
 abbrev pub count_if_at : List ℕ → Option ℕ → Members → Members
 count_if_at key None rest = rest
 count_if_at key (Some count) rest = count_at key count rest
+
+-- a text if it is not empty, otherwise nothing
+abbrev pub text_if_any_at : List ℕ → List ℕ → Members → Members
+text_if_any_at key [] rest = rest
+text_if_any_at key (first ∷ text) rest = text_at key (first ∷ text) rest
 
 -- a text, or `null` if there is none
 abbrev pub text_or_null : Option (List ℕ) → Json
@@ -70,6 +76,17 @@ has_hint Leaves = false
 has_hint OutsideBase = false
 has_hint NotInMap = true
 
+-- whether a page can be suggested for the target
+abbrev pub has_page : Kind → Bool
+has_page NoPage = true
+has_page NoAnchor = true
+has_page NotUrl = false
+has_page UnknownScheme = false
+has_page LocalFile = false
+has_page Leaves = false
+has_page OutsideBase = true
+has_page NotInMap = false
+
 -- the kind of the row of a target
 abbrev pub target_kind : Kind → List ℕ
 target_kind k = if is_missing k then codes "broken" else (if is_leaving k then codes "leaving" else codes "invalid")
@@ -94,17 +111,21 @@ wrong_word OutsideBase = codes "outside_base"
 wrong_word NotInMap = codes "not_in_map"
 
 -- the line and the column, and the link as it is written, or `null`
-abbrev pub place_counts : Place → Members
-place_counts p =
-    count_at (codes "line") p.line (count_at (codes "column") p.column (member (codes "written") (text_or_null (option_map string_bytes p.written)) no_members))
+abbrev pub place_counts : Place → Members → Members
+place_counts p rest =
+    count_at (codes "line") p.line (count_at (codes "column") p.column (member (codes "written") (text_or_null (option_map string_bytes p.written)) rest))
+
+-- the question about the link, if there is one
+abbrev pub question_at : Broken → Place → Members → Members
+question_at b p rest = text_if_any_at (codes "question") (scheme_note b p) rest
 
 -- the target and what is wrong
 abbrev pub target_at : Broken → Members → Members
 target_at b rest = text_at (codes "target") (string_bytes b.target) (text_at (wrong_key b.kind) (wrong_word b.kind) rest)
 
--- the page that is suggested, or `null`; nothing if neither a page nor an anchor is missing
+-- the page that is suggested, or `null`; nothing if none can be suggested for such a target
 abbrev pub same_name_at : Broken → Members → Members
-same_name_at b rest = if is_missing b.kind then member (codes "same_name") (text_or_null (option_map string_bytes b.same_name)) rest else rest
+same_name_at b rest = if has_page b.kind then member (codes "same_name") (text_or_null (option_map string_bytes b.same_name)) rest else rest
 
 -- the hint, or `null`; nothing if the kind of the target has none
 abbrev pub hint_at : Broken → Members → Members
@@ -149,7 +170,7 @@ members_of (line.finish of_section) = no_members
 members_of (line.broken b) =
     kind (target_kind b.kind) (target_at b (count_at (codes "pages") b.pages (same_name_at b (hint_at b no_members))))
 members_of (line.place b p) =
-    kind (place_kind b.kind) (target_at b (text_at (codes "file") (string_bytes p.file) (place_counts p)))
+    kind (place_kind b.kind) (target_at b (text_at (codes "file") (string_bytes p.file) (place_counts p (question_at b p no_members))))
 members_of (line.rest b count) = no_members
 members_of (line.more count) = kind (codes "more") (count_at (codes "places") count no_members)
 members_of (line.worst c) = kind (codes "worst") (text_at (codes "file") (string_bytes c.file) (count_at (codes "links") c.links no_members))

@@ -100,7 +100,7 @@ hint_paragraph h = codes "<p>" ++ base_hint escape.Html h ++ codes "</p>\n"
 abbrev pub section_start : Section → List ℕ
 section_start section.Broken = codes "<section id=broken aria-labelledby=h-broken>\n<h2 id=h-broken>Broken links</h2>\n<pre class=plain>\n"
 section_start section.Worst = codes "<section id=worst aria-labelledby=h-worst>\n<h2 id=h-worst>Files with the most broken, invalid and leaving links</h2>\n<pre>\n"
-section_start section.Redirects = codes "<section id=redirects aria-labelledby=h-redirects>\n<h2 id=h-redirects>Links to redirects (not errors; --fix --dry-run shows where)</h2>\n<pre>\n"
+section_start section.Redirects = codes "<section id=redirects aria-labelledby=h-redirects>\n<h2 id=h-redirects>Links to redirects (not errors; in documents, --fix --dry-run shows where)</h2>\n<pre>\n"
 section_start section.Unreached = codes "<section id=unreached aria-labelledby=h-unreached>\n<h2 id=h-unreached>Unreached files</h2>\n<pre>\n"
 section_start section.Unlisted = codes "<section id=unlisted aria-labelledby=h-unlisted>\n<h2 id=h-unlisted>Documents that no sitemap lists</h2>\n<pre>\n"
 section_start section.External = codes "<section id=external aria-labelledby=h-external>\n<h2 id=h-external>External links (not checked)</h2>\n<pre>\n"

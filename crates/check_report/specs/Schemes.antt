@@ -65,26 +65,26 @@ lacks_slashes link = nat_lt (position_or_len is_colon link) (length link) && is_
 abbrev pub lacks_colon : List ℕ → Bool
 lacks_colon link = starts_with nat_eq link (codes "http//") || starts_with nat_eq link (codes "https//")
 
--- the note about a link to a missing page, or an empty text
+-- the note about a link that may lack its slashes, or an empty text
+abbrev pub slashes_note : List ℕ → List ℕ
+slashes_note link = if lacks_slashes link then codes "are slashes missing?" else []
+
+-- likewise about a link to a missing page
 abbrev pub link_note : List ℕ → List ℕ
 link_note link =
-    if lacks_colon link then codes "(is a colon missing?)"
-    else (if starts_with nat_eq link (codes "www.") then codes "(is https:// missing?)" else (if is_mail_address link then codes "(is mailto: missing?)" else []))
+    if lacks_colon link then codes "is a colon missing?"
+    else (if starts_with nat_eq link (codes "www.") then codes "is https:// missing?" else (if is_mail_address link then codes "is mailto: missing?" else slashes_note link))
 
--- likewise about one that is no URL
-abbrev pub slashes_note : List ℕ → List ℕ
-slashes_note link = if lacks_slashes link then codes "(are slashes missing?)" else []
-
--- no other links have a note
+-- links to missing anchors, and those with an unknown or a local scheme, have none
 abbrev pub kind_note : Kind → List ℕ → List ℕ
 kind_note NoPage link = link_note link
 kind_note NoAnchor link = []
 kind_note NotUrl link = slashes_note link
 kind_note UnknownScheme link = []
 kind_note LocalFile link = []
-kind_note Leaves link = []
-kind_note OutsideBase link = []
-kind_note NotInMap link = []
+kind_note Leaves link = slashes_note link
+kind_note OutsideBase link = slashes_note link
+kind_note NotInMap link = slashes_note link
 
 -- a link as it is written: the target, unless they differ
 abbrev pub link_or : List ℕ → Option (List ℕ) → List ℕ

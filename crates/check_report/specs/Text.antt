@@ -76,7 +76,7 @@ written_text how word b (Some link) = if ends_with_link how b link then [] else 
 
 -- a blank and a note; nothing if the note is empty
 abbrev pub noted : List ℕ → List ℕ → List ℕ
-noted blank note = if length note == 0 then [] else blank ++ note
+noted blank note = if length note == 0 then [] else blank ++ codes "(" ++ note ++ codes ")"
 
 abbrev pub redirect_target : Escape → Option (List ℕ) → List ℕ
 redirect_target how None = codes "-"
@@ -155,7 +155,7 @@ total_text colour t c = site_total t c ++ broken_total colour t
 abbrev pub title : Section → List ℕ
 title section.Broken = []
 title section.Worst = codes "files with the most broken, invalid and leaving links:\n"
-title section.Redirects = codes "links to redirects (not errors; --fix --dry-run shows where):\n"
+title section.Redirects = codes "links to redirects (not errors; in documents, --fix --dry-run shows where):\n"
 title section.Unreached = codes "unreached files:\n"
 title section.Unlisted = codes "documents that no sitemap lists:\n"
 title section.External = codes "external links (not checked):\n"

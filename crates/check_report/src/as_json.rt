@@ -1,12 +1,13 @@
 //! Prints a row as a JSON object.
 ghost use Rattle.std.specs.Prelude.{◌≡◌, ◌++◌, OnOk};
-ghost use Rattle.check_report.specs.Json.{has_hint, is_leaving, is_missing, json_line, members_of, object_line, place_kind, row_kind, target_kind, wrong_key, wrong_word};
+ghost use Rattle.check_report.specs.Json.{has_hint, has_page, is_leaving, is_missing, json_line, members_of, object_line, place_kind, row_kind, target_kind, wrong_key, wrong_word};
 ghost use Rattle.check_report.specs.Rows as line;
 ghost use Rattle.check_report.specs.Rows.{line_of};
 
 use crate::member::{Member, put_object};
 use crate::put::NoMemory;
 use crate::row::{Counts, Row, Section};
+use crate::schemes::scheme_note;
 use crate::value::{BaseHint, Broken, External, FileCount, Kind, Place, Redirect, Totals};
 
 /// Appends the row as an object without spaces and LF, if the row has an object. The start and the end of a section, the number of other
@@ -86,14 +87,14 @@ fn put_broken(out: &mut Vec<u8>, broken: &Broken) -> Result<(), NoMemory>
             Member::Text("target", broken.target.as_str()),
             Member::Text(wrong_key(kind), wrong_word(kind)),
             Member::Count("pages", broken.pages),
-            Member::TextOrNullIf(is_missing(kind), "same_name", &broken.same_name),
+            Member::TextOrNullIf(has_page(kind), "same_name", &broken.same_name),
             Member::TextOrNullIf(has_hint(kind), "hint", &broken.hint),
         ],
     )
 }
 
-/// Appends the object of the location of a link: the target, what is wrong, the file, the line, the column, and the link as it is
-/// written, null if that is its target.
+/// Appends the object of the location of a link: the target, what is wrong, the file, the line, the column, the link as it is written,
+/// null if that is its target, and the question about the link, if there is one.
 fn put_place<'r>(out: &mut Vec<u8>, broken: &'r Broken, place: &'r Place) -> Result<(), NoMemory>
     ensures { OnOk result (out.new.items ≡ out.old.items ++ object_line (members_of (line.place broken.now place.now))) }
 {
@@ -108,6 +109,7 @@ fn put_place<'r>(out: &mut Vec<u8>, broken: &'r Broken, place: &'r Place) -> Res
             Member::Count("line", place.line),
             Member::Count("column", place.column),
             Member::TextOrNull("written", &place.written),
+            Member::TextIfAny("question", scheme_note(broken, place)),
         ],
     )
 }
@@ -208,6 +210,17 @@ fn is_missing(kind: Kind) -> bool
         | Kind::Leaves
         | Kind::OutsideBase
         | Kind::NotInMap => false,
+    }
+}
+
+/// Whether a page can be suggested for a target.
+fn has_page(kind: Kind) -> bool
+    ensures { result ≡ has_page kind }
+{
+    match kind {
+        Kind::NoPage | Kind::NoAnchor | Kind::OutsideBase => true,
+        Kind::NotUrl | Kind::UnknownScheme | Kind::LocalFile | Kind::Leaves | Kind::NotInMap =>
+            false,
     }
 }
 

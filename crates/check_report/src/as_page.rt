@@ -98,7 +98,7 @@ fn section_start(section: Section) -> &'static str
         Section::Worst =>
             "<section id=worst aria-labelledby=h-worst>\n<h2 id=h-worst>Files with the most broken, invalid and leaving links</h2>\n<pre>\n",
         Section::Redirects =>
-            "<section id=redirects aria-labelledby=h-redirects>\n<h2 id=h-redirects>Links to redirects (not errors; --fix --dry-run shows where)</h2>\n<pre>\n",
+            "<section id=redirects aria-labelledby=h-redirects>\n<h2 id=h-redirects>Links to redirects (not errors; in documents, --fix --dry-run shows where)</h2>\n<pre>\n",
         Section::Unreached =>
             "<section id=unreached aria-labelledby=h-unreached>\n<h2 id=h-unreached>Unreached files</h2>\n<pre>\n",
         Section::Unlisted =>

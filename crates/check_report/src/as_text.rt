@@ -134,7 +134,8 @@ fn title(section: Section) -> &'static str
     match section {
         Section::Broken => "",
         Section::Worst => "files with the most broken, invalid and leaving links:\n",
-        Section::Redirects => "links to redirects (not errors; --fix --dry-run shows where):\n",
+        Section::Redirects =>
+            "links to redirects (not errors; in documents, --fix --dry-run shows where):\n",
         Section::Unreached => "unreached files:\n",
         Section::Unlisted => "documents that no sitemap lists:\n",
         Section::External => "external links (not checked):\n",

@@ -5,7 +5,7 @@ ghost use Rattle.json.specs.Print.{print};
 ghost use Rattle.json.specs.Token.{key, number, string};
 ghost use Rattle.json.specs.Tree.{json_tokens};
 ghost use Rattle.check_report.specs.Json.{object_line, text_or_null};
-ghost use Rattle.check_report.specs.Objects.{count_tokens, member_tokens, members_from};
+ghost use Rattle.check_report.specs.Objects.{count_tokens, member_tokens, members_from, text_tokens};
 
 use crate::put::{NoMemory, put};
 use json::Writer;
@@ -20,6 +20,8 @@ pub enum Member<'a> {
     TextOrNull(&'static str, &'a Option<String>),
     /// A string, or null if there is no text. The object has this member only if the condition holds.
     TextOrNullIf(bool, &'static str, &'a Option<String>),
+    /// A string. The object has this member only if the text is not empty.
+    TextIfAny(&'static str, &'static str),
     /// A number.
     Count(&'static str, u64),
     /// A number. The object has this member only if there is a count.
@@ -70,6 +72,7 @@ fn put_member(out: &mut Writer, member: Member<'_>) -> Result<(), NoMemory>
         Member::TextOrNullIf(is_there, name, text) => put_text_or_null_if(
             out, is_there, name, text,
         ),
+        Member::TextIfAny(name, text) => put_text_if_any(out, name, text),
         Member::Count(name, count) => put_count(out, name, count),
         Member::CountIf(name, count) => put_count_if(out, name, count),
     }
@@ -110,6 +113,18 @@ fn put_text_or_null_if(
         put_text_or_null(out, name, text)
     } else {
         Ok(())
+    }
+}
+
+/// Writes a member whose value is a string, or nothing if that is empty.
+fn put_text_if_any(out: &mut Writer, name: &str, text: &str) -> Result<(), NoMemory>
+    ensures tokens { OnOk result (out.new.tokens ≡ out.old.tokens ++ text_tokens name.now text.now) }
+    ensures before { out.new.before ≡ out.old.before }
+{
+    if text.is_empty() {
+        Ok(())
+    } else {
+        put_text(out, name, text)
     }
 }
 

@@ -99,15 +99,14 @@ fn push_link(alloc: Global, text: &mut String, broken: &Broken, link: &str) -> R
     }
 }
 
-/// Appends a space and a note, or nothing if the note is empty.
+/// Appends a space and a note in parentheses, or nothing if the note is empty.
 fn push_note(text: &mut String, note: &str) -> Result<(), NoMemory>
     ensures { OnOk result (string_bytes text.new ≡ string_bytes text.old ++ noted (codes " ") note.now) }
 {
     if note.is_empty() {
         return Ok(());
     }
-    text.push_str(" ")?;
-    text.push_str(note)
+    push_around(text, " (", note, ")")
 }
 
 /// Appends the page that is suggested, and the hint.

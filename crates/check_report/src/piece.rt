@@ -46,7 +46,7 @@ pub enum Piece<'a> {
     /// A fixed text with an opening parenthesis, the link to a target as it is written, and a closing parenthesis; nothing if the link
     /// is not known, or if the name of the target ends with it. Text and name are for the position.
     Written(Escape, &'static str, &'a Broken, &'a Option<String>),
-    /// A blank and a note; nothing if the note is empty.
+    /// A blank and a note in parentheses; nothing if the note is empty.
     Note(&'static str, &'static str),
     /// An item of the HTML page's list of counts: the HTML before the count, and the count.
     Item(&'static str, u64),

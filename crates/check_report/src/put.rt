@@ -74,7 +74,7 @@ pub fn push_around(
     text.push_str(after)
 }
 
-/// Appends a blank and a note, or nothing if the note is empty.
+/// Appends a blank and a note in parentheses, or nothing if the note is empty.
 pub fn put_note(out: &mut Vec<u8>, blank: &str, note: &str) -> Result<(), NoMemory>
     ensures { OnOk result (out.new.items ≡ out.old.items ++ noted blank.now note.now) }
 {
@@ -82,7 +82,9 @@ pub fn put_note(out: &mut Vec<u8>, blank: &str, note: &str) -> Result<(), NoMemo
         return Ok(());
     }
     put(out, blank)?;
-    put(out, note)
+    put(out, "(")?;
+    put(out, note)?;
+    put(out, ")")
 }
 
 /// Appends an escape code if the report has colour.

@@ -1,12 +1,12 @@
-//! What a link seems to lack: one to a missing page a scheme, or the colon of one, and an invalid one its slashes.
+//! What a link seems to lack: a scheme, the colon of one, or the slashes after it.
 ghost use Rattle.std.specs.Prelude.{◌≡◌};
 ghost use Rattle.std.specs.List.{list_all, list_any};
 ghost use Rattle.check_report.specs.Schemes.{are_mail, begins_with_letter, has_dot, is_letter, is_mail_address, is_mail_byte, is_mail_text, is_slash, is_web, kind_note, lacks_colon, lacks_slashes, link_note, names_host, scheme_note, slashes_note};
 
 use crate::value::{Broken, Kind, Place};
 
-/// A question about the link at a location, if it leads to a missing page and seems to lack a scheme, or the colon of one, or if it is
-/// invalid and lacks its slashes; otherwise an empty text.
+/// A question about the link at a location, if it leads to a missing page and seems to lack a scheme, or the colon of one, or if it lacks
+/// its slashes and leads to no page of the site or is invalid; otherwise an empty text.
 pub fn scheme_note(broken: &Broken, place: &Place) -> &'static str
     ensures { result.now ≡ scheme_note broken.now place.now }
 {
@@ -16,19 +16,14 @@ pub fn scheme_note(broken: &Broken, place: &Place) -> &'static str
     }
 }
 
-/// The question about a link to a target of this kind. Only links to missing pages, and those that are no URL, have one.
+/// The question about a link to a target of this kind. Links to missing anchors, and those with an unknown or a local scheme, have none.
 fn kind_note(kind: Kind, link: &str) -> &'static str
     ensures { result.now ≡ kind_note kind link.now }
 {
     match kind {
         Kind::NoPage => link_note(link),
-        Kind::NotUrl => slashes_note(link),
-        Kind::NoAnchor
-        | Kind::UnknownScheme
-        | Kind::LocalFile
-        | Kind::Leaves
-        | Kind::OutsideBase
-        | Kind::NotInMap => "",
+        Kind::NotUrl | Kind::Leaves | Kind::OutsideBase | Kind::NotInMap => slashes_note(link),
+        Kind::NoAnchor | Kind::UnknownScheme | Kind::LocalFile => "",
     }
 }
 
@@ -37,13 +32,13 @@ fn link_note(link: &str) -> &'static str
     ensures { result.now ≡ link_note link.now }
 {
     if lacks_colon(link) {
-        "(is a colon missing?)"
+        "is a colon missing?"
     } else if link.as_bytes().starts_with(b"www.") {
-        "(is https:// missing?)"
+        "is https:// missing?"
     } else if is_mail_address(link) {
-        "(is mailto: missing?)"
+        "is mailto: missing?"
     } else {
-        ""
+        slashes_note(link)
     }
 }
 
@@ -54,12 +49,12 @@ fn lacks_colon(link: &str) -> bool
     link.as_bytes().starts_with(b"http//") || link.as_bytes().starts_with(b"https//")
 }
 
-/// The question about an invalid link, by its text.
+/// The question about a link that may lack its slashes, by its text.
 fn slashes_note(link: &str) -> &'static str
     ensures { result.now ≡ slashes_note link.now }
 {
     if lacks_slashes(link) {
-        "(are slashes missing?)"
+        "are slashes missing?"
     } else {
         ""
     }

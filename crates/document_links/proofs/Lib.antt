@@ -4,6 +4,8 @@ pub mod Feeding
 pub mod Fitting
 pub mod Fragments
 pub mod Keeping
+pub mod Leading
+pub mod Locating
 pub mod Marking
 pub mod Numbering
 pub mod Occurrences

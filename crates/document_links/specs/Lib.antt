@@ -5,6 +5,7 @@ pub mod Encoding
 pub mod Feeds
 pub mod Keeping
 pub mod KeptAnchors
+pub mod LinkUrls
 pub mod Markup
 pub mod Places
 pub mod Prescan

@@ -1,6 +1,8 @@
 //! Reads files without a `base`: style sheets, feeds and lists of URLs.
-ghost use Rattle.std.specs.Prelude.{◌≡◌, ◌++◌, true, IfOk, IsAscii, OnOk};
+ghost use Rattle.std.specs.Prelude.{◌≡◌, ◌++◌, true, IfOk, IsAscii, None, OnOk};
 ghost use Rattle.html_links.specs.Links.{needed_texts};
+ghost use Rattle.html_links.specs.Reads.{base_at};
+ghost use Rattle.document_links.specs.LinkUrls.{HasNoBase};
 ghost use Rattle.document_links.specs.Places.{Positions};
 ghost use Rattle.document_links.specs.Encoding.{HasFeed, HasFile, HasFileLinks, HasFileTexts, HasSheet, HasUrlList, is_known, links_in};
 ghost use Rattle.document_links.specs.Places.{keeps_ascii};
@@ -167,29 +169,26 @@ fn links_in_text(
     Ok(Document::written(&mut writer))
 }
 
-/// Finds the known links in a text in UTF-8, to which a file of this kind was converted from its encoding. If only a number of links
-/// is needed, those after them may be missing. `text_places` finds the same links.
+/// Finds the known links in a text in UTF-8, to which a file of this kind was converted from its encoding. Returns its base, if that is
+/// known. If only a number of links is needed, the base and the links after them may be missing. `text_places` finds the same links.
 pub(crate) fn find_links(
     alloc: Global,
     text: &[u8],
     reading: Reading,
     needed: Option<usize>,
     raw: &mut RawLinks,
-) -> Result<(), AllocError>
+) -> Result<Base, AllocError>
     ensures texts { is_known reading.charset ≡ true → OnOk result (needed_texts needed raw.new.texts ≡ needed_texts needed (raw.old.texts ++ links_in reading.kind text.now)) }
     ensures positions { is_known reading.charset ≡ true → OnOk result (Positions reading.kind needed text.now raw.old.positions.items raw.new.positions.items) }
+    ensures base { needed ≡ None → is_known reading.charset ≡ true → HasNoBase reading.kind text.now → IfOk result (λ base. base_at base ≡ None) }
 {
     match reading.charset {
         // All links are read, since the unknown ones do not count.
         Charset::Other => {
             let base = push_links(alloc, text, reading.kind, None, raw)?;
-            keep_known(base, raw)?;
-            Ok(())
+            keep_known(base, raw)
         }
-        _ => {
-            push_links(alloc, text, reading.kind, needed, raw)?;
-            Ok(())
-        }
+        _ => push_links(alloc, text, reading.kind, needed, raw),
     }
 }
 
@@ -204,6 +203,7 @@ fn push_links(
 ) -> Result<Base, AllocError>
     ensures texts { OnOk result (needed_texts needed raw.new.texts ≡ needed_texts needed (raw.old.texts ++ links_in kind text.now)) }
     ensures positions { OnOk result (Positions kind needed text.now raw.old.positions.items raw.new.positions.items) }
+    ensures base { needed ≡ None → HasNoBase kind text.now → IfOk result (λ base. base_at base ≡ None) }
 {
     match kind {
         TextKind::Document { syntax, styles } => {

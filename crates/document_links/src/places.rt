@@ -62,7 +62,7 @@ fn places_in(
 }
 
 /// The number of links up to the last of those with these indices, or `None` if it does not fit in a `usize`.
-fn needed_count(indices: &[usize]) -> Option<usize>
+pub(crate) fn needed_count(indices: &[usize]) -> Option<usize>
     ensures { All (IsAmong result) indices.now }
 {
     let mut last: usize = 0;
@@ -73,7 +73,7 @@ fn needed_count(indices: &[usize]) -> Option<usize>
 }
 
 /// The locations of these links of a text.
-fn places_of(
+pub(crate) fn places_of(
     alloc: Global,
     text: &[u8],
     raw: &RawLinks,

@@ -33,6 +33,39 @@ pub struct DocumentFix {
     pub moved: usize,
     /// The number of links for which there is a move, and that still lead to the same URL as before.
     pub left: usize,
+    /// The first of these links, by its location in the document.
+    pub first_left: Option<LeftLink>,
+}
+
+/// The location of a link for which there is a move, and why it was not rewritten.
+#[derive(Clone, Copy)]
+pub struct LeftLink {
+    pub line: u64,
+    pub column: u64,
+    pub reason: LeftReason,
+}
+
+/// Why a link was not rewritten.
+#[derive(Clone, Copy)]
+pub enum LeftReason {
+    /// The document is not in UTF-8, or begins with a byte order mark.
+    Encoding,
+    /// The document does not have the link literally at its position, or another link at this position was rewritten.
+    Written,
+    /// It has no path, or its new text would need escapes or lead elsewhere.
+    NewText,
+    /// Another link of the document would lead elsewhere, or a text that is no link would change.
+    OtherChanges,
+}
+
+/// The edits of a document, and the links without one.
+#[derive(Drop)]
+struct Edits {
+    edits: Vec<Edit>,
+    /// The first link in the document without an edit.
+    left: Option<LeftLink>,
+    /// The first link in the document with or without one, which stays if no link is rewritten.
+    first: Option<LeftLink>,
 }
 
 /// A link for which there is a move.
@@ -91,30 +124,32 @@ fn fix_links(
     ensures { IfOk result (λ fix. IfSome fix.new (λ new. IsFixed input.entry body.now new.items)) }
 {
     let leads = leads_in(alloc, base, old, input.moves)?;
-    let edits = edits_of(alloc, body, input, base, leads.as_slice())?;
+    let Edits { edits, left, first } = edits_of(alloc, body, input, base, leads.as_slice())?;
     if edits.is_empty() {
-        return Ok(unchanged(leads.len()));
+        return Ok(unchanged(leads.len(), first));
     }
     let new = fixed(alloc, body, edits.as_slice())?;
     match left_in(alloc, new.as_slice(), input, base, old, room)? {
         // An edit that moved no link changed something else.
-        Some(left) if left.saturating_add(edits.len()) == leads.len() => Ok(DocumentFix {
+        Some(count) if count.saturating_add(edits.len()) == leads.len() => Ok(DocumentFix {
             new: Some(new),
             moved: edits.len(),
-            left,
+            left: count,
+            first_left: left,
         }),
-        _ => Ok(unchanged(leads.len())),
+        _ => Ok(unchanged(leads.len(), first)),
     }
 }
 
-/// A document that stays as it is, with this number of links that are moved.
-fn unchanged(left: usize) -> DocumentFix
+/// A document that stays as it is, with this number of links that are moved, of which this is the first.
+fn unchanged(left: usize, first_left: Option<LeftLink>) -> DocumentFix
     ensures { result.new ≡ None }
 {
     DocumentFix {
         new: None,
         moved: 0,
         left,
+        first_left,
     }
 }
 
@@ -187,28 +222,69 @@ fn push_lead<'a>(
     Ok(())
 }
 
-/// The edits that rewrite these links of a document. There are none if its text is not its bytes.
+/// The edits that rewrite these links of a document, and the first link without one. There are no edits if its text is not its bytes.
 fn edits_of(
     alloc: Global,
     body: &[u8],
     input: FixInput<'_>,
     base: &Base,
     leads: &[Lead<'_>],
-) -> Result<Vec<Edit>, AllocError> {
-    let mut edits = Vec::new(alloc);
-    if leads.is_empty() || !is_text(body) {
-        return Ok(edits);
+) -> Result<Edits, AllocError> {
+    let mut found = Edits {
+        edits: Vec::new(alloc),
+        left: None,
+        first: None,
+    };
+    if leads.is_empty() {
+        return Ok(found);
     }
+    let is_text = is_text(body);
     let places = places_of(alloc, body, input.options, leads)?;
     let page = LinkPage {
         base,
         root: input.options.root,
     };
     for (lead, place) in leads.iter().zip(places) {
-        push_edit_at(alloc, body, page, &place, lead.step, &mut edits)?;
+        let reason = if is_text {
+            push_edit_at(alloc, body, page, &place, lead.step, &mut found.edits)?
+        } else {
+            Some(LeftReason::Encoding)
+        };
+        note_link(&mut found, &place, reason);
     }
-    in_order(&mut edits)?;
-    Ok(edits)
+    in_order(&mut found.edits)?;
+    Ok(found)
+}
+
+/// Notes a link at a place, which has an edit or, for a reason, none.
+fn note_link(found: &mut Edits, place: &TextPlace, reason: Option<LeftReason>) {
+    let link = left_at(place, reason.unwrap_or(LeftReason::OtherChanges));
+    found.first = Some(earlier(found.first, link));
+    if reason.is_some() {
+        found.left = Some(earlier(found.left, link));
+    }
+}
+
+/// The one of two links that is first in the document. The attributes of a tag are not read in their order.
+fn earlier(noted: Option<LeftLink>, link: LeftLink) -> LeftLink {
+    match noted {
+        Some(noted) if !is_before(link, noted) => noted,
+        _ => link,
+    }
+}
+
+/// Whether a link is before another one in the document.
+fn is_before(link: LeftLink, other: LeftLink) -> bool {
+    link.line < other.line || link.line == other.line && link.column < other.column
+}
+
+/// The link at a place, which stays as it is for this reason.
+fn left_at(place: &TextPlace, reason: LeftReason) -> LeftLink {
+    LeftLink {
+        line: place.line,
+        column: place.column,
+        reason,
+    }
 }
 
 /// The locations of these links.
@@ -247,7 +323,8 @@ fn indices_of(alloc: Global, leads: &[Lead<'_>]) -> Result<Vec<usize>, AllocErro
     leads.iter().map(|lead| lead.index).collect(alloc)
 }
 
-/// Appends the edit that rewrites the link at a place, if the text has the link there as it is written, and if the link has a new text.
+/// Appends the edit that rewrites the link at a place, or returns why there is none: the text does not have the link there as it is
+/// written, or the last edit is there, or the link has no new text.
 fn push_edit_at(
     alloc: Global,
     text: &[u8],
@@ -255,22 +332,33 @@ fn push_edit_at(
     place: &TextPlace,
     step: &Move,
     edits: &mut Vec<Edit>,
-) -> Result<(), AllocError> {
+) -> Result<Option<LeftReason>, AllocError> {
     let written = place.written.as_str();
     let Some(start) = position_of(text, place.line, place.column) else {
-        return Ok(());
+        return Ok(Some(LeftReason::Written));
     };
-    if !has_at(text, start, written.as_bytes()) {
-        return Ok(());
+    if !has_at(text, start, written.as_bytes()) || is_in_last(edits.as_slice(), start) {
+        return Ok(Some(LeftReason::Written));
     }
-    if let Some(new) = new_link(alloc, page, written, step)? {
-        edits.push(Edit {
-            start,
-            end: start.saturating_add(written.len()),
-            text: new,
-        })?;
+    match new_link(alloc, page, written, step)? {
+        Some(new) => {
+            edits.push(Edit {
+                start,
+                end: start.saturating_add(written.len()),
+                text: new,
+            })?;
+            Ok(None)
+        }
+        None => Ok(Some(LeftReason::NewText)),
     }
-    Ok(())
+}
+
+/// Whether a position is in the last edit.
+fn is_in_last(edits: &[Edit], position: usize) -> bool {
+    match edits.last() {
+        Some(edit) => edit.start <= position && position < edit.end,
+        None => false,
+    }
 }
 
 /// Whether a text has these bytes at a position.

@@ -11,6 +11,6 @@ mod new_link;
 mod relative;
 
 pub use diff::push_diff;
-pub use document::{DocumentFix, FixInput, fix_document};
+pub use document::{DocumentFix, FixInput, LeftLink, LeftReason, fix_document};
 pub use edits::{Edit, fixed};
 pub use moves::{Move, adds_slash};

@@ -115,6 +115,7 @@ site_text file unsited.NoDocuments = file ++ codes ": no HTML documents (if a ge
 site_text file unsited.TooLarge = file ++ codes ": more than 1073741824 bytes of links"
 site_text file unsited.PagesLost = file ++ codes ": a page was lost; please report this bug"
 site_text file unsited.FileUnread = file ++ codes ": a file changed while it was checked"
+site_text file unsited.FileChanged = file ++ codes ": a link in a file changed while it was checked"
 site_text file unsited.LinkLost = file ++ codes ": a link was lost; please report this bug"
 site_text file (unsited.Crawl failure) = crawl_text failure.error
 site_text file unsited.NoMemory = codes "out of memory"

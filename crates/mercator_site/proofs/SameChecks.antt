@@ -69,7 +69,7 @@ module _ (files : SiteFiles) (reads : ℕ → Option (List ℕ) → Type 0) (nam
   rows_of its verdict printed one none =
       let results = one.findings.results in
       let checked = one.findings.checked in
-      (reported_all asks.front asks.entries asks.scope results.places asks.rooted (names_of asks.folders) files one.own (unmapped asks.folders one.pages) checked.broken.items (map string_bytes checked.unused_ignores.items) none results.rows).pages
+      (reported_all asks.front asks.entries asks.scope results.places asks.rooted (names_of asks.folders) files one.own (unmapped asks.folders one.pages) checked.broken.items results.unused none results.rows).pages
 
   pub same_pages : list_any names_file asks.entries ≡ false → (one : IsCheck files reads name top web aliases asks broken text) (other : IsCheck files reads name top web others asks fails report) →
       rows_in one.findings.checked.broken.items ≡ rows_in other.findings.checked.broken.items

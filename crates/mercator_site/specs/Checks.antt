@@ -1,5 +1,5 @@
 -- The report of a check of a folder's links.
-use Rattle.std.specs.Prelude.{◌≡◌, ◌==◌, ℕ, Bool, true, false, not, ◌&&◌, ◌||◌, List, [], ◌∷◌, ◌++◌, length, map, String, Vec, string_bytes, Option, Some, None, ⊤, All, option_map}
+use Rattle.std.specs.Prelude.{◌≡◌, ◌==◌, ℕ, Bool, true, false, not, ◌&&◌, ◌||◌, List, [], ◌∷◌, ◌++◌, length, map, String, Vec, string_bytes, Option, Some, None, is_some, ⊤, All, option_map}
 use Rattle.std.specs.Str.Lines.{lines}
 use Rattle.std.specs.declared.alloc.Global.{Global}
 use Rattle.check_report.specs.Printing.{printed_text, printed_json, printed_annotations, printed_page, printed_junit, printed_sarif}
@@ -32,16 +32,19 @@ use Rattle.site_files.specs.declared.rules.Rules.{Rules}
 use Rattle.site_files.specs.Below.{IsTop}
 use Rattle.saved_site.specs.Below.{IsWebBelow}
 use Rattle.saved_site.specs.Meaning.{IsSiteWeb}
+use Rattle.saved_site.specs.declared.web.LinkedSite.{LinkedSite}
 use Rattle.site_check.specs.Base.{hint_at}
 use Rattle.site_check.specs.Broken.{redirects_of}
 use Rattle.site_check.specs.Complete.{AreOnce, HasAllLinks}
 use Rattle.site_files.specs.declared.files.SiteFiles.{SiteFiles}
 use Rattle.site_files.specs.declared.alias.Alias.{Alias}
 use Rattle.site_check.specs.LinkBase.{base_hint_of}
+use Rattle.site_check.specs.Ignored.{not_ignored, unused_by}
 use Rattle.site_check.specs.Locations.{IsLocated}
 use Rattle.site_check.specs.Reported.{AreReported}
 use Rattle.site_check.specs.RowMeanings.{way_of}
 use Rattle.site_check.specs.Totals.{totals_of}
+use Rattle.site_check.specs.Unlisted.{unlisted_of}
 use Rattle.site_check.specs.Unreached.{unreached_of}
 use Rattle.site_check.specs.Worst.{file_links, worst_of}
 use Rattle.site_check.specs.declared.check.Checked.{Checked}
@@ -83,6 +86,16 @@ abbrev pub unreached_by : List ℕ → SiteFiles → Option (List PageResult) �
 unreached_by front site None = []
 unreached_by front site (Some results) = unreached_of front site results
 
+-- the URLs that sitemaps list, if the documents that none lists are reported
+abbrev pub listed_in : LinkedSite → Bool → Option (List (List ℕ))
+listed_in site true = Some site.listed.items
+listed_in site false = None
+
+-- the documents that none of these URLs lists, as they are reported; none if they are not reported
+abbrev pub unlisted_by : List ℕ → List Alias → List (List ℕ) → Option (List (List ℕ)) → List (List ℕ)
+unlisted_by front aliases documents None = []
+unlisted_by front aliases documents (Some listed) = unlisted_of front aliases documents listed
+
 -- these are the rows of the pages' links to other hosts than the one with this root, if they are listed
 abbrev pub AreOthersListed : Bool → List ℕ → List PageResult → Option (List Row) → Type 0
 AreOthersListed true root pages (Some rows) = AreExternal root pages rows
@@ -97,9 +110,10 @@ other_rows contents = option_map (λ urls. map row_of urls.now) contents.externa
 -- the results of a check of a site are those of a crawl: in `own`, the results of the site's own URLs, the missing pages and the redirects,
 -- each with the number of pages that link to it, and the invalid links, if they are reported; in `pages`, all results, the missing pages on
 -- the site's host that are not below the top and that no folder of a map has; in `reached`, what a search finds, the files that it does not
--- reach; the entries that match nothing; the files with the most broken links; and the hint at BASE. The totals count the pages at the own
--- URLs of files, those of some documents apart, their links, the pages at these aliases, and the rows. By the totals something is broken if
--- there is a row: of a missing page or anchor, of an invalid link, or of a link that leads out of the site
+-- reach; the documents that no sitemap lists, without those that an entry matches; the entries that match nothing; the files with the most
+-- broken links; and the hint at BASE. The totals count the pages at the own URLs of files, those of some documents apart, their links, the
+-- pages at these aliases, and the rows. By the totals something is broken if there is a row: of a missing page or anchor, of an invalid
+-- link, or of a link that leads out of the site
 pub record AreResults (site : SiteFiles) (reads : ℕ → Option (List ℕ) → Type 0) (own pages : List PageResult) (reached : Option (List PageResult)) (aliases : List Alias) (asks : Asks) (checked : Checked) : Type 0 where
   pub ways : map way_of checked.redirects.items ≡ redirects_of asks.front own
   -- the own URLs of documents
@@ -107,7 +121,15 @@ pub record AreResults (site : SiteFiles) (reads : ℕ → Option (List ℕ) → 
   pub totals : checked.totals ≡ totals_of aliases documents own checked.broken.items checked.redirects.items
   -- what is known of the links of these pages
   pub places : List LinkPlaces
-  pub rows : AreReported asks.front asks.entries asks.scope places asks.rooted (names_of asks.folders) site own (unmapped asks.folders pages) checked.broken.items (map string_bytes checked.unused_ignores.items)
+  -- the entries that match nothing of the rows
+  pub unused : List (List ℕ)
+  pub rows : AreReported asks.front asks.entries asks.scope places asks.rooted (names_of asks.folders) site own (unmapped asks.folders pages) checked.broken.items unused
+  -- the URLs that sitemaps list, if the documents that none lists are reported
+  pub sitemaps : Option (List (List ℕ))
+  pub are_reported : is_some sitemaps ≡ asks.report.lists.unlisted
+  -- these documents without those that an entry matches, and the entries that match none of them either
+  pub unlisted : map string_bytes checked.unlisted.items ≡ not_ignored asks.entries (unlisted_by asks.front aliases documents sitemaps)
+  pub unused_left : map string_bytes checked.unused_ignores.items ≡ unused_by (unlisted_by asks.front aliases documents sitemaps) unused
   pub located : All (IsLocated asks.front places site own reads) checked.broken.items
   -- no link to a missing page is left out, if each URL is that of one result
   pub complete : AreOnce own → HasAllLinks asks.front asks.entries aliases places site own reads checked.broken.items

@@ -37,6 +37,7 @@ of_list error = wrong.List error
 -- the error for each error of the test of the results
 abbrev pub of_check : CheckError → FolderError
 of_check unchecked.FileUnread = wrong.FileUnread
+of_check unchecked.FileChanged = wrong.FileChanged
 of_check unchecked.LinkLost = wrong.LinkLost
 of_check unchecked.NoMemory = wrong.NoMemory
 

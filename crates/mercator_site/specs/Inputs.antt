@@ -19,6 +19,8 @@ pub record Input : Type 0 where
   pub documents : List (List ℕ)
   -- what a search finds, if unreached files are listed
   pub reached : Option (List PageResult)
+  -- the URLs that sitemaps list, if the documents that none lists are reported
+  pub listed : Option (List (List ℕ))
 
 abbrev pub input_in : CheckInput → Input
 input_in input = record {
@@ -31,11 +33,12 @@ input_in input = record {
   aliases = input.aliases.now;
   documents = input.documents.now;
   reached = option_map (λ results. results.now) input.reached;
+  listed = option_map (λ urls. urls.now) input.listed;
 }
 
 -- with these settings
-abbrev pub input_with : Asks → List MapName → List PageResult → List Alias → List (List ℕ) → Option (List PageResult) → Input
-input_with asks maps found aliases documents reached = record {
+abbrev pub input_with : Asks → List MapName → List PageResult → List Alias → List (List ℕ) → Option (List PageResult) → Option (List (List ℕ)) → Input
+input_with asks maps found aliases documents reached listed = record {
   front = asks.front;
   entries = asks.entries;
   scope = asks.scope;
@@ -45,4 +48,5 @@ input_with asks maps found aliases documents reached = record {
   aliases = aliases;
   documents = documents;
   reached = reached;
+  listed = listed;
 }

@@ -3,7 +3,7 @@ ghost use Rattle.std.specs.Prelude.{◌≡◌, ◌==◌, ◌&&◌, ◌||◌, ℕ
 ghost use Rattle.check_report.specs.Text.{is_broken};
 ghost use Rattle.crawl_certificate.specs.Certificate.{IsAscending, result_urls};
 ghost use Rattle.mercator_site.specs.Asks.{asks_in};
-ghost use Rattle.mercator_site.specs.Checks.{AreOthersListed, AreResults, IsCheck, IsFindings, IsReport, IsSiteCheck, IsSiteCheckAt, reached_in};
+ghost use Rattle.mercator_site.specs.Checks.{AreOthersListed, AreResults, IsCheck, IsFindings, IsReport, IsSiteCheck, IsSiteCheckAt, listed_in, reached_in};
 ghost use Rattle.mercator_site.specs.External.{host_root, row_of};
 ghost use Rattle.mercator_site.specs.Errors.{IsIncompleteAt, IsTopIncomplete, is_unfinished};
 ghost use Rattle.mercator_site.specs.Inputs.{input_in, input_with};
@@ -25,7 +25,7 @@ use check_report::{Contents, External};
 use crawl_keys::CanonUrl;
 use crawl_pages::PageResult;
 use saved_site::{LinkedSite, has_all_pages, site_pages};
-use site_check::{CheckError, CheckInput, Checked, MapName, check_site};
+use site_check::{CheckError, CheckInput, Checked, MapName, check_site, ignore_unlisted};
 use site_files::{FileBytes, InMemory, Note, Rules, SiteFiles, SiteNames};
 use std::alloc::{AllocError, Global};
 use std::mem::forget;
@@ -63,7 +63,7 @@ pub(crate) struct CrawledSite<'a> {
 /// Checks a site whose files are in memory.
 ///
 /// # Errors
-/// `BadBase`, `NoFiles`, `TooLarge`, `PagesLost`, `FileUnread`, `LinkLost`, `BadHost`, `BadSeed`, `NoStart`, `NoDocuments`, `NoMemory`; `Crawl` if the crawl is incomplete.
+/// `BadBase`, `NoFiles`, `TooLarge`, `PagesLost`, `FileUnread`, `FileChanged`, `LinkLost`, `BadHost`, `BadSeed`, `NoStart`, `NoDocuments`, `NoMemory`; `Crawl` if the crawl is incomplete.
 pub fn report_of_files<R: Threads + Wait + Sync>(
     rt: &R,
     alloc: Global,
@@ -92,7 +92,7 @@ pub fn report_of_files<R: Threads + Wait + Sync>(
 /// Checks a site with these files. Appends a note about each page that is skipped or changed.
 ///
 /// # Errors
-/// `BadSeed`, `NoStart`, `NoDocuments`, `TooLarge`, `PagesLost`, `FileUnread`, `LinkLost`, `BadHost`, `NoMemory`; `Crawl` if the crawl is incomplete.
+/// `BadSeed`, `NoStart`, `NoDocuments`, `TooLarge`, `PagesLost`, `FileUnread`, `FileChanged`, `LinkLost`, `BadHost`, `NoMemory`; `Crawl` if the crawl is incomplete.
 pub(crate) fn report_of_site<R: Threads + Wait + Sync, B: FileBytes + Sync>(
     rt: &R,
     alloc: Global,
@@ -186,7 +186,7 @@ fn report_of_crawled<R: Threads + Sync, B: FileBytes + Sync>(
 /// Checks a site that was crawled.
 ///
 /// # Errors
-/// `FileUnread`, `LinkLost`, `NoMemory`.
+/// `FileUnread`, `FileChanged`, `LinkLost`, `NoMemory`.
 pub(crate) fn checked_of<R: Threads + Sync, B: FileBytes + Sync>(
     rt: &R,
     alloc: Global,
@@ -204,7 +204,13 @@ pub(crate) fn checked_of<R: Threads + Sync, B: FileBytes + Sync>(
         names: names.as_slice(),
     };
     let input = input_of(crawled, lookups, settings);
-    check_site(rt, alloc, crawled.own, files, bytes, input)
+    let mut checked = check_site(rt, alloc, crawled.own, files, bytes, input)?;
+    ignore_unlisted(
+        settings.ignores,
+        &mut checked.unlisted,
+        &mut checked.unused_ignores,
+    );
+    Ok(checked)
 }
 
 /// What was looked up in the folders of maps.
@@ -222,7 +228,7 @@ fn input_of<'a>(
     lookups: Lookups<'a>,
     settings: CheckSettings<'a>,
 ) -> CheckInput<'a>
-    ensures { input_in result ≡ input_with (asks_in settings.entry) lookups.entry.names.now lookups.entry.left.now crawled.entry.site.now.aliases.items crawled.entry.site.now.documents.items (reached_in crawled.entry.crawls.now settings.entry.report.lists.unreached) }
+    ensures { input_in result ≡ input_with (asks_in settings.entry) lookups.entry.names.now lookups.entry.left.now crawled.entry.site.now.aliases.items crawled.entry.site.now.documents.items (reached_in crawled.entry.crawls.now settings.entry.report.lists.unreached) (listed_in crawled.entry.site.now settings.entry.report.lists.unlisted) }
 {
     let site = crawled.site;
     let lists = settings.report.lists;
@@ -248,7 +254,9 @@ fn lacks_sitemap(site: &LinkedSite, is_requested: bool) -> bool {
 }
 
 /// The URLs that sitemaps list, if the documents that none lists are reported.
-fn listed_in(site: &LinkedSite, is_requested: bool) -> Option<&[CanonUrl]> {
+fn listed_in(site: &LinkedSite, is_requested: bool) -> Option<&[CanonUrl]>
+    ensures { option_map (λ urls. urls.now) result ≡ listed_in site.now is_requested }
+{
     if is_requested {
         Some(site.listed.as_slice())
     } else {

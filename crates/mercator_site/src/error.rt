@@ -39,7 +39,9 @@ pub enum FolderError {
     PagesLost,
     /// A file with a link that is reported cannot be read a second time.
     FileUnread,
-    /// The location of a link to a missing page is not reported, which would be a bug.
+    /// A link that is reported leads elsewhere when its file is read a second time.
+    FileChanged,
+    /// The location of a link to a missing page or a missing anchor is not reported, which would be a bug.
     LinkLost,
     /// The crawl of the site failed. The reason is never that memory ran out.
     Crawl(CrawlFailure),
@@ -95,6 +97,7 @@ impl From<CheckError> for FolderError {
     fn from(error: CheckError) -> FolderError {
         match error {
             CheckError::FileUnread => FolderError::FileUnread,
+            CheckError::FileChanged => FolderError::FileChanged,
             CheckError::LinkLost => FolderError::LinkLost,
             CheckError::NoMemory => FolderError::NoMemory,
         }

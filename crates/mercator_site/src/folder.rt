@@ -251,7 +251,7 @@ fn web_of_files<R: Files<File: Send, Dir: Send> + Threads + Sync>(
 ///
 /// # Errors
 /// `CannotReadFolder`, `List`, `CannotReadMap`, `NoMapFiles`, `BadBase`, `NoFiles`, `NoneListed`, `BadSeed`, `NoStart`, `NoDocuments`,
-/// `TooLarge`, `PagesLost`, `FileUnread`, `LinkLost`, `BadHost`, `NoMemory`; `Crawl` if the crawl is incomplete. The notes about the names of the folder stay
+/// `TooLarge`, `PagesLost`, `FileUnread`, `FileChanged`, `LinkLost`, `BadHost`, `NoMemory`; `Crawl` if the crawl is incomplete. The notes about the names of the folder stay
 /// after an error.
 pub fn report_of_folder<R: Files<File: Send, Dir: Send> + Threads + Wait + Sync>(
     rt: &R,

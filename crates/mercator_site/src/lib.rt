@@ -25,7 +25,7 @@ pub use check_report::Lists;
 pub use error::FolderError;
 pub use fixes::{FileFix, fixes_of_folder};
 pub use folder::{report_of_folder, web_of_folder};
-pub use link_fixes::DocumentFix;
+pub use link_fixes::{DocumentFix, LeftLink, LeftReason};
 pub use mapped::MappedFolder;
 pub use maps::{FolderMap, MapError, read_maps};
 pub use options::{CheckForm, CheckOptions, Fix, ReportOptions, SiteOptions};

@@ -1,6 +1,5 @@
 -- The links to missing anchors that several threads find are all of them.
-use Rattle.site_check.proofs.Prelude.{Global, IfOk, IfOk-at_ok, IfOk-weaker, PageResult, SiteFiles, Vec, flat_map, ◌≡◌, ◌∙◌, ℕ, ◌<◌, true, List, [], length, map, get_or, refl, sym, ap, subst, arith}
-use Rattle.std.proofs.lemmas.List.Elements.{All-contains, All-contains_itself, All-weaker}
+use Rattle.site_check.proofs.Prelude.{Global, IfOk, IfOk-at_ok, IfOk-weaker, PageResult, SiteFiles, Vec, flat_map, ◌≡◌, ℕ, ◌<◌, true, List, [], length, map, get_or, refl, sym, subst, arith}
 use Rattle.std.proofs.lemmas.List.Sorted.{All-permutation, Contains-permutation, IsPermutation-map}
 use Rattle.std.specs.List.{All, Contains}
 use Rattle.std.specs.List.Sorted.{IsPermutation, IsSortedBy}
@@ -16,7 +15,7 @@ use Rattle.site_check.specs.Complete.{is_taken}
 use Rattle.site_check.specs.LackedLinks.{lack_of}
 use Rattle.site_check.specs.Lacks.{AreAnchors, AreLacks, IsLack, Lack, is_any}
 use Rattle.site_check.specs.Located.{items_of}
-use Rattle.site_check.specs.declared.located.ListedLead.{ListedLead}
+use Rattle.site_check.specs.declared.leads.ListedLead.{ListedLead}
 use Rattle.site_check.specs.declared.missing_anchors.MissingAnchorLink.{MissingAnchorLink}
 use Rattle.site_files.specs.declared.alias.Alias.{Alias}
 
@@ -71,13 +70,17 @@ module _ (documents : List PageAnchors) (aliases : List Alias) (files : SiteFile
         whole = λ lack is taken. Contains-permutation (map lack_of old) (map lack_of new) lack there (are.whole lack is taken);
       }
 
+  -- what was found, sorted
+  pub lacks_given : (S : Type 0) (count : ℕ) (r : Part) (own : Vec MissingAnchorLink Global) (sorted given : List MissingAnchorLink) → r ≡ Ok own → 0 < count → IfOk r (λ all. 0 < count → S → AreLacks documents aliases files results is_any (map lack_of all.items)) →
+      IsPermutation own.items sorted → given ≡ sorted → S → AreLacks documents aliases files results is_any (map lack_of given)
+  lacks_given S count r own sorted given is some found moved same s =
+      subst (λ (l : List MissingAnchorLink). AreLacks documents aliases files results is_any (map lack_of l)) (sym same)
+      (lacks_moved own.items sorted moved (IfOk-at_ok (λ (all : Vec MissingAnchorLink Global). 0 < count → S → AreLacks documents aliases files results is_any (map lack_of all.items)) is found some s))
+
   -- the rows of what was found, sorted
   pub anchors_found : (front : List ℕ) (entries : List (List ℕ)) (S : Type 0) (count : ℕ) (r : Part) (own : Vec MissingAnchorLink Global) (sorted given : List MissingAnchorLink) (rows : List Row) (old new : List ListedLead) → r ≡ Ok own → 0 < count →
       IfOk r (λ all. 0 < count → S → AreLacks documents aliases files results is_any (map lack_of all.items)) → IsPermutation own.items sorted → IsSortedBy comes_first sorted → given ≡ sorted → AddsGroups front entries (map lack_of given) rows old new → S →
       AreAnchors front documents aliases files results rows
   anchors_found front entries S count r own sorted given rows old new is some found moved up same groups s =
-      let lacks : AreLacks documents aliases files results is_any (map lack_of own.items) =
-      IfOk-at_ok (λ (all : Vec MissingAnchorLink Global). 0 < count → S → AreLacks documents aliases files results is_any (map lack_of all.items)) is found some s in
-      are_anchors documents aliases files results front entries is_any (map lack_of given) rows [] groups.found (λ n. refl)
-      (subst (λ (l : List MissingAnchorLink). AreLacks documents aliases files results is_any (map lack_of l)) (sym same) (lacks_moved own.items sorted moved lacks))
+      are_anchors documents aliases files results front entries is_any (map lack_of given) rows [] groups.found (λ n. refl) (lacks_given S count r own sorted given is some found moved same s)
       (rises_links given (subst (IsSortedBy comes_first) (sym same) up)) groups.are

@@ -1,6 +1,6 @@
 -- The rows of missing anchors are in order, each once, with the numbers of the results that link to them.
-use Rattle.site_check.proofs.Prelude.{◌≡◌, ◌∙◌, ℕ, zero, suc, ◌+◌, ◌<◌, ◌≤◌, Bool, true, false, ◌&&◌, List, [], ◌∷◌, ◌++◌, length, map, get_or, refl, sym, ap, subst, inl, inr, arith, cases_Bool, cond-true, cond-false, flat_map, bytes_eq-Decides, append_assoc, Lead, PageResult, SiteFiles}
-use Rattle.std.proofs.Common.{◌==◌, ◌⊎◌, Ordering, Less, Equal, Greater, eqb-true, ne_eqb}
+use Rattle.site_check.proofs.Prelude.{◌≡◌, ◌∙◌, ℕ, suc, ◌+◌, ◌<◌, Bool, true, false, ◌&&◌, List, [], ◌∷◌, ◌++◌, length, map, refl, sym, ap, subst, inl, inr, arith, cases_Bool, cond-true, cond-false, flat_map, bytes_eq-Decides, Lead, PageResult, SiteFiles}
+use Rattle.std.proofs.Common.{◌==◌, ◌⊎◌, Ordering, Less, Equal, Greater, eqb-true}
 use Rattle.std.proofs.lemmas.Bool.{and_parts}
 use Rattle.std.proofs.lemmas.Cmp.{nat_cmp_total, nat_list_cmp_total, on_total, then_total, tied_itself}
 use Rattle.std.proofs.lemmas.List.Elements.{All-contains, All-contains_itself, All-head, All-map, All-tail, All-weaker}

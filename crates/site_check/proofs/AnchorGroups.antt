@@ -1,29 +1,23 @@
 -- The rows of missing anchors are those of the links to them.
-use Rattle.site_check.proofs.Prelude.{common_steps, ◌≡◌, ◌∙◌, ℕ, zero, suc, ◌+◌, ◌<◌, ◌≤◌, Bool, true, false, List, [], ◌∷◌, ◌++◌, length, length-append, map, drop, take, take-append-drop, get_or, Option, Some, None, refl, sym, ap, subst, inl, inr, arith, append_assoc, cases_Bool, cond-true, cond-false, ◌&&◌, flat_map, Lead, PageResult, SiteFiles}
+use Rattle.site_check.proofs.Prelude.{◌≡◌, ◌∙◌, ℕ, suc, ◌+◌, ◌<◌, ◌≤◌, Bool, true, false, List, [], ◌∷◌, ◌++◌, length, length-append, map, drop, take, take-append-drop, get_or, Option, Some, None, refl, sym, ap, subst, inl, inr, arith, append_assoc, cases_Bool, cond-true, cond-false, ◌&&◌, flat_map, Lead}
 use Rattle.std.proofs.Math.Seq.{drop-append_seam}
 use Rattle.std.proofs.Common.{◌==◌, add-one, append-nil, drop-cons, length-drop, take_while}
 use Rattle.std.proofs.lemmas.Bool.{and_parts}
 use Rattle.std.proofs.lemmas.List.{drop_all, length-map, map-append}
 use Rattle.std.proofs.lemmas.List.Concat.{flat_map-append}
-use Rattle.std.proofs.lemmas.List.Elements.{All-append, All-contains, All-contains_itself, All-cons, All-head, All-map, All-nil, All-push, All-weaker}
+use Rattle.std.proofs.lemmas.List.Elements.{All-cons, All-head, All-map, All-nil, All-push, All-weaker}
 use Rattle.std.proofs.lemmas.Slice.Eq.{bytes_eq-Decides}
 use Rattle.std.proofs.lemmas.List.Folds.{length-prefix_len}
-use Rattle.std.specs.List.{All, Contains, prefix_len}
+use Rattle.std.specs.List.{All, prefix_len}
 use Rattle.std.specs.Str.{bytes_eq}
 use Rattle.std.specs.Prelude.{if◌then◌else◌}
-use Rattle.document_links.specs.declared.anchors.PageAnchors.{PageAnchors}
-use Rattle.site_check.proofs.AllPlaced.{contains_map, there}
-use Rattle.site_check.proofs.LeadTargets.{Has, contains_had, has_contained}
-use Rattle.site_check.proofs.LackedFound.{flat_has, has_flat}
-use Rattle.site_check.proofs.Placed.{cut_off, passing, slice_get_contains}
-use Rattle.site_check.specs.AnchorGroups.{AreApart, AreGrouped, Group, IsFirstAnchor, IsGroup, anchor_at, group_leads, group_of, group_row, group_shown, leads_from, leads_to, one_unless, source_count, sources_after}
+use Rattle.site_check.proofs.Placed.{cut_off, passing}
+use Rattle.site_check.specs.AnchorGroups.{AreApart, AreGrouped, Group, IsFirstAnchor, IsGroup, anchor_at, group_leads, group_of, group_row, leads_from, leads_to, one_unless, source_count, sources_after}
 use Rattle.site_check.specs.Broken.{Row}
 use Rattle.site_check.specs.LackedLinks.{lack_of}
-use Rattle.site_check.specs.Lacks.{Anchor, AreAnchors, AreLacks, IsLack, IsLacked, Lack, anchor_of, anchor_shown}
-use Rattle.site_check.specs.declared.missing_anchors.Anchor as code
+use Rattle.site_check.specs.Lacks.{Anchor, Lack, anchor_of}
 use Rattle.site_check.specs.declared.missing_anchors.AnchorLinks.{AnchorLinks}
 use Rattle.site_check.specs.declared.missing_anchors.MissingAnchorLink.{MissingAnchorLink}
-use Rattle.site_files.specs.declared.alias.Alias.{Alias}
 
 -- ---- one group more
 

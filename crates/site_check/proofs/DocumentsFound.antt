@@ -1,5 +1,5 @@
 -- The documents, aliases and results that are found by their URLs are the first with them.
-use Rattle.site_check.proofs.Prelude.{◌≡◌, ◌∙◌, ℕ, zero, suc, ◌+◌, ◌<◌, List, [], ◌∷◌, ◌++◌, arith, length, length-append, Option, Some, None, refl, sym, ap, subst, inl, inr, slice_get, get_or, get_or_from_slice_get, option_map, PageResult, SiteFiles, Bool, true, false, bytes_eq, bytes_eq-Decides}
+use Rattle.site_check.proofs.Prelude.{◌≡◌, ◌∙◌, ℕ, zero, suc, ◌+◌, ◌<◌, List, [], ◌∷◌, ◌++◌, arith, length, length-append, Option, Some, None, refl, sym, ap, subst, inl, inr, slice_get, get_or_from_slice_get, option_map, PageResult, SiteFiles, Bool, true, false, bytes_eq, bytes_eq-Decides}
 use Rattle.std.proofs.Common.{◌⊎◌, Ok, Err, Result}
 use Rattle.std.proofs.lemmas.Option.{same_Some}
 use Rattle.std.specs.Cmp.Lexicographic.{slice_cmp}

@@ -17,22 +17,23 @@ use Rattle.site_check.proofs.PageIndices.{rising_order}
 use Rattle.site_check.proofs.Placed.{contains_slice_get, some_same}
 use Rattle.site_check.specs.Complete.{AreOnce, HasAllLinks, HasIndices, HasPlace, IsBrokenLink, IsKept, IsKeptPlace, IsLinkKept}
 use Rattle.site_check.specs.Leads.{is_reported}
-use Rattle.site_check.specs.Located.{AddsListed, TargetLocation, link_place, listed, page_text, placed_at}
+use Rattle.site_check.specs.Located.{AddsListed, LeadsAsSaid, TargetLocation, link_place, listed, page_text, placed_at}
 use Rattle.site_check.specs.Locations.{EndsAt, location_in}
 use Rattle.site_check.specs.declared.linked.Linked as code
-use Rattle.site_check.specs.declared.located.ListedLead.{ListedLead}
+use Rattle.site_check.specs.declared.leads.ListedLead.{ListedLead}
 use Rattle.site_check.specs.declared.located.TargetPlace.{TargetPlace}
+use Rattle.site_check.specs.declared.missing_anchors.MissingAnchor.{MissingAnchor}
 
 not_true : false ≡ true → ⊥
 not_true is = cc
 
 -- ---- lists
 
-has_left : {X : Type 0} (xs ys : List X) (x : X) → Has xs x → Has (xs ++ ys) x
+pub has_left : {X : Type 0} (xs ys : List X) (x : X) → Has xs x → Has (xs ++ ys) x
 has_left [] ys x has = absurd has
 has_left (y ∷ xs) ys x has = elim has [ inl same ↦ inl same | inr more ↦ inr (has_left xs ys x more) ]
 
-has_right : {X : Type 0} (xs ys : List X) (x : X) → Has ys x → Has (xs ++ ys) x
+pub has_right : {X : Type 0} (xs ys : List X) (x : X) → Has ys x → Has (xs ++ ys) x
 has_right [] ys x has = has
 has_right (y ∷ xs) ys x has = inr (has_right xs ys x has)
 
@@ -49,12 +50,12 @@ has_filter p (y ∷ xs) x passes has =
     ]
 
 -- the element of a list whose image has an index
-record IsImage {X Y : Type 0} (f : X → Y) (xs : List X) (k : ℕ) (y : Y) : Type 0 where
-  x : X
-  at : slice_get xs k ≡ Some x
-  is : f x ≡ y
+pub record IsImage {X Y : Type 0} (f : X → Y) (xs : List X) (k : ℕ) (y : Y) : Type 0 where
+  pub x : X
+  pub at : slice_get xs k ≡ Some x
+  pub is : f x ≡ y
 
-image : {X Y : Type 0} (f : X → Y) (xs : List X) (k : ℕ) (y : Y) → slice_get (map f xs) k ≡ Some y → IsImage f xs k y
+pub image : {X Y : Type 0} (f : X → Y) (xs : List X) (k : ℕ) (y : Y) → slice_get (map f xs) k ≡ Some y → IsImage f xs k y
 image f xs k y at =
     let within : k < length (map f xs) = slice_get_within (map f xs) k y at in
     let found = there xs k (omega (arith, within, length-map xs f)) in
@@ -234,14 +235,14 @@ module _ (front : List ℕ) (entries : List (List ℕ)) (results rs : List PageR
       let same : of.one ≡ one = one_end url of.one one is_of is_one (missing_of front entries of.one of.reported) (missing_of front entries one reported) ends_of ends in
       record { number = some.number; found = some.is; at = of.there ∙ ap (λ (x : PageResult). Some x) same }
 
-module _ (front : List ℕ) (entries : List (List ℕ)) (aliases : List Alias) (places : List LinkPlaces) (files : SiteFiles) (results : List PageResult) (reads : ℕ → Option (List ℕ) → Type 0) (all : List code.Linked) (leads : List ListedLead) (placed : List TargetLocation) (rows : List Broken)
+module _ (front : List ℕ) (entries : List (List ℕ)) (aliases : List Alias) (places : List LinkPlaces) (files : SiteFiles) (results : List PageResult) (reads : ℕ → Option (List ℕ) → Type 0) (all : List code.Linked) (anchors : List MissingAnchor) (leads : List ListedLead) (placed : List TargetLocation) (rows : List Broken)
     (unfound : map result_at all ≡ filter is_unfound results)
     (indexed : All (HasIndices files.rules.now.places (number_in (targets_of front entries (map result_at all))) (indices_in places) aliases) results)
     (led : All (Contains leads) (map (listed 0) (leads_from (number_in (targets_of front entries (map result_at all))) (indices_in places) 0 results)))
-    (has : All (HasPlace files results reads placed) leads)
-    (kept : All (IsKeptPlace front entries all rows) placed)
+    (has : All (HasPlace (LeadsAsSaid results (map result_at all)) files results reads placed) leads)
+    (kept : All (IsKeptPlace front entries all anchors rows) placed)
     (once : AreOnce results) where
-  link_kept : (page : PageResult) (at : ℕ) (one : PageResult) → IsBrokenLink front entries aliases files results page at one → IsLinkKept entries places files reads rows page at (shown front one.url)
+  link_kept : (page : PageResult) (at : ℕ) (one : PageResult) → IsBrokenLink front entries aliases files results page at one → IsLinkKept front entries places files results reads rows page at one
   link_kept page at one broken =
       let rs = map result_at all in
       let f = number_in (targets_of front entries rs) in
@@ -263,18 +264,20 @@ module _ (front : List ℕ) (entries : List (List ℕ)) (aliases : List Alias) (
       let in_pages : Contains pages lead = result_in f (indices_in places) 0 results k page lead at_page own in
       let one_lead : ListedLead = listed 0 lead in
       let in_leads : Contains leads one_lead = All-contains (Contains leads) (map (listed 0) pages) one_lead led (contains_map (listed 0) pages lead in_pages) in
-      let place = (All-contains (HasPlace files results reads placed) leads one_lead has in_leads).placed page at_page in
+      let place = (All-contains (HasPlace (LeadsAsSaid results rs) files results reads placed) leads one_lead has in_leads).placed page at_page in
       let target = image result_at all its.number one its.at in
       let of_pages : ◌≡◌ {A = ℕ} 0 0 = refl in
-      let row : IsKept entries rows (page_text front target.x) (location_in place.name place.place) =
-      (All-contains (IsKeptPlace front entries all rows) placed (link_place place.name one_lead place.place) kept place.is_in).kept of_pages target.x target.at in
+      let row : IsKept entries rows 0 (page_text front target.x) (location_in place.name place.place) =
+      (All-contains (IsKeptPlace front entries all anchors rows) placed (link_place place.name one_lead place.place) kept place.is_in).kept of_pages target.x target.at in
       record {
         index = index;
         is_index = known.at;
         name = place.name;
         place = place.place;
+        own = place.own;
         is_link = place.is_link;
-        kept = subst (λ (text : List ℕ). IsKept entries rows text (location_in place.name place.place)) (ap (λ (x : PageResult). shown front x.url) target.is) row;
+        from_file = place.led of_pages one its.at;
+        kept = subst (λ (text : List ℕ). IsKept entries rows 0 text (location_in place.name place.place)) (ap (λ (x : PageResult). shown front x.url) target.is) row;
       }
 
   links_in_order : (page : PageResult) (at later : ℕ) (one : PageResult) → IsBrokenLink front entries aliases files results page at one → at < later → (index next : ℕ) → slice_get (indices_in places page.url) at ≡ Some index →
@@ -288,26 +291,26 @@ module _ (front : List ℕ) (entries : List (List ℕ)) (aliases : List Alias) (
 
 -- ---- the rows of a check
 
-pub all_links : (front : List ℕ) (entries : List (List ℕ)) (aliases : List Alias) (places : List LinkPlaces) (own_files files : SiteFiles) (own_results results : List PageResult) (reads : ℕ → Option (List ℕ) → Type 0) (all : List code.Linked) (own_leads leads : List ListedLead) (found own_found : List TargetPlace)
+pub all_links : (front : List ℕ) (entries : List (List ℕ)) (aliases : List Alias) (places : List LinkPlaces) (own_files files : SiteFiles) (own_results results : List PageResult) (reads : ℕ → Option (List ℕ) → Type 0) (all : List code.Linked) (anchors : List MissingAnchor) (own_leads leads : List ListedLead) (found own_found : List TargetPlace)
     (rows : List Broken) → own_files ≡ files → own_results ≡ results → own_leads ≡ leads → own_found ≡ found → map linked_at all ≡ map (linked results) (filter is_unfound results) →
     All (HasIndices own_files.rules.now.places (number_in (targets_of front entries (map result_at all))) (indices_in places) aliases) own_results →
-    All (Contains leads) (map (listed 0) (leads_from (number_in (targets_of front entries (map result_at all))) (indices_in places) 0 own_results)) → All (HasPlace own_files own_results reads (map placed_at found)) own_leads →
-    All (IsKeptPlace front entries all rows) (map placed_at own_found) → AreOnce results → HasAllLinks front entries aliases places files results reads rows
-all_links front entries aliases places own_files files own_results results reads all own_leads leads found own_found rows same_files same_results same_leads same_found is indexed led has kept once =
+    All (Contains leads) (map (listed 0) (leads_from (number_in (targets_of front entries (map result_at all))) (indices_in places) 0 own_results)) → All (HasPlace (LeadsAsSaid own_results (map result_at all)) own_files own_results reads (map placed_at found)) own_leads →
+    All (IsKeptPlace front entries all anchors rows) (map placed_at own_found) → AreOnce results → HasAllLinks front entries aliases places files results reads rows
+all_links front entries aliases places own_files files own_results results reads all anchors own_leads leads found own_found rows same_files same_results same_leads same_found is indexed led has kept once =
     let f = number_in (targets_of front entries (map result_at all)) in
     let pages : List PageResult → List Lead = λ rs. leads_from f (indices_in places) 0 rs in
     let placed = map placed_at found in
     let indexed_1 : All (HasIndices own_files.rules.now.places f (indices_in places) aliases) results = subst (All (HasIndices own_files.rules.now.places f (indices_in places) aliases)) same_results indexed in
     let indexed_2 : All (HasIndices files.rules.now.places f (indices_in places) aliases) results =
     subst (λ (fs : SiteFiles). All (HasIndices fs.rules.now.places f (indices_in places) aliases) results) same_files indexed_1 in
-    let has_1 : All (HasPlace own_files own_results reads placed) leads = subst (All (HasPlace own_files own_results reads placed)) same_leads has in
-    let has_2 : All (HasPlace own_files results reads placed) leads = subst (λ rs. All (HasPlace own_files rs reads placed) leads) same_results has_1 in
-    let has_3 : All (HasPlace files results reads placed) leads = subst (λ fs. All (HasPlace fs results reads placed) leads) same_files has_2 in
+    let has_1 : All (HasPlace (LeadsAsSaid own_results (map result_at all)) own_files own_results reads placed) leads = subst (All (HasPlace (LeadsAsSaid own_results (map result_at all)) own_files own_results reads placed)) same_leads has in
+    let has_2 : All (HasPlace (LeadsAsSaid results (map result_at all)) own_files results reads placed) leads = subst (λ rs. All (HasPlace (LeadsAsSaid rs (map result_at all)) own_files rs reads placed) leads) same_results has_1 in
+    let has_3 : All (HasPlace (LeadsAsSaid results (map result_at all)) files results reads placed) leads = subst (λ fs. All (HasPlace (LeadsAsSaid results (map result_at all)) fs results reads placed) leads) same_files has_2 in
     let led_1 : All (Contains leads) (map (listed 0) (pages results)) = subst (λ rs. All (Contains leads) (map (listed 0) (pages rs))) same_results led in
-    let kept_1 : All (IsKeptPlace front entries all rows) placed = subst (λ f. All (IsKeptPlace front entries all rows) (map placed_at f)) same_found kept in
+    let kept_1 : All (IsKeptPlace front entries all anchors rows) placed = subst (λ f. All (IsKeptPlace front entries all anchors rows) (map placed_at f)) same_found kept in
     record {
-      each = link_kept front entries aliases places files results reads all leads placed rows (unfound_of results all is) indexed_2 led_1 has_3 kept_1 once;
-      in_order = links_in_order front entries aliases places files results reads all leads placed rows (unfound_of results all is) indexed_2 led_1 has_3 kept_1 once;
+      each = link_kept front entries aliases places files results reads all anchors leads placed rows (unfound_of results all is) indexed_2 led_1 has_3 kept_1 once;
+      in_order = links_in_order front entries aliases places files results reads all anchors leads placed rows (unfound_of results all is) indexed_2 led_1 has_3 kept_1 once;
     }
 
 -- ---- the links of all lists

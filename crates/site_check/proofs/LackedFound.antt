@@ -1,16 +1,14 @@
 -- The links that are found lead to anchors that documents lack, and no such link is left out.
-use Rattle.site_check.proofs.Prelude.{common_steps, ◌≡◌, ◌∙◌, ℕ, zero, suc, ◌+◌, ◌<◌, ◌≤◌, Bool, true, false, cond, List, [], ◌∷◌, ◌++◌, length, map, take, get_or, length-take-le, take_more, Option, Some, None, refl, sym, ap, subst, inl, inr, arith, append_assoc, cases_Bool, cond-true, cond-false, slice_get, flat_map, PageResult, SiteFiles}
+use Rattle.site_check.proofs.Prelude.{common_steps, ◌≡◌, ◌∙◌, ℕ, zero, suc, ◌+◌, ◌<◌, ◌≤◌, Bool, true, false, List, [], ◌∷◌, ◌++◌, length, map, take, get_or, length-take-le, take_more, Option, Some, None, refl, sym, ap, subst, inl, inr, arith, append_assoc, slice_get, flat_map, PageResult, SiteFiles}
 use Rattle.std.proofs.Common.{◌-◌, ◌⊎◌, add-one}
 use Rattle.std.proofs.lemmas.List.{take_all}
-use Rattle.std.proofs.lemmas.List.Concat.{flat_map-append}
 use Rattle.std.proofs.lemmas.List.Elements.{All-contains_itself, All-weaker}
 use Rattle.std.proofs.lemmas.List.Sorted.{Contains-permutation, IsPermutation-map, IsPermutation-sym}
-use Rattle.std.proofs.lemmas.Option.{option_and_then_some, same_Some}
-use Rattle.std.specs.List.{All, Contains}
+use Rattle.std.proofs.lemmas.Option.{same_Some}
+use Rattle.std.specs.List.{Contains}
 use Rattle.std.specs.List.Sorted.{IsPermutation}
 use Rattle.std.specs.Prelude.{if◌then◌else◌}
-use Rattle.document_links.specs.AnchorLinks.{IsLinkTo}
-use Rattle.document_links.specs.Anchors.{Link, begin_of, end_of, link_at}
+use Rattle.document_links.specs.Anchors.{Link}
 use Rattle.document_links.specs.declared.anchors.Anchors.{Anchors}
 use Rattle.document_links.specs.declared.anchors.PageAnchors.{PageAnchors}
 use Rattle.document_links.specs.declared.anchors.Target.{Target}

@@ -16,9 +16,9 @@ use Rattle.document_links.specs.declared.positions.LinkPlaces.{LinkPlaces}
 use Rattle.site_check.proofs.AllRows.{mapped, results_at, results_back}
 use Rattle.site_check.proofs.Placed.{contains_slice_get, slice_get_contains, some_same}
 use Rattle.site_check.specs.Leads.{is_reported, moved_number}
-use Rattle.site_check.specs.Located.{AddsListed, IsListed, IsLocatedRow, IsRowPlace, IsTargetPlace, TargetLocation, list_of, listed, located_row, page_text, placed_at, target_texts, texts_at}
-use Rattle.site_check.specs.Locations.{IsLocated, IsRowLink, LeadsTo, LeadsToPage, Location, in_row, location_of}
-use Rattle.site_check.specs.declared.located.ListedLead.{ListedLead}
+use Rattle.site_check.specs.Located.{AddsListed, IsListed, IsLocatedRow, IsRowPlace, IsTargetPlace, LeadsAsSaid, TargetLocation, list_of, listed, located_row, page_text, placed_at, target_texts, texts_at}
+use Rattle.site_check.specs.Locations.{IsLocated, IsRowLink, LeadsFromFile, LeadsTo, LeadsToPage, Location, in_row, location_of}
+use Rattle.site_check.specs.declared.leads.ListedLead.{ListedLead}
 use Rattle.site_check.specs.declared.invalid.InvalidText.{InvalidText}
 use Rattle.site_check.specs.declared.linked.Linked as code
 use Rattle.site_check.specs.declared.located.TargetPlace.{TargetPlace}
@@ -263,10 +263,11 @@ number_of_target front entries rs url n is =
 -- ---- the rows
 
 -- a link to a missing page leads to what its row reports
-page_row : (front : List ℕ) (entries : List (List ℕ)) (places : List LinkPlaces) (results : List PageResult) (linked_ones : List code.Linked) (lead : Lead) (page : PageResult) (number : ℕ) (target : List ℕ) →
+page_row : (front : List ℕ) (entries : List (List ℕ)) (places : List LinkPlaces) (results : List PageResult) (linked_ones : List code.Linked) (lead : Lead) (page : PageResult) (number : ℕ) (target : List ℕ) (file_url : Option (List ℕ)) →
     map result_at linked_ones ≡ filter is_unfound results → Contains (leads_from (number_in (targets_of front entries (map result_at linked_ones))) (indices_in places) 0 results) lead → slice_get results lead.source ≡ Some page →
-    lead.number ≡ number → slice_get (map (page_text front) linked_ones) number ≡ Some target → LeadsToPage front places results target page lead.index
-page_row front entries places results linked_ones lead page number target unfound contained is_page same is_target =
+    lead.number ≡ number → slice_get (map (page_text front) linked_ones) number ≡ Some target → ((one : PageResult) → slice_get (map result_at linked_ones) lead.number ≡ Some one → LeadsFromFile results file_url one) →
+    LeadsToPage front places results target page lead.index file_url
+page_row front entries places results linked_ones lead page number target file_url unfound contained is_page same is_target led =
     let rs = map result_at linked_ones in
     let f = number_in (targets_of front entries rs) in
     let found = result_lead f (indices_in places) 0 results lead (has_contained (leads_from f (indices_in places) 0 results) lead contained) in
@@ -280,7 +281,7 @@ page_row front entries places results linked_ones lead page number target unfoun
     sym is_target ∙ ap (slice_get (map (page_text front) linked_ones)) (sym same) ∙ ap (λ l. slice_get l lead.number) (sym (mapped text result_at linked_ones)) ∙ slice_get-map text rs lead.number
     ∙ ap (λ o. option_map text o) of.there in
     let whole : (x : PageResult) → Has rs x → Contains results x = λ x has. contains_had results x (has_filtered is_unfound results x (subst (λ l. Has l x) unfound has)) in
-    subst (λ (p : PageResult). LeadsToPage front places results target p lead.index) (sym page_is)
+    subst (λ (p : PageResult). LeadsToPage front places results target p lead.index file_url) (sym page_is)
     (record {
       url = there.url;
       link = record { links = own.links; skipped = own.skipped; found = own.found; at = there.at; is_link = there.is_link; is_index = there.is_index };
@@ -288,6 +289,7 @@ page_row front entries places results linked_ones lead page number target unfoun
       is_one = whole of.one (has_at rs lead.number of.one of.there);
       missing = (and_parts (is_missing of.one.page) (not (is_ignored entries (shown front of.one.url))) of.reported).0;
       ends = elim of.ends [ inl same_url ↦ inl same_url | inr moved ↦ inr (whole (record { url = there.url; page = Moved (Some of.one.url) }) moved) ];
+      from_file = led of.one of.there;
       is_target = some_same target (shown front of.one.url) reported;
     })
 
@@ -295,29 +297,30 @@ page_row front entries places results linked_ones lead page number target unfoun
 module _ (front : List ℕ) (entries : List (List ℕ)) (places : List LinkPlaces) (files : SiteFiles) (results : List PageResult) (reads : ℕ → Option (List ℕ) → Type 0) (linked_ones : List code.Linked) (anchors : List MissingAnchor) (invalid : List InvalidText) (outside : List Outside) (leads : List ListedLead) (placed : List TargetLocation)
     (unfound : map result_at linked_ones ≡ filter is_unfound results)
     (listed_ones : All (IsListed (leads_from (number_in (targets_of front entries (map result_at linked_ones))) (indices_in places) 0 results)) leads)
-    (all : All (IsTargetPlace files results reads leads) placed) where
-  leads_to : (kind : Kind) (target : List ℕ) (number : ℕ) (one : ListedLead) (page : PageResult) → slice_get (texts_at (target_texts front linked_ones anchors invalid outside) (list_of kind)) number ≡ Some target →
-      Contains leads one → slice_get results one.lead.source ≡ Some page → one.list ≡ list_of kind → one.lead.number ≡ number → LeadsTo front places results kind target page one.lead.index
-  leads_to row.NoPage target number one page is contained is_page list same =
-      page_row front entries places results linked_ones one.lead page number target unfound
-      (All-contains (IsListed (leads_from (number_in (targets_of front entries (map result_at linked_ones))) (indices_in places) 0 results)) leads one listed_ones contained list) is_page same is
-  leads_to row.NoAnchor target number one page is contained is_page list same = tt
-  leads_to row.NotUrl target number one page is contained is_page list same = tt
-  leads_to row.UnknownScheme target number one page is contained is_page list same = tt
-  leads_to row.LocalFile target number one page is contained is_page list same = tt
-  leads_to row.Leaves target number one page is contained is_page list same = tt
-  leads_to row.OutsideBase target number one page is contained is_page list same = tt
-  leads_to row.NotInMap target number one page is contained is_page list same = tt
+    (all : All (IsTargetPlace (LeadsAsSaid results (map result_at linked_ones)) files results reads leads) placed) where
+  leads_to : (kind : Kind) (target : List ℕ) (number : ℕ) (one : ListedLead) (page : PageResult) (file_url : Option (List ℕ)) → slice_get (texts_at (target_texts front linked_ones anchors invalid outside) (list_of kind)) number ≡ Some target →
+      Contains leads one → slice_get results one.lead.source ≡ Some page → one.list ≡ list_of kind → one.lead.number ≡ number → LeadsAsSaid results (map result_at linked_ones) file_url one → LeadsTo front places results kind target page one.lead.index file_url
+  leads_to row.NoPage target number one page file_url is contained is_page list same has =
+      page_row front entries places results linked_ones one.lead page number target file_url unfound
+      (All-contains (IsListed (leads_from (number_in (targets_of front entries (map result_at linked_ones))) (indices_in places) 0 results)) leads one listed_ones contained list) is_page same is (has list)
+  leads_to row.NoAnchor target number one page file_url is contained is_page list same has = tt
+  leads_to row.NotUrl target number one page file_url is contained is_page list same has = tt
+  leads_to row.UnknownScheme target number one page file_url is contained is_page list same has = tt
+  leads_to row.LocalFile target number one page file_url is contained is_page list same has = tt
+  leads_to row.Leaves target number one page file_url is contained is_page list same has = tt
+  leads_to row.OutsideBase target number one page file_url is contained is_page list same has = tt
+  leads_to row.NotInMap target number one page file_url is contained is_page list same has = tt
 
   row_link : (kind : Kind) (target : List ℕ) (number : ℕ) → slice_get (texts_at (target_texts front linked_ones anchors invalid outside) (list_of kind)) number ≡ Some target →
       (at : Location) → IsRowPlace placed (list_of kind) number target at → IsRowLink front places files results reads kind target at
   row_link kind target number is at own =
-      let place = All-contains (IsTargetPlace files results reads leads) placed own.one all own.to.is_one in
+      let place = All-contains (IsTargetPlace (LeadsAsSaid results (map result_at linked_ones)) files results reads leads) placed own.one all own.to.is_one in
       record {
         page = place.page;
         is_page = slice_get_contains results place.one.lead.source place.page place.is_page;
         index = place.one.lead.index;
-        leads = leads_to kind target number place.one place.page is place.is_one place.is_page (sym (ap (λ (t : TargetLocation). t.list) place.is) ∙ own.to.list) (sym (ap (λ (t : TargetLocation). t.number) place.is) ∙ own.to.is_number);
+        own = place.own;
+        leads = leads_to kind target number place.one place.page place.own is place.is_one place.is_page (sym (ap (λ (t : TargetLocation). t.list) place.is) ∙ own.to.list) (sym (ap (λ (t : TargetLocation). t.number) place.is) ∙ own.to.is_number) place.led;
         name = place.name;
         place = place.place;
         is_link = place.is_link;
@@ -371,12 +374,12 @@ all_listed pages leaving leads_0 leads_1 leads_2 leads_3 leads_4 own named texts
 pub located_rows : (front : List ℕ) (entries : List (List ℕ)) (places : List LinkPlaces) (own_files files : SiteFiles) (own_results results : List PageResult) (reads : ℕ → Option (List ℕ) → Type 0) (all : List code.Linked) (anchors : List MissingAnchor) (invalid : List InvalidText) (outside : List Outside)
     (leads own_leads : List ListedLead) (found own_found : List TargetPlace) (rows : List Broken) → own_files ≡ files → own_results ≡ results → own_leads ≡ leads → own_found ≡ found →
     map linked_at all ≡ map (linked results) (filter is_unfound results) → All (IsListed (leads_from (number_in (targets_of front entries (map result_at all))) (indices_in places) 0 own_results)) leads →
-    All (IsTargetPlace own_files own_results reads own_leads) (map placed_at found) → All (IsLocatedRow (map placed_at own_found) (target_texts front all anchors invalid outside)) (map located_row rows) →
+    All (IsTargetPlace (LeadsAsSaid own_results (map result_at all)) own_files own_results reads own_leads) (map placed_at found) → All (IsLocatedRow (map placed_at own_found) (target_texts front all anchors invalid outside)) (map located_row rows) →
     All (IsLocated front places files results reads) rows
 located_rows front entries places own_files files own_results results reads all anchors invalid outside leads own_leads found own_found rows same_files same_results same_leads same_found is listed_ones placed located =
     let pages : List PageResult → List Lead = λ rs. leads_from (number_in (targets_of front entries (map result_at all))) (indices_in places) 0 rs in
-    let placed_1 : All (IsTargetPlace own_files own_results reads leads) (map placed_at found) = subst (λ ls. All (IsTargetPlace own_files own_results reads ls) (map placed_at found)) same_leads placed in
-    let placed_2 : All (IsTargetPlace own_files results reads leads) (map placed_at found) = subst (λ rs. All (IsTargetPlace own_files rs reads leads) (map placed_at found)) same_results placed_1 in
-    let placed_3 : All (IsTargetPlace files results reads leads) (map placed_at found) = subst (λ fs. All (IsTargetPlace fs results reads leads) (map placed_at found)) same_files placed_2 in
+    let placed_1 : All (IsTargetPlace (LeadsAsSaid own_results (map result_at all)) own_files own_results reads leads) (map placed_at found) = subst (λ ls. All (IsTargetPlace (LeadsAsSaid own_results (map result_at all)) own_files own_results reads ls) (map placed_at found)) same_leads placed in
+    let placed_2 : All (IsTargetPlace (LeadsAsSaid results (map result_at all)) own_files results reads leads) (map placed_at found) = subst (λ rs. All (IsTargetPlace (LeadsAsSaid rs (map result_at all)) own_files rs reads leads) (map placed_at found)) same_results placed_1 in
+    let placed_3 : All (IsTargetPlace (LeadsAsSaid results (map result_at all)) files results reads leads) (map placed_at found) = subst (λ fs. All (IsTargetPlace (LeadsAsSaid results (map result_at all)) fs results reads leads) (map placed_at found)) same_files placed_2 in
     rows_located front entries places files results reads all anchors invalid outside leads (map placed_at found) (unfound_of results all is) (subst (λ rs. All (IsListed (pages rs)) leads) same_results listed_ones) placed_3 rows
     (subst (λ f. All (IsLocatedRow (map placed_at f) (target_texts front all anchors invalid outside)) (map located_row rows)) same_found located)

@@ -1,5 +1,5 @@
 -- What a row of a link that leads out of the site is not.
-use Rattle.site_check.proofs.Prelude.{◌≡◌, ℕ, true, List, [], Option, None, refl, sym, is_leaving}
+use Rattle.site_check.proofs.Prelude.{◌≡◌, ℕ, true, List, [], Option, ap, refl, sym, is_leaving}
 use Rattle.std.proofs.Common.{true≢false}
 use Rattle.check_report.specs.declared.value.Kind.{Kind}
 use Rattle.check_report.specs.declared.value.Kind.TheVariants.{NoPage, NoAnchor, NotUrl, UnknownScheme, LocalFile, Leaves, OutsideBase, NotInMap}
@@ -50,12 +50,6 @@ no_hint Leaves hint is = refl
 no_hint OutsideBase hint is = refl
 no_hint NotInMap hint is = refl
 
-pub no_name : (kind : Kind) (name : Option (List ℕ)) → is_leaving kind ≡ true → name_for kind name ≡ None
-no_name NoPage name is = absurd (true≢false (sym is))
-no_name NoAnchor name is = refl
-no_name NotUrl name is = refl
-no_name UnknownScheme name is = refl
-no_name LocalFile name is = refl
-no_name Leaves name is = refl
-no_name OutsideBase name is = refl
-no_name NotInMap name is = refl
+-- the name of such a row is not that of a missing page
+pub own_name : (kind : Kind) (name reported : Option (List ℕ)) → is_leaving kind ≡ true → name_for (is_leaving kind) kind name reported ≡ reported
+own_name kind name reported is = ap (λ leaves. name_for leaves kind name reported) is

@@ -11,6 +11,7 @@ pub mod FileEntries
 pub mod FileNames
 pub mod Forms
 pub mod Fronts
+pub mod KeptLacks
 pub mod KeptLinks
 pub mod LackedFound
 pub mod LeadsFound
@@ -22,6 +23,7 @@ pub mod LocatedRows
 pub mod Marks
 pub mod Namesakes
 pub mod Orders
+pub mod Origins
 pub mod Outsides
 pub mod PageIndices
 pub mod Patterns

@@ -1,6 +1,6 @@
 -- The URLs with which links begin, and the links that begin with them.
-use Rattle.site_check.proofs.Prelude.{◌≡◌, ◌∙◌, ℕ, suc, zero, ◌+◌, ◌^◌, ◌<◌, ◌≤◌, ◌&&◌, Bool, true, false, List, [], ◌∷◌, ◌++◌, Option, Some, None, length, drop, take, get_or, count_by, refl, subst, sym, ap, inl, inr, arith, append_assoc, cases_Bool, cond-false, cond-true, string_bytes, take-append-drop, bytes_eq, bytes_eq-Decides, begins, Bor, flat_map, option_map, pointed, Counts, PageResult, SiteFiles, count_at, is_slash, often_first, one_if, path_count}
-use Rattle.std.proofs.Common.{◌*◌, ◌-◌, ◌≢◌, MatchOption, take_all}
+use Rattle.site_check.proofs.Prelude.{◌≡◌, ◌∙◌, ℕ, suc, zero, ◌+◌, ◌^◌, ◌<◌, ◌≤◌, ◌&&◌, Bool, true, false, List, [], ◌∷◌, ◌++◌, Option, Some, None, length, drop, take, get_or, count_by, refl, subst, sym, ap, inl, inr, arith, append_assoc, cases_Bool, cond-false, cond-true, string_bytes, take-append-drop, bytes_eq-Decides, begins, Bor, flat_map, option_map, pointed, Counts, PageResult, SiteFiles, count_at, is_slash, often_first, one_if, path_count}
+use Rattle.std.proofs.Common.{◌*◌, ◌-◌, ◌≢◌, MatchOption, cond, length-append, take_all}
 use Rattle.std.proofs.lemmas.List.{append_cancel_right, drop_all, flat_map_more}
 use Rattle.std.proofs.lemmas.List.Sums.{sum_by-append, sum_by-cons}
 use Rattle.std.specs.Option.{option_and_then, option_or, option_to_list}
@@ -12,7 +12,9 @@ use Rattle.site_check.proofs.Fronts.{begins_with}
 use Rattle.site_check.proofs.Outsides.{IsName, first_free, more_name}
 use Rattle.site_check.proofs.RootFolders.{cut_here}
 use Rattle.site_check.specs.Base.{Hint, hint_at, root_hint_of}
-use Rattle.site_check.specs.LinkBase.{Cuts, are_few_below, first_hint, folder_to, folders_to, has_file_at, hint_in, hint_on_host, hint_to, hint_with_counts, host_hint, leads_to_file, link_hint, link_urls}
+use Rattle.site_check.specs.Totals.{is_page, place_count}
+use Rattle.site_files.specs.Server.{before_query}
+use Rattle.site_check.specs.LinkBase.{Cuts, all_count, are_few_below, below_count, is_few, other_url, other_urls, page_links, page_others, first_hint, folder_to, folder_with, folders_to, goes_below, has_file_at, hint_in, hint_of_urls, hint_on_host, hint_with_counts, host_hint, leads_to_file, link_hint, link_urls}
 
 -- ---- counts
 
@@ -134,57 +136,79 @@ leads_off files folder url lacks = λ i. sym (not_begun folder url lacks) i && h
 -- ---- the hint
 
 -- the hint at an index, and those after it
-hint_at_index : (files : SiteFiles) (urls : List (List ℕ)) (of : ℕ) (numbers : List ℕ) (i n : ℕ) → i < length numbers → n ≡ get_or numbers i n →
-    first_hint files urls of (drop i numbers) ≡ option_or (hint_to files urls of n) (first_hint files urls of (drop (i + 1) numbers))
-hint_at_index files urls of numbers i n below is = ap (first_hint files urls of) (cut_here numbers i n below is)
+hint_at_index : (files : SiteFiles) (urls : List (List ℕ)) (of : ℕ) (numbers : List ℕ) (i n : ℕ) (found : Option (List ℕ)) → i < length numbers → n ≡ get_or numbers i n → found ≡ folder_with urls of n →
+    first_hint files urls of (drop i numbers) ≡ option_and_then (λ folder. option_or (hint_in files urls of folder) (first_hint files urls of (drop (i + 1) numbers))) found
+hint_at_index files urls of numbers i n found below is there =
+    ap (first_hint files urls of) (cut_here numbers i n below is) ∙ ap (option_and_then (λ folder. option_or (hint_in files urls of folder) (first_hint files urls of (drop (i + 1) numbers)))) (sym there)
 
-pub hint_here : (files : SiteFiles) (urls : List (List ℕ)) (of : ℕ) (numbers : List ℕ) (i n : ℕ) (hint : Hint) (all : Option Hint) → i < length numbers → n ≡ get_or numbers i n →
-    Some hint ≡ hint_to files urls of n → first_hint files urls of (drop i numbers) ≡ all → Some hint ≡ all
-hint_here files urls of numbers i n hint all below is found so_far =
-    sym (hint_at_index files urls of numbers i n below is ∙ ap (λ o. option_or o (first_hint files urls of (drop (i + 1) numbers))) (sym found)) ∙ so_far
+pub hint_here : (files : SiteFiles) (urls : List (List ℕ)) (of : ℕ) (numbers : List ℕ) (i n : ℕ) (folder : List ℕ) (hint : Hint) (all : Option Hint) → i < length numbers → n ≡ get_or numbers i n →
+    Some folder ≡ folder_with urls of n → Some hint ≡ hint_in files urls of folder → first_hint files urls of (drop i numbers) ≡ all → Some hint ≡ all
+hint_here files urls of numbers i n folder hint all below is there found so_far =
+    sym (hint_at_index files urls of numbers i n (Some folder) below is there ∙ ap (λ o. option_or o (first_hint files urls of (drop (i + 1) numbers))) (sym found)) ∙ so_far
 
-pub hint_later : (files : SiteFiles) (urls : List (List ℕ)) (of : ℕ) (numbers : List ℕ) (i n : ℕ) (all : Option Hint) → i < length numbers → n ≡ get_or numbers i n →
-    None ≡ hint_to files urls of n → first_hint files urls of (drop i numbers) ≡ all → first_hint files urls of (drop (i + 1) numbers) ≡ all
-hint_later files urls of numbers i n all below is none so_far =
-    sym (hint_at_index files urls of numbers i n below is ∙ ap (λ o. option_or o (first_hint files urls of (drop (i + 1) numbers))) (sym none)) ∙ so_far
+pub hint_later : (files : SiteFiles) (urls : List (List ℕ)) (of : ℕ) (numbers : List ℕ) (i n : ℕ) (folder : List ℕ) (all : Option Hint) → i < length numbers → n ≡ get_or numbers i n →
+    Some folder ≡ folder_with urls of n → None ≡ hint_in files urls of folder → first_hint files urls of (drop i numbers) ≡ all → first_hint files urls of (drop (i + 1) numbers) ≡ all
+hint_later files urls of numbers i n folder all below is there none so_far =
+    sym (hint_at_index files urls of numbers i n (Some folder) below is there ∙ ap (λ o. option_or o (first_hint files urls of (drop (i + 1) numbers))) (sym none)) ∙ so_far
+
+pub none_with : (files : SiteFiles) (urls : List (List ℕ)) (of : ℕ) (numbers : List ℕ) (i n : ℕ) (all : Option Hint) → i < length numbers → n ≡ get_or numbers i n → None ≡ folder_with urls of n →
+    first_hint files urls of (drop i numbers) ≡ all → None ≡ all
+none_with files urls of numbers i n all below is lacks so_far = sym (hint_at_index files urls of numbers i n None below is lacks) ∙ so_far
 
 pub no_hint : (files : SiteFiles) (urls : List (List ℕ)) (of : ℕ) (numbers : List ℕ) (i : ℕ) (all : Option Hint) → length numbers ≤ i → first_hint files urls of (drop i numbers) ≡ all → None ≡ all
 no_hint files urls of numbers i all past so_far = sym (ap (first_hint files urls of) (drop_all i numbers past)) ∙ so_far
 
-pub hint_chosen : (files : SiteFiles) (urls folders : List (List ℕ)) (counts : Counts) (of n : ℕ) (folder : List ℕ) → folders ≡ folders_to n urls →
-    ((other : List ℕ) → count_at counts other ≡ path_count folders other) → Some folder ≡ often_first of (count_at counts) folders → hint_in files urls of folder ≡ hint_to files urls of n
-hint_chosen files urls folders counts of n folder listed are first =
-    ap (option_and_then (hint_in files urls of)) (first ∙ (λ i. often_first of (λ other. are other i) folders) ∙ ap (λ l. often_first of (path_count l) l) listed)
+-- the first folder by the counts of all
+pub first_folder : (urls folders : List (List ℕ)) (counts : Counts) (of n : ℕ) (found : Option (List ℕ)) → folders ≡ folders_to n urls → ((other : List ℕ) → count_at counts other ≡ path_count folders other) →
+    found ≡ often_first of (count_at counts) folders → found ≡ folder_with urls of n
+first_folder urls folders counts of n found listed are first = first ∙ (λ i. often_first of (λ other. are other i) folders) ∙ ap (λ l. often_first of (path_count l) l) listed
 
-pub hint_lacks : (files : SiteFiles) (urls folders : List (List ℕ)) (counts : Counts) (of n : ℕ) → folders ≡ folders_to n urls → ((other : List ℕ) → count_at counts other ≡ path_count folders other) →
-    None ≡ often_first of (count_at counts) folders → None ≡ hint_to files urls of n
-hint_lacks files urls folders counts of n listed are first =
-    ap (option_and_then (hint_in files urls of)) (first ∙ (λ i. often_first of (λ other. are other i) folders) ∙ ap (λ l. often_first of (path_count l) l) listed)
-
--- the top itself has none
-pub hint_at_top : (files : SiteFiles) (urls : List (List ℕ)) (of : ℕ) (folder top : List ℕ) → top ≡ string_bytes files.site.top → bytes_eq folder top ≡ true → None ≡ hint_in files urls of folder
-hint_at_top files urls of folder top is same = sym (cond-true (bytes_eq folder (string_bytes files.site.top)) _ _ (ap (bytes_eq folder) (sym is) ∙ same))
+-- a URL with which the top begins has none
+pub hint_at_top : (files : SiteFiles) (urls : List (List ℕ)) (of : ℕ) (folder top : List ℕ) → top ≡ string_bytes files.site.top → begins folder top ≡ true → None ≡ hint_in files urls of folder
+hint_at_top files urls of folder top is same = sym (cond-true (begins folder (string_bytes files.site.top)) _ _ (ap (begins folder) (sym is) ∙ same))
 
 -- another URL has the one with its counts
-pub hint_elsewhere : (files : SiteFiles) (urls : List (List ℕ)) (of : ℕ) (folder top : List ℕ) (paths found : ℕ) (hint : Option Hint) → top ≡ string_bytes files.site.top → bytes_eq folder top ≡ false →
-    paths ≡ count_by (begins folder) urls → found ≡ count_by (leads_to_file files folder) urls → hint ≡ hint_with_counts of folder paths found → hint ≡ hint_in files urls of folder
-hint_elsewhere files urls of folder top paths found hint is differ counted lead own =
-    own ∙ (λ i. hint_with_counts of folder (counted i) (lead i)) ∙ sym (cond-false (bytes_eq folder (string_bytes files.site.top)) _ _ (ap (bytes_eq folder) (sym is) ∙ differ))
+pub hint_elsewhere : (files : SiteFiles) (urls : List (List ℕ)) (of : ℕ) (folder top : List ℕ) (paths longer found : ℕ) (hint : Option Hint) → top ≡ string_bytes files.site.top → begins folder top ≡ false →
+    paths ≡ count_by (begins folder) urls → longer ≡ count_by (goes_below folder) urls → found ≡ count_by (leads_to_file files folder) urls → hint ≡ hint_with_counts of folder paths longer found → hint ≡ hint_in files urls of folder
+hint_elsewhere files urls of folder top paths longer found hint is differ counted below lead own =
+    own ∙ (λ i. hint_with_counts of folder (counted i) (below i) (lead i)) ∙ sym (cond-false (begins folder (string_bytes files.site.top)) _ _ (ap (begins folder) (sym is) ∙ differ))
+
+-- ---- the links to other URLs
+
+one_other : (url : List ℕ) (is : Bool) → one_if is + length (cond is [] (before_query url ∷ [])) ≡ 1
+one_other url true = refl
+one_other url false = refl
+
+-- each link begins with the top or is one to another URL
+each_link : (top : List ℕ) (links : List (List ℕ)) → count_by (begins top) links + length (flat_map (other_url top) links) ≡ length links
+each_link top [] = refl
+each_link top (url ∷ links) =
+    omega (arith, each_link top links, one_other url (begins top url), sum_by-cons (λ u. one_if (begins top u)) url links, length-append (other_url top url) (flat_map (other_url top) links))
+
+all_links : (top : List ℕ) (results : List PageResult) → below_count top results + length (other_urls top results) ≡ all_count results
+all_links top [] = refl
+all_links top (r ∷ results) =
+    omega (arith, all_links top results, each_link top (page_links r), sum_by-cons (λ one. count_by (begins top) (page_links one)) r results, sum_by-cons (λ one. length (page_links one)) r results, length-append (page_others top r) (other_urls top results))
+
+pub few_below : (top : List ℕ) (results : List PageResult) (rows : List Broken) (others all below missing found : ℕ) (few : Bool) → all ≡ all_count results → below ≡ all - others → missing ≡ place_count is_page rows →
+    found ≡ below - missing → few ≡ is_few found all → others ≡ length (other_urls top results) → few ≡ are_few_below top results rows
+few_below top results rows others all below missing found few counted left lost kept is own =
+    let each : below_count top results + length (other_urls top results) ≡ all_count results = all_links top results in
+    let same : found ≡ below_count top results - place_count is_page rows = omega (arith, each, counted, left, lost, kept, own) in
+    is ∙ (λ i. is_few (same i) (counted i))
 
 -- fewer than half of the links begin with the top, or at least half
-pub hint_of_few : (files : SiteFiles) (all : List (Bor (List ℕ))) (results : List PageResult) (rows : List Broken) (top : List ℕ) (hint : Option Hint) → top ≡ string_bytes files.site.top →
-    are_few_below top results rows ≡ true → pointed all ≡ link_urls results → hint ≡ first_hint files (pointed all) (length all) (3 ∷ 4 ∷ 5 ∷ 6 ∷ 7 ∷ 8 ∷ []) → hint ≡ link_hint files results rows
-hint_of_few files all results rows top hint is few are own =
-    let test : are_few_below (string_bytes files.site.top) results rows ≡ true = ap (λ t. are_few_below t results rows) (sym is) ∙ few in
-    own
-    ∙ ap (λ n. first_hint files (pointed all) n (3 ∷ 4 ∷ 5 ∷ 6 ∷ 7 ∷ 8 ∷ [])) (sym (length_pointed all))
-    ∙ ap (λ urls. first_hint files urls (length urls) (3 ∷ 4 ∷ 5 ∷ 6 ∷ 7 ∷ 8 ∷ [])) are
-    ∙ sym (cond-true (are_few_below (string_bytes files.site.top) results rows) _ _ test)
+pub hint_of_few : (files : SiteFiles) (all : List (Bor (List ℕ))) (results : List PageResult) (rows : List Broken) (hint : Option Hint) → are_few_below (string_bytes files.site.top) results rows ≡ true → pointed all ≡ link_urls results →
+    hint ≡ hint_of_urls files (pointed all) → hint ≡ link_hint files results rows
+hint_of_few files all results rows hint few are own = own ∙ ap (hint_of_urls files) are ∙ sym (cond-true (are_few_below (string_bytes files.site.top) results rows) _ _ few)
 
-pub hint_of_most : (files : SiteFiles) (results : List PageResult) (rows : List Broken) (top : List ℕ) → top ≡ string_bytes files.site.top → are_few_below top results rows ≡ false → None ≡ link_hint files results rows
-hint_of_most files results rows top is most =
-    let test : are_few_below (string_bytes files.site.top) results rows ≡ false = ap (λ t. are_few_below t results rows) (sym is) ∙ most in
-    sym (cond-false (are_few_below (string_bytes files.site.top) results rows) _ _ test)
+pub hint_of_most : (files : SiteFiles) (results : List PageResult) (rows : List Broken) → are_few_below (string_bytes files.site.top) results rows ≡ false → None ≡ link_hint files results rows
+hint_of_most files results rows most = sym (cond-false (are_few_below (string_bytes files.site.top) results rows) _ _ most)
+
+-- the number of links, as of the references to them
+pub hint_counts : (files : SiteFiles) (urls : List (Bor (List ℕ))) (hint : Option Hint) → hint ≡ first_hint files (pointed urls) (length urls) (3 ∷ 4 ∷ 5 ∷ 6 ∷ 7 ∷ 8 ∷ []) → hint ≡ hint_of_urls files (pointed urls)
+unfolding hint_of_urls
+hint_counts files urls hint own = own ∙ ap (λ n. first_hint files (pointed urls) n (3 ∷ 4 ∷ 5 ∷ 6 ∷ 7 ∷ 8 ∷ [])) (sym (length_pointed urls))
 
 -- ---- a folder on the host
 

@@ -9,7 +9,7 @@ use Rattle.std.specs.Cmp.Lexicographic.{slice_cmp}
 use Rattle.std.specs.Map.{AreApart, IsKeyTest, KeepsOthers, lookup}
 use Rattle.std.specs.Ordering.{is_eq, nat_cmp}
 use Rattle.check_report.specs.declared.value.Place.{Place}
-use Rattle.site_check.specs.Names.{LowerNames, lower_at, name_among}
+use Rattle.site_check.specs.Names.{LowerKeys, lower_at, name_among, one_or_path, only_path}
 use Rattle.site_check.specs.declared.names.Namesakes.{Namesakes}
 use Rattle.site_check.specs.declared.names.Namesakes.TheVariants.{One, Several}
 
@@ -93,12 +93,12 @@ module _ {K X : Type 0} (eq : K → K → Bool) (test : K → Bool) where
   others_stay old new keeps = keeps
 
 -- a change at one name leaves the others
-lower_other : (old new : LowerNames) (name : Vec ℕ Global) (w : Option Namesakes) → tree.Updates (λ x y. slice_cmp nat_cmp x.items y.items) old new name w → (other : List ℕ) →
+lower_other : (old new : LowerKeys) (name : Vec ℕ Global) (w : Option Namesakes) → tree.Updates (λ x y. slice_cmp nat_cmp x.items y.items) old new name w → (other : List ℕ) →
     bytes_eq name.items other ≡ false → lower_at new other ≡ lower_at old other
 lower_other old new name w updates other differ =
     others_stay _ _ _ _ updates.3 _ (λ x y. (eq_by_cmp_equiv nat_list_cmp_total).congr other x.items y.items) (λ k. apart name.items other k.items differ)
 
-pub lower_put : (old new : LowerNames) (name : Vec ℕ Global) (w : Option Namesakes) → tree.Updates (λ x y. slice_cmp nat_cmp x.items y.items) old new name w → (other : List ℕ) →
+pub lower_put : (old new : LowerKeys) (name : Vec ℕ Global) (w : Option Namesakes) → tree.Updates (λ x y. slice_cmp nat_cmp x.items y.items) old new name w → (other : List ℕ) →
     lower_at new other ≡ cond (bytes_eq name.items other) w (lower_at old other)
 lower_put old new name w updates other =
     elim (cases_Bool (bytes_eq name.items other)) [
@@ -133,13 +133,30 @@ none_known front files places pages [] known = refl
 none_known front files places pages (page ∷ []) known = absurd known
 none_known front files places pages (page ∷ other ∷ more) known = absurd known
 
--- those with the name in another case do not count, or only they do
-pub own_count : (front : List ℕ) (files : SiteFiles) (places : List Place) (pages found others : List PageFile) (known : Namesakes) → IsKnown pages found (Some known) →
-    only_name front files places found ≡ name_among front files places found others
-own_count front files places pages [] others known is = absurd is
-own_count front files places pages (page ∷ more) others known is = refl
+-- ---- what is meant by a name
 
-pub others_count : (front : List ℕ) (files : SiteFiles) (places : List Place) (pages found others : List PageFile) → IsKnown pages found None → only_name front files places others ≡ name_among front files places found others
-others_count front files places pages [] others known = refl
-others_count front files places pages (page ∷ []) others known = absurd known
-others_count front files places pages (page ∷ other ∷ more) others known = absurd known
+module _ (front : List ℕ) (files : SiteFiles) (places : List Place) (target : List ℕ) (pages : List PageFile) where
+  -- several have it, so the path decides
+  paths_there : (found : List PageFile) → IsKnown pages found (Some Several) → only_path front files places target ≡ one_or_path front files places target found
+  paths_there [] known = absurd known
+  paths_there (page ∷ []) known = absurd known
+  paths_there (page ∷ other ∷ more) known = refl
+
+  pub paths_count : (found : List PageFile) (known : Namesakes) → known ≡ Several → IsKnown pages found (Some known) → only_path front files places target ≡ one_or_path front files places target found
+  paths_count found known is own = paths_there found (subst (λ k. IsKnown pages found (Some k)) is own)
+
+  -- none has it
+  pub none_meant : (found : List PageFile) → IsKnown pages found None → None ≡ one_or_path front files places target found
+  none_meant [] known = refl
+  none_meant (page ∷ []) known = absurd known
+  none_meant (page ∷ other ∷ more) known = absurd known
+
+  -- those with the name in another case do not count, or only they do
+  pub own_count : (found others : List PageFile) (known : Namesakes) → IsKnown pages found (Some known) → one_or_path front files places target found ≡ name_among front files places target found others
+  own_count [] others known is = absurd is
+  own_count (page ∷ more) others known is = refl
+
+  pub others_count : (found others : List PageFile) → IsKnown pages found None → one_or_path front files places target others ≡ name_among front files places target found others
+  others_count [] others known = refl
+  others_count (page ∷ []) others known = absurd known
+  others_count (page ∷ other ∷ more) others known = absurd known

@@ -1,5 +1,5 @@
 -- The links of pages that have an index.
-use Rattle.site_check.proofs.Prelude.{Page, PageResult, ◌≡◌, ◌∙◌, ℕ, zero, suc, ◌+◌, ◌<◌, ◌≤◌, Bool, true, false, not, ◌&&◌, List, [], ◌∷◌, ◌++◌, length, get_or, take, take_more, Option, Some, None, inl, inr, sym, ap, subst, arith, slice_get, slice_get_within, is_alias}
+use Rattle.site_check.proofs.Prelude.{PageResult, ◌≡◌, ◌∙◌, ℕ, zero, suc, ◌+◌, ◌<◌, ◌≤◌, Bool, true, false, not, ◌&&◌, List, [], ◌∷◌, ◌++◌, length, get_or, take, take_more, Option, Some, None, inl, inr, sym, ap, subst, arith, slice_get, slice_get_within, is_alias}
 use Rattle.std.proofs.Common.{◌⊎◌}
 use Rattle.std.proofs.lemmas.Bool.{and_parts, cases_lt, le-ltb, lt-ltb}
 use Rattle.std.proofs.lemmas.List.{take_all}
@@ -10,7 +10,7 @@ use Rattle.crawl_pages.specs.Pages.{is_found}
 use Rattle.crawl_pages.specs.declared.page.Page.TheVariants.{Found}
 use Rattle.site_files.specs.declared.alias.Alias.{Alias}
 use Rattle.site_check.proofs.Placed.{some_same}
-use Rattle.site_check.specs.Complete.{HasIndices, HasUrlAt, IsIndexed, rises_from}
+use Rattle.site_check.specs.Complete.{HasIndices, IsIndexed, rises_from}
 
 nothing : {X : Type 0} (x : X) → None ≡ Some x → ⊥
 nothing x is = cc

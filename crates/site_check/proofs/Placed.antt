@@ -13,7 +13,11 @@ use Rattle.std.specs.Slice.{IsItemAt}
 use Rattle.std.specs.Borrow.{Bor}
 use Rattle.std.specs.Prelude.{Err, Ok, Result, slice_index_or, if◌then◌else◌, is_some}
 use Rattle.check_report.specs.declared.value.Place.{Place}
-use Rattle.document_links.specs.Places.{ArePlaces, point_at, point_of_place, positions_in, written_in}
+use Rattle.document_links.specs.Encoding.{links_in}
+use Rattle.document_links.specs.LinkUrls.{AreFileLinks, AreUrlsOf, IsUrlOf, query_charset}
+use Rattle.document_links.specs.Rooted.{all_rooted, rooted}
+use Rattle.document_links.specs.Written.{can_write}
+use Rattle.document_links.specs.Places.{point_at, point_of_place, positions_in, written_in}
 use Rattle.document_links.specs.declared.places.TextPlace.{TextPlace}
 use Rattle.document_links.specs.declared.text_kind.TextKind.{TextKind}
 use Rattle.site_check.proofs.LeadsFound.{no_more}
@@ -21,9 +25,9 @@ use Rattle.site_files.specs.Bodies.{contents}
 use Rattle.site_files.specs.Files.{Document}
 use Rattle.site_files.specs.declared.files.SiteFile.{SiteFile}
 use Rattle.site_files.specs.declared.notes.Left.{Left}
-use Rattle.site_check.specs.Located.{IsFileOf, IsFirstPage, IsRowPlace, IsTargetPlace, IsToTarget, Pushes, PushesPlaces, TargetLocation, comes_last, document_of, index_of, is_of, is_to, items_of, link_place, link_places, placed_at, places_from, put_last}
-use Rattle.site_check.specs.Locations.{Location, comes_before, in_row, location_of, text_kind}
-use Rattle.site_check.specs.declared.located.ListedLead.{ListedLead}
+use Rattle.site_check.specs.Located.{AllLead, IsFileOf, IsFirstPage, IsRowPlace, IsTargetPlace, IsToTarget, Pushes, PushesPlaces, TargetLocation, comes_last, document_of, index_of, is_of, is_to, items_of, link_place, link_places, placed_at, places_from, put_last}
+use Rattle.site_check.specs.Locations.{Location, comes_before, in_row, location_of, root_of, text_kind}
+use Rattle.site_check.specs.declared.leads.ListedLead.{ListedLead}
 use Rattle.site_check.specs.declared.located.PageLeads.{PageLeads}
 use Rattle.site_check.specs.declared.located.TargetPlace.{TargetPlace}
 
@@ -93,13 +97,43 @@ same_at : {X Y Z : Type 0} (f : X → Z) (g : Y → Z) (xs : List X) (ys : List 
 same_at f g xs ys k x y same at_x at_y =
     some_same (f x) (g y) (sym (slice_get-map f xs k ∙ ap (λ o. option_map f o) at_x) ∙ ap (λ l. slice_get l k) same ∙ slice_get-map g ys k ∙ ap (λ o. option_map g o) at_y)
 
--- of the places of several links that of one
-pub one_place : (kind : TextKind) (body : List ℕ) (leads : List ListedLead) (places : List TextPlace) (k : ℕ) (one : ListedLead) (place : TextPlace) → ArePlaces kind body (map index_of leads) places →
-    slice_get leads k ≡ Some one → slice_get places k ≡ Some place → ArePlaces kind body (one.lead.index ∷ []) (place ∷ [])
-one_place kind body leads places k one place are at_one at_place =
-    let has = are.has in
+none_is_some : {X : Type 0} (x : X) → None ≡ Some x → ⊥
+none_is_some x is = cc
+
+-- a link below the path of the top, if there is one
+abbrev below : Option (Bor (List ℕ)) → List ℕ → List ℕ
+below None link = link
+below (Some root) link = rooted root.now link
+
+below_all : (root : Option (Bor (List ℕ))) (links : List (List ℕ)) (k : ℕ) (link : List ℕ) → slice_get links k ≡ Some link → slice_get (all_rooted root links) k ≡ Some (below root link)
+below_all None links k link at = at
+below_all (Some root) links k link at = slice_get-map (rooted root.now) links k ∙ ap (λ o. option_map (rooted root.now) o) at
+
+module _ (root : Option (Bor (List ℕ))) (page : List ℕ) (kind : TextKind) (body indices : List ℕ) (places : List TextPlace) (all : List (Option (List ℕ))) (are : AreFileLinks root page kind body indices places all) where
+  -- of the URLs of several links that of one
+  url_at : (links : List (List ℕ)) (urls : List (Option (List ℕ))) (k : ℕ) (link : List ℕ) (url : Option (List ℕ)) → AreUrlsOf (query_charset kind are.charset) page links urls → slice_get links k ≡ Some link → slice_get urls k ≡ Some url →
+      IsUrlOf (can_write (query_charset kind are.charset) link) page link url
+  url_at [] urls k link url own at_link at_url = absurd (none_is_some link at_link)
+  url_at (first ∷ links) [] k link url own at_link at_url = absurd own
+  url_at (first ∷ links) (u ∷ urls) zero link url own at_link at_url =
+      subst (λ x. IsUrlOf (can_write (query_charset kind are.charset) x) page x url) (some_same first link at_link)
+      (subst (IsUrlOf (can_write (query_charset kind are.charset) first) page first) (some_same u url at_url) own.0)
+  url_at (first ∷ links) (u ∷ urls) (suc k) link url own at_link at_url = url_at links urls k link url own.1 at_link at_url
+
+  url_of_one : (top : Option (Bor (List ℕ))) (link : List ℕ) (url : Option (List ℕ)) → IsUrlOf (can_write (query_charset kind are.charset) (below top link)) page (below top link) url →
+      AreUrlsOf (query_charset kind are.charset) page (all_rooted top (link ∷ [])) (url ∷ [])
+  url_of_one None link url own = (own, tt)
+  url_of_one (Some top) link url own = (own, tt)
+
+-- of several links of a file that with one index
+pub one_link : (root : Option (Bor (List ℕ))) (page : List ℕ) (kind : TextKind) (body : List ℕ) (leads : List ListedLead) (places : List TextPlace) (urls : List (Option (List ℕ))) (k : ℕ) (one : ListedLead) (place : TextPlace) (url : Option (List ℕ)) →
+    AreFileLinks root page kind body (map index_of leads) places urls → slice_get leads k ≡ Some one → slice_get places k ≡ Some place → slice_get urls k ≡ Some url → AreFileLinks root page kind body (one.lead.index ∷ []) (place ∷ []) (url ∷ [])
+one_link root page kind body leads places urls k one place url are at_one at_place at_url =
+    let has = are.located in
     let indices = map index_of leads in
     let at_index : slice_get indices k ≡ Some one.lead.index = slice_get-map index_of leads k ∙ ap (λ o. option_map index_of o) at_one in
+    let link_at : ℕ → List ℕ = λ i. slice_index_or (links_in kind are.text) i [] in
+    let at_link : slice_get (map link_at indices) k ≡ Some (link_at one.lead.index) = slice_get-map link_at indices k ∙ ap (λ o. option_map link_at o) at_index in
     record {
       charset = are.charset;
       defined = are.defined;
@@ -109,13 +143,52 @@ one_place kind body leads places k one place are at_one at_place =
       text = are.text;
       decoded = are.decoded;
       ascii = are.ascii;
-      has = record {
+      located = record {
         position = has.position;
         placed = ap (λ p. p ∷ []) (same_at point_of_place (λ index. point_at are.text (has.position index)) places indices k place one.lead.index has.placed at_place at_index);
         positioned = λ is. ap (λ p. p ∷ []) (same_at has.position (λ i. slice_index_or (positions_in kind are.text) i 0) indices indices k one.lead.index one.lead.index (has.positioned is) at_index at_index);
         written = λ is. ap (λ w. w ∷ []) (same_at (λ (p : TextPlace). string_bytes p.written) (written_in kind are.text) places indices k place one.lead.index (has.written is) at_place at_index);
       };
+      lead = λ is none.
+          url_of_one root page kind body indices places urls are root (link_at one.lead.index) url
+          (url_at root page kind body indices places urls are (all_rooted root (map link_at indices)) urls k (below root (link_at one.lead.index)) url (are.lead is none) (below_all root (map link_at indices) k (link_at one.lead.index) at_link) at_url);
     }
+
+-- the URL of a link, which leads to the link's target if this is a missing page
+pub record HasOwn (led_there : Option (List ℕ) → ListedLead → Type 0) (urls : List (Option (List ℕ))) (k : ℕ) (one : ListedLead) : Type 0 where
+  pub url : Option (List ℕ)
+  pub at : slice_get urls k ≡ Some url
+  pub has : led_there url one
+
+pub own_at : (led_there : Option (List ℕ) → ListedLead → Type 0) (urls : List (Option (List ℕ))) (leads : List ListedLead) (k : ℕ) (one : ListedLead) → AllLead led_there urls leads → slice_get leads k ≡ Some one → HasOwn led_there urls k one
+own_at led_there urls [] k one have at = absurd (none_is_some one at)
+own_at led_there [] (first ∷ leads) k one have at = absurd have
+own_at led_there (url ∷ urls) (first ∷ leads) zero one have at = record { url = url; at = refl; has = subst (led_there url) (some_same first one at) have.0 }
+own_at led_there (url ∷ urls) (first ∷ leads) (suc k) one have at = let rest = own_at led_there urls leads k one have.1 at in record { url = rest.url; at = rest.at; has = rest.has }
+
+-- the numbers of one link more
+pub next_number : (led_there : Option (List ℕ) → ListedLead → Type 0) (urls : List (Option (List ℕ))) (leads : List ListedLead) (k : ℕ) (one : ListedLead) (url : Option (List ℕ)) → slice_get leads k ≡ Some one → slice_get urls k ≡ Some url → AllLead led_there urls (take k leads) → led_there url one →
+    AllLead led_there urls (take (suc k) leads)
+next_number led_there urls [] k one url at at_url have has = absurd (none_is_some one at)
+next_number led_there [] (first ∷ leads) k one url at at_url have has = absurd (none_is_some url at_url)
+next_number led_there (own ∷ urls) (first ∷ leads) zero one url at at_url have has =
+    (subst (led_there own) (sym (some_same first one at)) (subst (λ u. led_there u one) (sym (some_same own url at_url)) has), none_left urls)
+  where
+    none_left : (more : List (Option (List ℕ))) → AllLead led_there more []
+    none_left [] = tt
+    none_left (u ∷ more) = tt
+next_number led_there (own ∷ urls) (first ∷ leads) (suc k) one url at at_url have has = (have.0, next_number led_there urls leads k one url at at_url have.1 has)
+
+pub next_at : (led_there : Option (List ℕ) → ListedLead → Type 0) (urls : List (Option (List ℕ))) (leads : List ListedLead) (k : ℕ) (d : ListedLead) (url : Option (List ℕ)) → k < length leads → slice_get urls k ≡ Some url → AllLead led_there urls (take k leads) → led_there url (get_or leads k d) →
+    AllLead led_there urls (take (k + 1) leads)
+next_at led_there urls leads k d url within at_url have has =
+    let one = get_or leads k d in
+    let next : suc k ≡ k + 1 = omega arith in
+    subst (λ n. AllLead led_there urls (take n leads)) next (next_number led_there urls leads k one url (contains_slice_get leads k one within (get_or_default leads k one d within)) at_url have has)
+
+pub no_numbers : (led_there : Option (List ℕ) → ListedLead → Type 0) (urls : List (Option (List ℕ))) → AllLead led_there urls []
+no_numbers led_there [] = tt
+no_numbers led_there (url ∷ urls) = tt
 
 -- ---- the places of all links of a file
 
@@ -163,16 +236,17 @@ each_place P name places n (one ∷ leads) holds =
 zero_more : (k : ℕ) → k ≡ 0 + k
 zero_more k = omega arith
 
-page_placed : (files : SiteFiles) (results : List PageResult) (reads : ℕ → Option (List ℕ) → Type 0) (source : ℕ) (file : Document) (body : List ℕ) (own : List ListedLead) (old new : List TargetLocation) →
-    IsFileOf files results source file → All (λ one. one.lead.source ≡ source) own → reads file.index (Some body) → PushesPlaces file.name (text_kind files.rules.now.styles file.kind) body own old new →
-    Pushes (IsTargetPlace files results reads own) old new
-page_placed files results reads source file body own old new of same read pushed =
+page_placed : (led_there : Option (List ℕ) → ListedLead → Type 0) (files : SiteFiles) (results : List PageResult) (reads : ℕ → Option (List ℕ) → Type 0) (source : ℕ) (url : List ℕ) (file : Document) (body : List ℕ) (own : List ListedLead) (old new : List TargetLocation) →
+    IsFileOf files results source url file → All (λ one. one.lead.source ≡ source) own → reads file.index (Some body) → PushesPlaces led_there (root_of files) url file.name (text_kind files.rules.now.styles file.kind) body own old new →
+    Pushes (IsTargetPlace led_there files results reads own) old new
+page_placed led_there files results reads source url file body own old new of same read pushed =
     let kind = text_kind files.rules.now.styles file.kind in
     record {
       more = places_from file.name pushed.places 0 own;
       is = pushed.is;
-      each = each_place (IsTargetPlace files results reads own) file.name pushed.places 0 own (λ k one place at_one at_place.
+      each = each_place (IsTargetPlace led_there files results reads own) file.name pushed.places 0 own (λ k one place at_one at_place.
           let contains = slice_get_contains own k one at_one in
+          let has = own_at led_there pushed.urls own k one pushed.lead at_one in
           record {
             one = one;
             is_one = contains;
@@ -180,28 +254,34 @@ page_placed files results reads source file body own old new of same read pushed
             is_page = ap (slice_get results) (All-contains (λ (other : ListedLead). other.lead.source ≡ source) own one same contains) ∙ of.is_page;
             name = file.name;
             place = place;
+            own = has.url;
             is_link = record {
               file = file;
               is_file = of.at;
               is_name = refl;
               body = body;
               read = read;
-              is_place = one_place kind body own pushed.places k one place pushed.are at_one (ap (slice_get pushed.places) (zero_more k) ∙ at_place);
+              root = pushed.path;
+              is_root = pushed.is_root;
+              is_place =
+                  subst (λ from. AreFileLinks pushed.path from kind body (one.lead.index ∷ []) (place ∷ []) (has.url ∷ [])) (sym of.is_url)
+                  (one_link pushed.path url kind body own pushed.places pushed.urls k one place has.url pushed.are at_one (ap (slice_get pushed.places) (zero_more k) ∙ at_place) has.at);
             };
+            led = has.has;
             is = refl;
           });
     }
 
 -- as that, of a file that was read into a room
-pub file_placed : (files : SiteFiles) (results : List PageResult) (reads : ℕ → Option (List ℕ) → Type 0) (source : ℕ) (file : SiteFile) (left : Option Left) (room body : List ℕ) (own : List ListedLead) (old new : List TargetLocation) →
-    IsFileOf files results source (document_of file) → All (λ one. one.lead.source ≡ source) own → reads file.index (contents left room) → left ≡ None → body ≡ room →
-    PushesPlaces file.name.now (text_kind files.rules.now.styles file.kind) body own old new → Pushes (IsTargetPlace files results reads own) old new
-file_placed files results reads source file left room body own old new of same read none same_body pushed =
-    page_placed files results reads source (document_of file) body own old new of same (subst (reads file.index) (ap (λ l. contents l room) none ∙ ap (λ b. Some b) (sym same_body)) read) pushed
+pub file_placed : (led_there : Option (List ℕ) → ListedLead → Type 0) (files : SiteFiles) (results : List PageResult) (reads : ℕ → Option (List ℕ) → Type 0) (source : ℕ) (url : List ℕ) (file : SiteFile) (left : Option Left) (room body : List ℕ) (own : List ListedLead) (old new : List TargetLocation) →
+    IsFileOf files results source url (document_of file) → All (λ one. one.lead.source ≡ source) own → reads file.index (contents left room) → left ≡ None → body ≡ room →
+    PushesPlaces led_there (root_of files) url file.name.now (text_kind files.rules.now.styles file.kind) body own old new → Pushes (IsTargetPlace led_there files results reads own) old new
+file_placed led_there files results reads source url file left room body own old new of same read none same_body pushed =
+    page_placed led_there files results reads source url (document_of file) body own old new of same (subst (reads file.index) (ap (λ l. contents l room) none ∙ ap (λ b. Some b) (sym same_body)) read) pushed
 
 -- a link of a page is one of all links
-among_all : (files : SiteFiles) (results : List PageResult) (reads : ℕ → Option (List ℕ) → Type 0) (own leads : List ListedLead) → All (Contains leads) own → (at : TargetLocation) → IsTargetPlace files results reads own at → IsTargetPlace files results reads leads at
-among_all files results reads own leads within at placed =
+among_all : (led_there : Option (List ℕ) → ListedLead → Type 0) (files : SiteFiles) (results : List PageResult) (reads : ℕ → Option (List ℕ) → Type 0) (own leads : List ListedLead) → All (Contains leads) own → (at : TargetLocation) → IsTargetPlace led_there files results reads own at → IsTargetPlace led_there files results reads leads at
+among_all led_there files results reads own leads within at placed =
     record {
       one = placed.one;
       is_one = All-contains (Contains leads) own placed.one within placed.is_one;
@@ -209,15 +289,17 @@ among_all files results reads own leads within at placed =
       is_page = placed.is_page;
       name = placed.name;
       place = placed.place;
+      own = placed.own;
       is_link = placed.is_link;
+      led = placed.led;
       is = placed.is;
     }
 
-pub pages_more : (files : SiteFiles) (results : List PageResult) (reads : ℕ → Option (List ℕ) → Type 0) (leads left : List ListedLead) (page : PageLeads) (old new : List TargetLocation) →
-    IsFirstPage left page → All (Contains leads) left → Pushes (IsTargetPlace files results reads page.own.now) old new → All (IsTargetPlace files results reads leads) old → All (IsTargetPlace files results reads leads) new
-pages_more files results reads leads left page old new first within pushed all =
+pub pages_more : (led_there : Option (List ℕ) → ListedLead → Type 0) (files : SiteFiles) (results : List PageResult) (reads : ℕ → Option (List ℕ) → Type 0) (leads left : List ListedLead) (page : PageLeads) (old new : List TargetLocation) →
+    IsFirstPage left page → All (Contains leads) left → Pushes (IsTargetPlace led_there files results reads page.own.now) old new → All (IsTargetPlace led_there files results reads leads) old → All (IsTargetPlace led_there files results reads leads) new
+pages_more led_there files results reads leads left page old new first within pushed all =
     let own = all_front (Contains leads) page.own.now page.more.now (subst (All (Contains leads)) first.split within) in
-    all_pushed (IsTargetPlace files results reads page.own.now) (IsTargetPlace files results reads leads) old new (among_all files results reads page.own.now leads own) pushed all
+    all_pushed (IsTargetPlace led_there files results reads page.own.now) (IsTargetPlace led_there files results reads leads) old new (among_all led_there files results reads page.own.now leads own) pushed all
 
 pub all_contained : (leads : List ListedLead) → All (Contains leads) leads
 all_contained leads = All-contains_itself leads

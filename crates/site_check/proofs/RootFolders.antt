@@ -5,10 +5,9 @@ use Rattle.std.proofs.lemmas.Bool.{and_parts, not-true}
 use Rattle.std.proofs.lemmas.List.{drop_all}
 use Rattle.std.proofs.lemmas.List.Sums.{sum_by-cons}
 use Rattle.std.specs.Option.{option_and_then, unwrap_or}
-use Rattle.std.proofs.lemmas.Map.Text.{btree_map_updates_str}
 use Rattle.std.specs.BTreeMap as tree
-use Rattle.std.specs.Cmp.Lexicographic.{slice_cmp}
-use Rattle.std.specs.Ordering.{nat_cmp}
+use Rattle.hash_order.specs.HashOrder.{by_hash}
+use Rattle.site_check.proofs.LeadsFound.{put_at}
 use Rattle.site_check.proofs.Namesakes.{some_at}
 use Rattle.site_check.proofs.Outsides.{IsName, first_free, more_name}
 
@@ -88,19 +87,19 @@ root_lacks (b ∷ written) lacks =
 -- ---- the counts
 
 -- a folder that is in a map with one more
-pub count_put : (old new : Counts) (folder : Bor (List ℕ)) (count : ℕ) → tree.Updates (λ x y. slice_cmp nat_cmp x.now y.now) old new folder (Some count) → count ≡ count_at old folder.now + 1 →
-    (other : List ℕ) → count_at new other ≡ one_if (bytes_eq folder.now other) + count_at old other
+pub count_put : (old new : Counts) (folder : List ℕ) (count : ℕ) → tree.Updates by_hash old new folder (Some count) → count ≡ count_at old folder + 1 →
+    (other : List ℕ) → count_at new other ≡ one_if (bytes_eq folder other) + count_at old other
 count_put old new folder count updates is other =
     let at : Option ℕ → ℕ = λ o. unwrap_or o 0 in
-    ap at (btree_map_updates_str folder.now old new (Some count) updates other)
-    ∙ elim (cases_Bool (bytes_eq folder.now other)) [
+    ap at (put_at old new folder (Some count) updates other)
+    ∙ elim (cases_Bool (bytes_eq folder other)) [
       | inl same ↦
-          let own : count_at old folder.now ≡ count_at old other = ap (count_at old) ((bytes_eq-Decides folder.now other).0 same) in
+          let own : count_at old folder ≡ count_at old other = ap (count_at old) ((bytes_eq-Decides folder other).0 same) in
           let one : count ≡ 1 + count_at old other = omega (arith, is, own) in
-          ap at (cond-true (bytes_eq folder.now other) (Some count) _ same) ∙ one ∙ sym (ap (λ b. one_if b + count_at old other) same)
+          ap at (cond-true (bytes_eq folder other) (Some count) _ same) ∙ one ∙ sym (ap (λ b. one_if b + count_at old other) same)
       | inr differ ↦
           let none : count_at old other ≡ 0 + count_at old other = omega arith in
-          ap at (cond-false (bytes_eq folder.now other) (Some count) _ differ) ∙ none ∙ sym (ap (λ b. one_if b + count_at old other) differ)
+          ap at (cond-false (bytes_eq folder other) (Some count) _ differ) ∙ none ∙ sym (ap (λ b. one_if b + count_at old other) differ)
     ]
 
 one_for : (is : Bool) → is ≡ true → one_if is ≡ 1

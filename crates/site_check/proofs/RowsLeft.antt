@@ -89,7 +89,7 @@ unused_seen front entries results links others rows whole all same own =
 
 -- the row of a link that leads out of the site
 abbrev leaving_seen : TargetRow → List LeavingRow
-leaving_seen row = cond (is_leaving row.kind) (record { text = row.target; pages = row.pages; kind = row.kind; folder = row.hint } ∷ []) []
+leaving_seen row = cond (is_leaving row.kind) (record { text = row.target; pages = row.pages; kind = row.kind; folder = row.hint; page = row.same_name } ∷ []) []
 
 pub reported_all : (front : List ℕ) (entries : List (List ℕ)) (scope : Scope) (places : List LinkPlaces) (rooted : Bool) (maps : List MapName) (files : SiteFiles) (results found : List PageResult) (rows : List Broken) (unused_ones : List (List ℕ)) →
     list_any names_file entries ≡ false → AreReported front entries scope places rooted maps files results found rows unused_ones → AreAllRows front entries scope places rooted maps files results found rows unused_ones
@@ -100,7 +100,7 @@ reported_all front entries scope places rooted maps files results found rows unu
       pages = flat_seen (λ (row : TargetRow). if_page row.kind (record { text = row.target; pages = row.pages })) rows whole same ∙ own.all.pages;
       names =
           map_seen (λ (row : TargetRow). row.same_name) rows whole same ∙ own.all.names
-          ∙ sym (map_seen (λ (row : TargetRow). name_for row.kind (same_name front files row.target row.places)) rows whole same);
+          ∙ sym (map_seen (λ (row : TargetRow). name_for (is_leaving row.kind) row.kind (same_name front files row.target row.places) row.same_name) rows whole same);
       hints = flat_seen (λ (row : TargetRow). hints_with row.kind row.hint) rows whole same ∙ own.all.hints;
       invalid = subst (AreInvalid entries _) (sym (flat_seen (λ (row : TargetRow). if_invalid row.kind row.target) rows whole same)) own.all.invalid;
       leaving = flat_seen leaving_seen rows whole same ∙ own.all.leaving;

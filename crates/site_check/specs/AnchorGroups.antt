@@ -7,7 +7,7 @@ use Rattle.site_check.specs.LackedLinks.{lack_of}
 use Rattle.site_check.specs.Lacks.{Anchor, Lack, anchor_cmp, anchor_of, anchor_shown}
 use Rattle.site_check.specs.Located.{listed}
 use Rattle.site_check.specs.declared.leads.Lead.{Lead}
-use Rattle.site_check.specs.declared.located.ListedLead.{ListedLead}
+use Rattle.site_check.specs.declared.leads.ListedLead.{ListedLead}
 use Rattle.site_check.specs.declared.missing_anchors.Anchor as code
 use Rattle.site_check.specs.declared.missing_anchors.AnchorLinks.{AnchorLinks}
 use Rattle.site_check.specs.declared.missing_anchors.MissingAnchor.{MissingAnchor}

@@ -1,18 +1,16 @@
 -- The hint at a missing BASE: paths from the root that begin with a folder which the site does not have.
 use Rattle.std.specs.Prelude.{◌==◌, ◌-◌, ℕ, Bool, false, not, ◌&&◌, ◌||◌, if◌then◌else◌, List, [], ◌∷◌, ◌++◌, length, filter, count_by, nat_le, Option, None, Some, option_and_then, option_map, unwrap_or, string_bytes, bytes_eq}
-use Rattle.std.specs.Borrow.{Bor}
 use Rattle.std.specs.BTreeMap.{BTreeMap, get_by}
 use Rattle.std.specs.Char.{is_ascii_alphanumeric}
-use Rattle.std.specs.Cmp.Lexicographic.{slice_cmp}
 use Rattle.std.specs.List.{flat_map, list_any}
 use Rattle.std.specs.Option.{option_to_list}
-use Rattle.std.specs.Ordering.{nat_cmp}
 use Rattle.check_report.specs.declared.value.BaseHint.{BaseHint}
 use Rattle.check_report.specs.declared.value.Broken.{Broken}
 use Rattle.check_report.specs.declared.value.Place.{Place}
 use Rattle.site_check.specs.Broken.{begins, shown}
 use Rattle.site_check.specs.Names.{is_slash}
 use Rattle.site_check.specs.Totals.{is_page}
+use Rattle.hash_order.specs.HashOrder.{by_hash}
 use Rattle.site_files.specs.Files.{PageFile, pages_of}
 use Rattle.site_files.specs.declared.files.SiteFiles.{SiteFiles}
 
@@ -112,11 +110,11 @@ root_hint_of rooted files rows = if rooted then hint_among files (flat_map row_f
 -- ---- the counts
 
 abbrev pub Counts : Type 0
-Counts = BTreeMap (Bor (List ℕ)) ℕ
+Counts = BTreeMap (List ℕ) ℕ
 
 -- 0 for a folder that was not counted
 abbrev pub count_at : Counts → List ℕ → ℕ
-count_at counts folder = unwrap_or (get_by (λ k. slice_cmp nat_cmp folder k.now) counts) 0
+count_at counts folder = unwrap_or (get_by (λ k. by_hash folder k) counts) 0
 
 abbrev pub one_if : Bool → ℕ
 one_if is = if is then 1 else 0

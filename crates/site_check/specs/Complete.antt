@@ -1,4 +1,4 @@
--- No link to a missing page is left out: its location is in the row of the page.
+-- No link to a missing page or a missing anchor is left out: its location is in the row of the page or the anchor.
 use Rattle.std.specs.Prelude.{◌≡◌, ◌==◌, ◌<◌, ◌%◌, ◌+◌, ◌⊎◌, ℕ, Bool, true, false, not, ◌&&◌, List, [], ◌∷◌, Contains, length, map, nat_lt, Option, Some, slice_get, string_bytes, bytes_eq}
 use Rattle.check_report.specs.declared.value.Broken.{Broken}
 use Rattle.crawl_pages.specs.declared.page.Page.TheVariants.{Found}
@@ -8,13 +8,14 @@ use Rattle.document_links.specs.declared.positions.LinkPlaces.{LinkPlaces}
 use Rattle.site_files.specs.declared.alias.Alias.{Alias}
 use Rattle.site_files.specs.declared.files.SiteFiles.{SiteFiles}
 use Rattle.site_check.specs.Aliases.{is_alias}
+use Rattle.site_check.specs.Anchors.{anchor_text}
 use Rattle.site_check.specs.Broken.{is_place_ignored, shown}
 use Rattle.site_check.specs.Leads.{indices_in, is_reported}
-use Rattle.site_check.specs.Located.{TargetLocation, link_place, page_text}
-use Rattle.site_check.specs.Locations.{EndsAt, IsLinkAt, Location, location_in, location_of}
-use Rattle.site_check.specs.Totals.{is_page}
+use Rattle.site_check.specs.Located.{TargetLocation, link_place, list_of, page_text}
+use Rattle.site_check.specs.Locations.{EndsAt, IsLinkAt, LeadsFromFile, Location, location_in, location_of}
 use Rattle.site_check.specs.declared.linked.Linked.{Linked}
-use Rattle.site_check.specs.declared.located.ListedLead.{ListedLead}
+use Rattle.site_check.specs.declared.leads.ListedLead.{ListedLead}
+use Rattle.site_check.specs.declared.missing_anchors.MissingAnchor.{MissingAnchor}
 
 -- ---- each link to a missing page is in its row
 
@@ -28,20 +29,20 @@ pub record HasPoint (all : List Location) (at : Location) : Type 0 where
   pub is_own : Contains all own
   pub same : is_same_point own at ≡ true
 
--- the row is that of the missing page that is shown with this text
-abbrev pub is_row_of : List ℕ → Broken → Bool
-is_row_of target b = is_page b.kind && bytes_eq (string_bytes b.target) target
+-- the row is that of the target of this list that is shown with this text
+abbrev pub is_row_of : ℕ → List ℕ → Broken → Bool
+is_row_of list target b = list_of b.kind == list && bytes_eq (string_bytes b.target) target
 
 -- such a row has a location there
-pub record IsInRow (rows : List Broken) (target : List ℕ) (at : Location) : Type 0 where
+pub record IsInRow (rows : List Broken) (list : ℕ) (target : List ℕ) (at : Location) : Type 0 where
   pub row : Broken
   pub is_row : Contains rows row
-  pub is_its : is_row_of target row ≡ true
+  pub is_its : is_row_of list target row ≡ true
   pub has : HasPoint (map location_of row.places.items) at
 
 -- so it has, unless an entry of the ignore list matches the location
-abbrev pub IsKept : List (List ℕ) → List Broken → List ℕ → Location → Type 0
-IsKept entries rows target at = (is_place_ignored entries target at.file ≡ true) ⊎ IsInRow rows target at
+abbrev pub IsKept : List (List ℕ) → List Broken → ℕ → List ℕ → Location → Type 0
+IsKept entries rows list target at = (is_place_ignored entries target at.file ≡ true) ⊎ IsInRow rows list target at
 
 -- each URL is that of one result
 pub record AreOnce (results : List PageResult) : Type 0 where
@@ -67,19 +68,21 @@ pub record IsBrokenLink (front : List ℕ) (entries : List (List ℕ)) (aliases 
   pub ends : EndsAt results url one
   pub reported : is_reported front entries one ≡ true
 
--- the link with this number on a page has an index among the links of the page's file, and the location of the link with this index is in a
--- row of the missing page that is shown with this text, unless an entry matches it
-pub record IsLinkKept (entries : List (List ℕ)) (places : List LinkPlaces) (files : SiteFiles) (reads : ℕ → Option (List ℕ) → Type 0) (rows : List Broken) (page : PageResult) (at : ℕ) (target : List ℕ) : Type 0 where
+-- the link with this number on a page has an index among the links of the page's file. The link with this index leads to the missing page,
+-- too, and its location is in a row of this page, unless an entry matches it
+pub record IsLinkKept (front : List ℕ) (entries : List (List ℕ)) (places : List LinkPlaces) (files : SiteFiles) (results : List PageResult) (reads : ℕ → Option (List ℕ) → Type 0) (rows : List Broken) (page : PageResult) (at : ℕ) (one : PageResult) : Type 0 where
   pub index : ℕ
   pub is_index : slice_get (indices_in places page.url) at ≡ Some index
   pub name : List ℕ
   pub place : TextPlace
-  pub is_link : IsLinkAt files reads page index name place
-  pub kept : IsKept entries rows target (location_in name place)
+  pub own : Option (List ℕ)
+  pub is_link : IsLinkAt files reads page index name place own
+  pub from_file : LeadsFromFile results own one
+  pub kept : IsKept entries rows 0 (shown front one.url) (location_in name place)
 
 -- so it is for each link to a missing page. The links of a page have their indices in order, so two links have two indices
 pub record HasAllLinks (front : List ℕ) (entries : List (List ℕ)) (aliases : List Alias) (places : List LinkPlaces) (files : SiteFiles) (results : List PageResult) (reads : ℕ → Option (List ℕ) → Type 0) (rows : List Broken) : Type 0 where
-  pub each : (page : PageResult) (at : ℕ) (one : PageResult) → IsBrokenLink front entries aliases files results page at one → IsLinkKept entries places files reads rows page at (shown front one.url)
+  pub each : (page : PageResult) (at : ℕ) (one : PageResult) → IsBrokenLink front entries aliases files results page at one → IsLinkKept front entries places files results reads rows page at one
   pub in_order : (page : PageResult) (at later : ℕ) (one : PageResult) → IsBrokenLink front entries aliases files results page at one → at < later → (index next : ℕ) → slice_get (indices_in places page.url) at ≡ Some index → slice_get (indices_in places page.url) later ≡ Some next → index < next
 
 -- ---- how it is known
@@ -101,21 +104,24 @@ pub record HasIndices (positions : Bool) (number_of : List ℕ → Option ℕ) (
 abbrev pub is_taken : ℕ → ℕ → ℕ → Bool
 is_taken of rest source = nat_lt 0 of && (source % of == rest)
 
--- the location of a link of this page is one of these
-pub record IsPlaced (files : SiteFiles) (reads : ℕ → Option (List ℕ) → Type 0) (all : List TargetLocation) (one : ListedLead) (page : PageResult) : Type 0 where
+-- the location of a link of this page is one of these, and the link leads to its target if this is a missing page
+pub record IsPlaced (led_there : Option (List ℕ) → ListedLead → Type 0) (files : SiteFiles) (reads : ℕ → Option (List ℕ) → Type 0) (all : List TargetLocation) (one : ListedLead) (page : PageResult) : Type 0 where
   pub name : List ℕ
   pub place : TextPlace
-  pub is_link : IsLinkAt files reads page one.lead.index name place
+  pub own : Option (List ℕ)
+  pub is_link : IsLinkAt files reads page one.lead.index name place own
+  pub led : led_there own one
   pub is_in : Contains all (link_place name one place)
 
 -- so it is for the page that has the link
-pub record HasPlace (files : SiteFiles) (results : List PageResult) (reads : ℕ → Option (List ℕ) → Type 0) (all : List TargetLocation) (one : ListedLead) : Type 0 where
-  pub placed : (page : PageResult) → slice_get results one.lead.source ≡ Some page → IsPlaced files reads all one page
+pub record HasPlace (led_there : Option (List ℕ) → ListedLead → Type 0) (files : SiteFiles) (results : List PageResult) (reads : ℕ → Option (List ℕ) → Type 0) (all : List TargetLocation) (one : ListedLead) : Type 0 where
+  pub placed : (page : PageResult) → slice_get results one.lead.source ≡ Some page → IsPlaced led_there files reads all one page
 
 -- the same, if the thread with the number `rest` reads the file
-pub record HasTaken (files : SiteFiles) (results : List PageResult) (reads : ℕ → Option (List ℕ) → Type 0) (of rest : ℕ) (all : List TargetLocation) (one : ListedLead) : Type 0 where
-  pub has : is_taken of rest one.lead.source ≡ true → HasPlace files results reads all one
+pub record HasTaken (led_there : Option (List ℕ) → ListedLead → Type 0) (files : SiteFiles) (results : List PageResult) (reads : ℕ → Option (List ℕ) → Type 0) (of rest : ℕ) (all : List TargetLocation) (one : ListedLead) : Type 0 where
+  pub has : is_taken of rest one.lead.source ≡ true → HasPlace led_there files results reads all one
 
--- the location of a link to a missing page is in the row of this page, unless an entry matches it
-pub record IsKeptPlace (front : List ℕ) (entries : List (List ℕ)) (linked : List Linked) (rows : List Broken) (at : TargetLocation) : Type 0 where
-  pub kept : at.list ≡ 0 → (one : Linked) → slice_get linked at.number ≡ Some one → IsKept entries rows (page_text front one) at.at
+-- the location of a link to a missing page or a missing anchor is in the row of this page or this anchor, unless an entry matches it
+pub record IsKeptPlace (front : List ℕ) (entries : List (List ℕ)) (linked : List Linked) (anchors : List MissingAnchor) (rows : List Broken) (at : TargetLocation) : Type 0 where
+  pub kept : at.list ≡ 0 → (one : Linked) → slice_get linked at.number ≡ Some one → IsKept entries rows 0 (page_text front one) at.at
+  pub anchor : at.list ≡ 1 → (one : MissingAnchor) → slice_get anchors at.number ≡ Some one → IsKept entries rows 1 (anchor_text one) at.at

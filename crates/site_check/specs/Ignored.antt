@@ -9,7 +9,7 @@ use Rattle.check_report.specs.declared.value.Kind.{Kind}
 use Rattle.check_report.specs.declared.value.Kind.TheVariants.{NoAnchor}
 use Rattle.crawl_pages.specs.Pages.{is_missing}
 use Rattle.crawl_pages.specs.declared.page.PageResult.{PageResult}
-use Rattle.site_check.specs.Broken.{Row, begins, file_in, fits, is_ignored, matches, names_file, shown, target_in}
+use Rattle.site_check.specs.Broken.{Row, begins, file_in, fits, is_ignored, matches, matches_target, names_file, shown, target_in}
 
 -- a text that is empty or begins with `#` is no entry
 abbrev pub has_no_entry : List ℕ → Bool
@@ -44,6 +44,10 @@ is_used texts rows entry = if names_file entry then list_any (matches_row (file_
 
 abbrev pub unused : List (List ℕ) → List (List ℕ) → List Broken → List (List ℕ)
 unused entries texts rows = filter (λ entry. not (is_used texts rows entry)) entries
+
+-- those of entries that match none of these documents that no sitemap lists
+abbrev pub unused_by : List (List ℕ) → List (List ℕ) → List (List ℕ)
+unused_by documents entries = filter (λ entry. not (list_any (matches_target entry) documents)) entries
 
 -- the missing pages, as they are reported
 abbrev pub text_at : List ℕ → PageResult → List (List ℕ)

@@ -1,6 +1,7 @@
 -- The links that lead out of a site: to URLs on its host that are not below its top.
-use Rattle.std.specs.Prelude.{◌==◌, ◌+◌, ℕ, Bool, true, false, not, ◌&&◌, if◌then◌else◌, List, [], ◌∷◌, ◌++◌, codes, filter, map, Option, None, Some, option_map, string_bytes}
+use Rattle.std.specs.Prelude.{◌==◌, ◌+◌, ℕ, Bool, true, false, not, ◌&&◌, if◌then◌else◌, List, [], ◌∷◌, ◌++◌, codes, filter, map, Option, None, Some, option_map, string_bytes, bytes_eq, drop, length}
 use Rattle.std.specs.List.{flat_map}
+use Rattle.std.specs.Option.{option_and_then}
 use Rattle.check_report.specs.declared.value.Broken.{Broken}
 use Rattle.check_report.specs.declared.value.Kind.{Kind}
 use Rattle.check_report.specs.declared.value.Kind.TheVariants.{Leaves, OutsideBase, NotInMap}
@@ -12,6 +13,9 @@ use Rattle.site_check.specs.Maps.{folder_of}
 use Rattle.site_check.specs.Totals.{is_leaving}
 use Rattle.site_check.specs.declared.input.MapName.{MapName}
 use Rattle.site_check.specs.declared.outside.Outside.{Outside}
+use Rattle.site_files.specs.Entries.{entry_at}
+use Rattle.site_files.specs.Pages.{found_file}
+use Rattle.site_files.specs.Server.{before_query}
 use Rattle.site_files.specs.declared.files.SiteFiles.{SiteFiles}
 
 -- ---- which URLs are outside
@@ -56,19 +60,47 @@ outside_text rooted files url = if rooted then path_from (string_bytes files.sit
 abbrev pub outside_texts : Bool → SiteFiles → List PageResult → List (List ℕ)
 outside_texts rooted files found = map (λ r. outside_text rooted files r.url) (outside_of files found)
 
+-- ---- which page may be meant
+
+-- the page at this URL, if a file has it
+abbrev pub page_of_file : SiteFiles → List ℕ → Option (List ℕ)
+page_of_file files url = option_map (λ file. url) (found_file (entry_at files.pages url))
+
+-- what follows the front of a URL, if it begins with that
+abbrev pub after_front : List ℕ → List ℕ → Option (List ℕ)
+after_front front url = if begins front url then Some (drop (length front) url) else None
+
+abbrev pub with_slash : List ℕ → List ℕ
+with_slash text = text ++ 47 ∷ []
+
+-- the page that has the same path below the top as this URL has below the host
+abbrev pub page_at_path : SiteFiles → List ℕ → Option (List ℕ)
+page_at_path files url = option_and_then (λ path. page_of_file files (string_bytes files.site.top ++ path)) (after_front (with_slash (string_bytes files.site.origin)) url)
+
+-- the top, if this URL lacks only its last slash, and otherwise that page
+abbrev pub page_below : SiteFiles → List ℕ → Option (List ℕ)
+page_below files url =
+    if bytes_eq (with_slash (before_query url)) (string_bytes files.site.top) then Some (with_slash (before_query url)) else page_at_path files (before_query url)
+
+-- this is reported only of links that lead outside the URL of the site, if that is known
+abbrev pub page_for : Kind → Option (List ℕ) → Option (List ℕ)
+page_for OutsideBase page = page
+page_for _ page = None
+
 -- ---- the rows
 
--- the row of a URL: its text, how many pages link to it, its kind, and the folder in which it was looked up
+-- the row of a URL: its text, how many pages link to it, its kind, the folder in which it was looked up, and the page that may be meant
 pub record LeavingRow : Type 0 where
   pub text : List ℕ
   pub pages : ℕ
   pub kind : Kind
   pub folder : Option (List ℕ)
+  pub page : Option (List ℕ)
 
 -- a row is one of such a link by its kind
 abbrev pub leaving_row_in : Broken → List LeavingRow
 leaving_row_in b =
-    if is_leaving b.kind then record { text = string_bytes b.target; pages = b.pages; kind = b.kind; folder = option_map string_bytes b.hint } ∷ [] else []
+    if is_leaving b.kind then record { text = string_bytes b.target; pages = b.pages; kind = b.kind; folder = option_map string_bytes b.hint; page = option_map string_bytes b.same_name } ∷ [] else []
 
 abbrev pub leaving_in : List Broken → List LeavingRow
 leaving_in all = flat_map leaving_row_in all
@@ -79,12 +111,12 @@ leaving_kind rooted (Some folder) = NotInMap
 leaving_kind true None = Leaves
 leaving_kind false None = OutsideBase
 
-abbrev pub leaving_row : List ℕ → ℕ → Bool → Option (List ℕ) → LeavingRow
-leaving_row text pages rooted folder = record { text = text; pages = pages; kind = leaving_kind rooted folder; folder = folder }
+abbrev pub leaving_row : List ℕ → ℕ → Bool → Option (List ℕ) → Option (List ℕ) → LeavingRow
+leaving_row text pages rooted folder page = record { text = text; pages = pages; kind = leaving_kind rooted folder; folder = folder; page = page_for (leaving_kind rooted folder) page }
 
 -- a URL and how many pages link to it, as in a row
 abbrev pub outside_row : Bool → List MapName → SiteFiles → Linked → LeavingRow
-outside_row rooted maps files l = leaving_row (outside_text rooted files l.result.url) l.pages rooted (folder_of maps l.result.url)
+outside_row rooted maps files l = leaving_row (outside_text rooted files l.result.url) l.pages rooted (folder_of maps l.result.url) (page_below files l.result.url)
 
 -- those of the results outside the site, in order, each with the number of results that link to it
 abbrev pub outside_linked : Bool → List MapName → SiteFiles → List PageResult → List PageResult → List LeavingRow
@@ -111,7 +143,7 @@ outside_targets entries number (one ∷ more) = to_number one.linked.result.now.
 -- ---- how they are found
 
 abbrev pub outside_at : Outside → LeavingRow
-outside_at one = record { text = string_bytes one.text; pages = one.linked.pages; kind = one.kind; folder = option_map (λ f. f.now) one.folder }
+outside_at one = record { text = string_bytes one.text; pages = one.linked.pages; kind = one.kind; folder = option_map (λ f. f.now) one.folder; page = option_map string_bytes one.page }
 
 abbrev pub shown_at : Outside → List ℕ
 shown_at one = string_bytes one.text

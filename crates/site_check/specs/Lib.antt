@@ -9,6 +9,7 @@ pub mod Hints
 pub mod Ignored
 pub mod Invalid
 pub mod LackedLinks
+pub mod LackedPlaces
 pub mod Lacks
 pub mod Leads
 pub mod Leaving

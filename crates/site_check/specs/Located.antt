@@ -1,11 +1,12 @@
 -- How the locations of links are found: in their files, and for the rows of their targets.
-use Rattle.std.specs.Prelude.{◌≡◌, ◌==◌, ◌+◌, ◌<◌, ℕ, zero, suc, Bool, true, false, ◌&&◌, if◌then◌else◌, List, [], ◌∷◌, ◌++◌, All, Contains, length, map, Option, Some, None, Result, Ok, Err, Vec, slice_get, string_bytes}
+use Rattle.std.specs.Prelude.{◌≡◌, ◌==◌, ◌+◌, ◌<◌, ℕ, zero, suc, Bool, true, false, ◌&&◌, if◌then◌else◌, List, [], ◌∷◌, ◌++◌, All, Contains, length, map, option_map, Option, Some, None, Result, Ok, Err, Vec, slice_get, string_bytes}
+use Rattle.std.specs.Borrow.{Bor}
 use Rattle.std.specs.declared.alloc.Global.{Global}
 use Rattle.check_report.specs.declared.value.Broken.{Broken}
 use Rattle.check_report.specs.declared.value.Kind.{Kind}
 use Rattle.check_report.specs.declared.value.Kind.TheVariants as row
 use Rattle.crawl_pages.specs.declared.page.PageResult.{PageResult}
-use Rattle.document_links.specs.Places.{ArePlaces}
+use Rattle.document_links.specs.LinkUrls.{AreFileLinks}
 use Rattle.document_links.specs.declared.places.TextPlace.{TextPlace}
 use Rattle.document_links.specs.declared.text_kind.TextKind.{TextKind}
 use Rattle.site_files.specs.Files.{Document, site_file}
@@ -15,11 +16,11 @@ use Rattle.site_check.specs.Anchors.{anchor_text}
 use Rattle.site_check.specs.Broken.{shown}
 use Rattle.site_check.specs.Invalid.{text_of}
 use Rattle.site_check.specs.Leaving.{shown_at}
-use Rattle.site_check.specs.Locations.{IsFileAt, IsLinkAt, Location, ascends, comes_before, in_row, location_in, location_of}
+use Rattle.site_check.specs.Locations.{IsFileAt, IsLinkAt, LeadsFromFile, Location, ascends, comes_before, in_row, location_in, location_of}
 use Rattle.site_check.specs.declared.invalid.InvalidText.{InvalidText}
 use Rattle.site_check.specs.declared.leads.Lead.{Lead}
 use Rattle.site_check.specs.declared.linked.Linked.{Linked}
-use Rattle.site_check.specs.declared.located.ListedLead.{ListedLead}
+use Rattle.site_check.specs.declared.leads.ListedLead.{ListedLead}
 use Rattle.site_check.specs.declared.located.PageLeads.{PageLeads}
 use Rattle.site_check.specs.declared.located.TargetPlace.{TargetPlace}
 use Rattle.site_check.specs.declared.missing_anchors.MissingAnchor.{MissingAnchor}
@@ -30,9 +31,10 @@ use Rattle.site_check.specs.declared.outside.Outside.{Outside}
 abbrev pub document_of : SiteFile → Document
 document_of file = site_file file.index file.kind file.name.now
 
--- the file is that of the result with this number
-pub record IsFileOf (files : SiteFiles) (results : List PageResult) (source : ℕ) (file : Document) : Type 0 where
+-- the file is that of the result with this number and this URL
+pub record IsFileOf (files : SiteFiles) (results : List PageResult) (source : ℕ) (url : List ℕ) (file : Document) : Type 0 where
   pub page : PageResult
+  pub is_url : page.url ≡ url
   pub is_page : slice_get results source ≡ Some page
   pub at : IsFileAt files page.url file
 
@@ -98,21 +100,37 @@ pub record Pushes {X : Type 0} (P : X → Type 0) (old new : List X) : Type 0 wh
   pub is : new ≡ old ++ more
   pub each : All P more
 
--- the locations of these links in a file are pushed
-pub record PushesPlaces (name : List ℕ) (kind : TextKind) (body : List ℕ) (leads : List ListedLead) (old new : List TargetLocation) : Type 0 where
+-- a link with this URL leads to the missing page that is its target. Nothing is stated of links to other targets
+abbrev pub LeadsAsSaid : List PageResult → List PageResult → Option (List ℕ) → ListedLead → Type 0
+LeadsAsSaid results missing url one = one.list ≡ 0 → (target : PageResult) → slice_get missing one.lead.number ≡ Some target → LeadsFromFile results url target
+
+-- so it is for each of these links, which have these URLs
+abbrev pub AllLead : (Option (List ℕ) → ListedLead → Type 0) → List (Option (List ℕ)) → List ListedLead → Type 0
+AllLead led_there urls [] = Unit {0}
+AllLead led_there [] (one ∷ leads) = ⊥
+AllLead led_there (url ∷ urls) (one ∷ leads) = led_there url one × AllLead led_there urls leads
+
+-- the locations of these links in a file are pushed, and the links lead to their targets
+pub record PushesPlaces (led_there : Option (List ℕ) → ListedLead → Type 0) (root : Option (List ℕ)) (page name : List ℕ) (kind : TextKind) (body : List ℕ) (leads : List ListedLead) (old new : List TargetLocation) : Type 0 where
   pub places : List TextPlace
-  pub are : ArePlaces kind body (map index_of leads) places
+  pub urls : List (Option (List ℕ))
+  pub path : Option (Bor (List ℕ))
+  pub is_root : option_map (λ p. p.now) path ≡ root
+  pub are : AreFileLinks path page kind body (map index_of leads) places urls
+  pub lead : AllLead led_there urls leads
   pub is : new ≡ old ++ places_from name places 0 leads
 
 -- the location is that of one of these links, in the file of the result that has it
-pub record IsTargetPlace (files : SiteFiles) (results : List PageResult) (reads : ℕ → Option (List ℕ) → Type 0) (leads : List ListedLead) (at : TargetLocation) : Type 0 where
+pub record IsTargetPlace (led_there : Option (List ℕ) → ListedLead → Type 0) (files : SiteFiles) (results : List PageResult) (reads : ℕ → Option (List ℕ) → Type 0) (leads : List ListedLead) (at : TargetLocation) : Type 0 where
   pub one : ListedLead
   pub is_one : Contains leads one
   pub page : PageResult
   pub is_page : slice_get results one.lead.source ≡ Some page
   pub name : List ℕ
   pub place : TextPlace
-  pub is_link : IsLinkAt files reads page one.lead.index name place
+  pub own : Option (List ℕ)
+  pub is_link : IsLinkAt files reads page one.lead.index name place own
+  pub led : led_there own one
   pub is : at ≡ link_place name one place
 
 -- ---- the locations of a row

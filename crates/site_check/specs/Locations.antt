@@ -1,5 +1,6 @@
 -- The locations in the rows of a check: those of links, in the files of the pages that have them.
 use Rattle.std.specs.Prelude.{◌≡◌, ◌==◌, ◌⊎◌, ℕ, Bool, true, ◌&&◌, ◌||◌, if◌then◌else◌, List, [], ◌∷◌, All, Contains, map, nat_lt, Option, Some, None, option_map, slice_get, string_bytes, bytes_eq}
+use Rattle.std.specs.Borrow.{Bor}
 use Rattle.std.specs.Cmp.Lexicographic.{slice_cmp}
 use Rattle.std.specs.Ordering.{is_lt, nat_cmp}
 use Rattle.check_report.specs.declared.value.Broken.{Broken}
@@ -9,7 +10,7 @@ use Rattle.check_report.specs.declared.value.Place.{Place}
 use Rattle.crawl_pages.specs.Pages.{is_missing}
 use Rattle.crawl_pages.specs.declared.page.Page.TheVariants.{Found, Moved}
 use Rattle.crawl_pages.specs.declared.page.PageResult.{PageResult}
-use Rattle.document_links.specs.Places.{ArePlaces}
+use Rattle.document_links.specs.LinkUrls.{AreFileLinks}
 use Rattle.document_links.specs.declared.places.TextPlace.{TextPlace}
 use Rattle.document_links.specs.declared.positions.LinkPlaces.{LinkPlaces}
 use Rattle.document_links.specs.declared.text_kind.TextKind.{TextKind}
@@ -17,6 +18,7 @@ use Rattle.document_links.specs.declared.text_kind.TextKind.TheVariants as text
 use Rattle.html_links.specs.declared.context.Syntax.TheVariants as syntax
 use Rattle.site_files.specs.Entries.{IsEntryAt}
 use Rattle.site_files.specs.Files.{Document, document_at}
+use Rattle.site_files.specs.Server.{after_front}
 use Rattle.site_files.specs.declared.files.SiteFiles.{SiteFiles}
 use Rattle.site_files.specs.declared.kinds.FileKind.{FileKind}
 use Rattle.site_files.specs.declared.kinds.FileKind.TheVariants.{Html, Xml, Svg, Style, Feed, UrlList, Unknown}
@@ -91,15 +93,21 @@ pub record IsFileAt (files : SiteFiles) (url : List ℕ) (file : Document) : Typ
   pub is_page : IsEntryAt files.pages url number
   pub is_file : document_at files number ≡ Some file
 
--- the link with this index among the links of a file is at this place of the file's text. The file is that of a page, and `reads` is what
--- it can contain
-pub record IsLinkAt (files : SiteFiles) (reads : ℕ → Option (List ℕ) → Type 0) (page : PageResult) (index : ℕ) (name : List ℕ) (place : TextPlace) : Type 0 where
+-- the path of the top, if absolute paths are below it
+abbrev pub root_of : SiteFiles → Option (List ℕ)
+root_of files = if files.rules.now.rooted then after_front (string_bytes files.site.origin) (string_bytes files.site.top) else None
+
+-- the link with this index among the links of a file is at this place of the file's text, and has this URL on the file's page. `reads` is
+-- what the file can contain
+pub record IsLinkAt (files : SiteFiles) (reads : ℕ → Option (List ℕ) → Type 0) (page : PageResult) (index : ℕ) (name : List ℕ) (place : TextPlace) (url : Option (List ℕ)) : Type 0 where
   pub file : Document
   pub is_file : IsFileAt files page.url file
   pub is_name : file.name ≡ name
   pub body : List ℕ
   pub read : reads file.index (Some body)
-  pub is_place : ArePlaces (text_kind files.rules.now.styles file.kind) body (index ∷ []) (place ∷ [])
+  pub root : Option (Bor (List ℕ))
+  pub is_root : option_map (λ path. path.now) root ≡ root_of files
+  pub is_place : AreFileLinks root page.url (text_kind files.rules.now.styles file.kind) body (index ∷ []) (place ∷ []) (url ∷ [])
 
 -- ---- the targets of links
 
@@ -112,24 +120,35 @@ pub record HasLink (places : List LinkPlaces) (page : PageResult) (url : List �
   pub is_link : slice_get links at ≡ Some url
   pub is_index : slice_get (indices_in places page.url) at ≡ Some index
 
--- a link to the URL leads to the page of this result, directly or by a redirect
-abbrev pub EndsAt : List PageResult → List ℕ → PageResult → Type 0
-EndsAt results url one = (url ≡ one.url) ⊎ Contains results (record { url = url; page = Moved (Some one.url) })
+-- a link to the URL leads to the page at another, directly or by a redirect
+abbrev pub EndsAtUrl : List PageResult → List ℕ → List ℕ → Type 0
+EndsAtUrl results url to = (url ≡ to) ⊎ Contains results (record { url = url; page = Moved (Some to) })
 
--- the link leads to a missing page that a row reports with this text
-pub record LeadsToPage (front : List ℕ) (places : List LinkPlaces) (results : List PageResult) (target : List ℕ) (page : PageResult) (index : ℕ) : Type 0 where
+-- the other URL is that of this result
+abbrev pub EndsAt : List PageResult → List ℕ → PageResult → Type 0
+EndsAt results url one = EndsAtUrl results url one.url
+
+-- the link that has this URL in the file leads to the page of this result, directly or by a redirect
+pub record LeadsFromFile (results : List PageResult) (own : Option (List ℕ)) (one : PageResult) : Type 0 where
+  pub url : List ℕ
+  pub is_url : own ≡ Some url
+  pub ends : EndsAt results url one
+
+-- the link leads to a missing page that a row reports with this text, by the crawl's link and by the URL that it has in the file
+pub record LeadsToPage (front : List ℕ) (places : List LinkPlaces) (results : List PageResult) (target : List ℕ) (page : PageResult) (index : ℕ) (own : Option (List ℕ)) : Type 0 where
   pub url : List ℕ
   pub link : HasLink places page url index
   pub one : PageResult
   pub is_one : Contains results one
   pub missing : is_missing one.page ≡ true
   pub ends : EndsAt results url one
+  pub from_file : LeadsFromFile results own one
   pub is_target : target ≡ shown front one.url
 
 -- the link leads to what a row of this kind reports. This is known of missing pages only
-abbrev pub LeadsTo : List ℕ → List LinkPlaces → List PageResult → Kind → List ℕ → PageResult → ℕ → Type 0
-LeadsTo front places results row.NoPage target page index = LeadsToPage front places results target page index
-LeadsTo front places results _ target page index = Unit {0}
+abbrev pub LeadsTo : List ℕ → List LinkPlaces → List PageResult → Kind → List ℕ → PageResult → ℕ → Option (List ℕ) → Type 0
+LeadsTo front places results row.NoPage target page index own = LeadsToPage front places results target page index own
+LeadsTo front places results _ target page index own = Unit {0}
 
 -- ---- rows
 
@@ -138,10 +157,11 @@ pub record IsRowLink (front : List ℕ) (places : List LinkPlaces) (files : Site
   pub page : PageResult
   pub is_page : Contains results page
   pub index : ℕ
-  pub leads : LeadsTo front places results kind target page index
+  pub own : Option (List ℕ)
+  pub leads : LeadsTo front places results kind target page index own
   pub name : List ℕ
   pub place : TextPlace
-  pub is_link : IsLinkAt files reads page index name place
+  pub is_link : IsLinkAt files reads page index name place own
   pub is : at ≡ in_row target (location_in name place)
 
 -- so is each location of the row. They are in order, each once

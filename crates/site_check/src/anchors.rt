@@ -20,7 +20,8 @@ ghost use Rattle.site_check.specs.Anchors.{anchor_text};
 ghost use Rattle.site_check.specs.RowMeanings.{rows_in};
 
 use crate::ignored::is_ignored;
-use crate::located::{ANCHORS, TargetPlace, is_taken, row_places};
+use crate::leads::ANCHORS;
+use crate::located::{TargetPlace, is_taken, row_places};
 use crate::missing_anchors::{Anchor, MissingAnchor, MissingAnchorLink, sort_by_anchor};
 use crate::site_pages::{DocumentUrl, Pages};
 use check_report::{Broken, Kind, Place};

@@ -10,6 +10,7 @@ use crate::shown::{is_below, shown};
 use crate::totals::is_page;
 use check_report::{BaseHint, Broken, Place};
 use crawl_pages::NoMemory;
+use hash_order::HashedText;
 use site_files::SiteFiles;
 use std::alloc::Global;
 use std::collections::BTreeMap;
@@ -162,7 +163,7 @@ fn is_mark(byte: u8) -> bool
 }
 
 /// The numbers of paths by their first folders.
-pub(crate) type PathCounts<'a> = BTreeMap<&'a [u8], u64>;
+pub(crate) type PathCounts<'a> = BTreeMap<HashedText<'a>, u64>;
 
 /// The hint, if at least half and at least two of the paths have the same first folder, and the site does not have that.
 #[tactic(auto, using(crate::proofs::RootFolders::hint_lacks))]
@@ -204,7 +205,7 @@ pub(crate) fn count_path<'a>(folder: &'a str, counts: &mut PathCounts<'a>) -> Re
     ensures { OnOk result (count_at counts.old folder.now + 1 < 2 ^ 64 → (other : List ℕ) → count_at counts.new other ≡ one_if (bytes_eq folder.now other) + count_at counts.old other) }
 {
     let count = count_at(counts, folder).saturating_add(1);
-    counts.insert(folder.as_bytes(), count)?;
+    counts.insert(HashedText::from(folder), count)?;
     Ok(())
 }
 
@@ -212,7 +213,7 @@ pub(crate) fn count_path<'a>(folder: &'a str, counts: &mut PathCounts<'a>) -> Re
 pub(crate) fn count_at<'a>(counts: &PathCounts<'a>, folder: &'a str) -> u64
     ensures { result ≡ count_at counts.now folder.now }
 {
-    counts.get(&folder.as_bytes()).copied().unwrap_or(0)
+    counts.get(&HashedText::from(folder)).copied().unwrap_or(0)
 }
 
 /// The first folder that at least half and at least two of the paths have.

@@ -11,6 +11,7 @@ ghost use Rattle.site_check.specs.Hints.{hints_at, hints_in};
 ghost use Rattle.site_check.specs.Ignored.{not_ignored, anchors_in, anchors_left, text_at, unused};
 ghost use Rattle.site_check.specs.Invalid.{AreTexts, invalid_rows_in, row_of, text_of, texts_if};
 ghost use Rattle.site_check.specs.LackedLinks.{lack_of};
+ghost use Rattle.site_check.specs.LackedPlaces.{HasAllLacks, HasLackLeads};
 ghost use Rattle.site_check.specs.Lacks.{AreAnchors, AreLacks, is_any};
 ghost use Rattle.site_check.specs.Leads.{indices_in, leads_from, number_in, targets_of};
 ghost use Rattle.site_check.specs.Leaving.{leaving_in, outside_at, outside_linked, row_at, shown_at};
@@ -29,17 +30,17 @@ ghost use Rattle.site_check.specs.Worst.{file_links, worst_of};
 
 use crate::anchors::push_anchors;
 use crate::check_error::CheckError;
-use crate::complete::has_all_places;
+use crate::complete::{Targets, has_all_places};
 use crate::file_entries::leave_out;
 use crate::ignored::unused;
 use crate::indexed::has_indices;
 use crate::input::CheckInput;
 use crate::invalid::{InvalidText, invalid_texts, push_texts};
-use crate::leads::{Lead, Maps, link_indices, targets};
+use crate::leads::{ANCHORS, Lead, ListedLead, Maps, PAGES, TEXTS, URLS, link_indices, targets};
 use crate::leaving::{outside_leads, outside_urls, push_outside};
 use crate::link_base::base_hint;
 use crate::linked::{Linked, linked_results};
-use crate::located::{ANCHORS, ListedLead, PAGES, TEXTS, TargetPlace, URLS};
+use crate::located::TargetPlace;
 use crate::missing_anchors::{MissingAnchor, MissingAnchorLink, missing_anchors, sort_by_anchor};
 use crate::names::{Named, lower_names_of, names_of};
 use crate::outside::Outside;
@@ -109,7 +110,7 @@ impl Checked {
 /// count links and find those to missing pages, or one thread if the rules name fewer than four.
 ///
 /// # Errors
-/// `FileUnread`, `LinkLost`, `NoMemory`.
+/// `FileUnread`, `FileChanged`, `LinkLost`, `NoMemory`.
 #[tactic(auto, using(crate::proofs::AllRows::ways_of_all))]
 pub fn check_site<'f, R: Threads + Sync, B: FileBytes + Sync>(
     rt: &R,
@@ -129,13 +130,17 @@ pub fn check_site<'f, R: Threads + Sync, B: FileBytes + Sync>(
     // to which a link of a found page leads and that the document at its target lacks, each once and in the order of URLs and fragments,
     // with the number of results that have such a link, and without those that an entry matches.
     ensures anchors { IfOk result (λ checked. AreInOrder input.entry.anchors.now input.entry.aliases.now results.now → ReportsAnchors input.entry.front.now (map string_bytes input.entry.ignores.now) input.entry.anchors.now input.entry.aliases.now files.now results.now checked.broken.items) }
-    // Each location of a row is that of a link in what was read of the file of a page. If the row reports a missing page, the link leads to
-    // it, directly or by a redirect.
+    // Each location of a row is that of a link in what was read of the file of a page. If the row reports a missing page, the page links to
+    // it, directly or by a redirect, and so does the link in the file, by the URL that `indexed_links` finds for it.
     ensures places { IfOk result (λ checked. All (IsLocated input.entry.front.now input.entry.places.now files.now results.now (B.reads bytes.now)) checked.broken.items) }
     // No link to a missing page is left out. If each URL is that of one result, and the rules of the site ask for positions, each link of a
-    // page that leads to a missing page, directly or by a redirect, has an index, and its location is in the row of the missing page, unless
-    // an entry matches the page or the location. The link of an alias has none.
+    // page that leads to a missing page, directly or by a redirect, has an index. The link with this index in the file leads there, too, and
+    // its location is in the row of the missing page, unless an entry matches the page or the location. The link of an alias has none.
     ensures complete { IfOk result (λ checked. AreOnce results.now → HasAllLinks input.entry.front.now (map string_bytes input.entry.ignores.now) input.entry.aliases.now input.entry.places.now files.now results.now (B.reads bytes.now) checked.broken.items) }
+    // No link to a missing anchor is left out. If documents, aliases and results are in the order of their URLs, each URL once, the location
+    // of each kept link to an anchor that its document lacks is in a row of the anchor, unless the index of the link is not known, or an
+    // entry matches the anchor or the location.
+    ensures anchor_places { IfOk result (λ checked. AreInOrder input.entry.anchors.now input.entry.aliases.now results.now → HasAllLacks input.entry.front.now (map string_bytes input.entry.ignores.now) input.entry.anchors.now input.entry.aliases.now files.now results.now (B.reads bytes.now) checked.broken.items) }
     // The rows of redirects are the moved results that are linked to.
     ensures redirects { IfOk result (λ checked. map way_of checked.redirects.items ≡ redirects_of input.entry.front.now results.now) }
     // The unreached files are those of which a search from the starts found no page, by the first URL of each, in order, if they are listed.
@@ -160,7 +165,7 @@ pub fn check_site<'f, R: Threads + Sync, B: FileBytes + Sync>(
     let linked = linked_results(rt, alloc, results, files.threads())?;
     let all = linked.as_slice();
     let sought = sought_by(rt, alloc, input, site, all)?;
-    let places = locate_by(rt, alloc, site, sought.leads.as_slice(), bytes)?;
+    let places = locate_by(rt, alloc, site, all, sought.leads.as_slice(), bytes)?;
     results_of(alloc, input, site, all, &sought, places.as_slice())
 }
 
@@ -210,6 +215,7 @@ fn sought_by<'p, R: Threads + Sync>(
 ) -> Result<BrokenLinks<'p>, CheckError>
     ensures invalid { IfOk result (λ sought. AreTexts (texts_if input.entry.scope.invalid input.entry.places.now site.entry.pages.results.now) (map text_of sought.invalid.items)) }
     ensures anchors { IfOk result (λ sought. AreSearchable site.entry.files.now site.entry.pages → AreAnchors input.entry.front.now site.entry.pages.anchors.now site.entry.pages.aliases.now site.entry.files.now site.entry.pages.results.now (map anchor_row sought.anchors.items)) }
+    ensures anchor_leads { IfOk result (λ sought. AreSearchable site.entry.files.now site.entry.pages → HasLackLeads input.entry.front.now (map string_bytes input.entry.ignores.now) site.entry.pages.anchors.now site.entry.pages.aliases.now site.entry.files.now site.entry.pages.results.now (map anchor_text sought.anchors.items) sought.leads.items) }
     ensures outside { IfOk result (λ sought. map outside_at sought.outside.items ≡ outside_linked input.entry.rooted input.entry.maps.now site.entry.files.now site.entry.pages.results.now input.entry.found.now) }
     ensures whole { IfOk result (λ sought. All (Contains sought.leads.items) (map (listed 0) (leads_from (number_in (targets_of input.entry.front.now (map string_bytes input.entry.ignores.now) (map result_at linked.now))) (indices_in input.entry.places.now) 0 site.entry.pages.results.now))) }
     ensures leads { IfOk result (λ sought. All (IsListed (leads_from (number_in (targets_of input.entry.front.now (map string_bytes input.entry.ignores.now) (map result_at linked.now))) (indices_in input.entry.places.now) 0 site.entry.pages.results.now)) sought.leads.items) }
@@ -352,7 +358,7 @@ fn results_of(
 ) -> Result<Checked, CheckError>
     ensures rows { IfOk result (λ checked. AreRows input.entry.front.now (map string_bytes input.entry.ignores.now) site.entry.files.now linked.now sought.now.anchors.items sought.now.invalid.items sought.now.outside.items checked.broken.items (map string_bytes checked.unused_ignores.items)) }
     ensures located { IfOk result (λ checked. All (IsLocatedRow (map placed_at places.now) (target_texts input.entry.front.now linked.now sought.now.anchors.items sought.now.invalid.items sought.now.outside.items)) (map located_row checked.broken.items)) }
-    ensures whole { IfOk result (λ checked. All (IsKeptPlace input.entry.front.now (map string_bytes input.entry.ignores.now) linked.now checked.broken.items) (map placed_at places.now)) }
+    ensures whole { IfOk result (λ checked. All (IsKeptPlace input.entry.front.now (map string_bytes input.entry.ignores.now) linked.now sought.now.anchors.items checked.broken.items) (map placed_at places.now)) }
     ensures redirects { IfOk result (λ checked. map way_of checked.redirects.items ≡ flat_map (ways_with input.entry.front.now) (map linked_at linked.now)) }
     ensures worst { IfOk result (λ checked. map file_links checked.worst.items ≡ worst_of checked.broken.items) }
     ensures unreached { IfOk result (λ checked. map string_bytes checked.unreached.items ≡ unreached_in input.entry.front.now site.entry.files.now input.entry.reached) }
@@ -414,18 +420,17 @@ fn rows_of(
 ) -> Result<Rows, CheckError>
     ensures rows { IfOk result (λ rows. AreRows input.entry.front.now (map string_bytes input.entry.ignores.now) site.entry.files.now linked.now others.entry.anchors.now others.entry.invalid.now others.entry.outside.now rows.broken.items (map string_bytes rows.unused_ignores.items)) }
     ensures located { IfOk result (λ rows. All (IsLocatedRow (map placed_at places.now) (target_texts input.entry.front.now linked.now others.entry.anchors.now others.entry.invalid.now others.entry.outside.now)) (map located_row rows.broken.items)) }
-    ensures whole { IfOk result (λ rows. All (IsKeptPlace input.entry.front.now (map string_bytes input.entry.ignores.now) linked.now rows.broken.items) (map placed_at places.now)) }
+    ensures whole { IfOk result (λ rows. All (IsKeptPlace input.entry.front.now (map string_bytes input.entry.ignores.now) linked.now others.entry.anchors.now rows.broken.items) (map placed_at places.now)) }
 {
     let mut broken = broken_all(alloc, input, site, linked, others, places)?;
     let unused_ignores = unused_entries(alloc, input, linked, others, broken.as_slice())?;
     leave_out(input.ignores, &mut broken);
-    let is_whole = has_all_places(
-        input.front,
-        input.ignores,
+    let targets = Targets {
+        front: input.front,
         linked,
-        broken.as_slice(),
-        places,
-    );
+        anchors: others.anchors,
+    };
+    let is_whole = has_all_places(targets, input.ignores, broken.as_slice(), places);
     if !is_whole {
         return Err(CheckError::LinkLost);
     }

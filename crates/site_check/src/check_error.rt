@@ -9,8 +9,10 @@ use std::alloc::AllocError;
 pub enum CheckError {
     /// A file with a link that is reported cannot be read a second time.
     FileUnread,
-    /// The location of a link to a missing page is not in the row of the page, or is not known. This would be a bug, unless a file has 2^32
-    /// links or more.
+    /// A link that is reported leads elsewhere when its file is read a second time.
+    FileChanged,
+    /// The location of a link to a missing page or a missing anchor is not in a row of it, or that of a link to a missing page is not known.
+    /// This would be a bug, unless a file has 2^32 links or more.
     LinkLost,
     /// Out of memory.
     NoMemory,

@@ -88,7 +88,7 @@ pub(crate) fn is_ignored(entries: &[String], text: &str) -> bool
 }
 
 /// Whether an entry matches a target. One that names a file does not.
-fn matches_target(entry: &str, target: &str) -> bool
+pub(crate) fn matches_target(entry: &str, target: &str) -> bool
     ensures { result ≡ matches_target entry.now target.now }
 {
     matches(entry, target) && split_file(entry).is_none()

@@ -16,8 +16,8 @@ ghost use Rattle.site_check.specs.RowMeanings.{rows_in};
 
 use crate::ignored::is_ignored;
 use crate::input::CheckInput;
-use crate::leads::Lead;
-use crate::located::{TEXTS, TargetPlace, row_places};
+use crate::leads::{Lead, TEXTS};
+use crate::located::{TargetPlace, row_places};
 use check_report::{Broken, Kind, Place};
 use crawl_keys::CanonUrl;
 use crawl_pages::{NoMemory, PageResult};

@@ -24,6 +24,27 @@ pub(crate) struct Lead {
     pub(crate) number: usize,
 }
 
+/// The number of the list of missing pages, among the four lists of targets.
+pub(crate) const PAGES: usize = 0;
+
+/// The number of the list of missing anchors.
+pub(crate) const ANCHORS: usize = 1;
+
+/// The number of the list of the texts of invalid links.
+pub(crate) const TEXTS: usize = 2;
+
+/// The number of the list of URLs outside the site.
+pub(crate) const URLS: usize = 3;
+
+/// A link to a target of a list.
+#[derive(Clone, Copy)]
+pub(crate) struct ListedLead {
+    /// The number of the list.
+    pub(crate) list: usize,
+    /// The link, and the number of its target in the list.
+    pub(crate) lead: Lead,
+}
+
 /// A URL that leads to a page that is not there, and that page's number.
 #[derive(Clone, Copy)]
 pub(crate) struct Target<'a> {

@@ -1,14 +1,14 @@
 //! Links that lead out of the site: to URLs on its host that are not below its top.
-ghost use Rattle.std.specs.Prelude.{◌≡◌, ◌++◌, ◌<◌, ℕ, List, true, IfOk, MatchOption, OnOk, length, map, option_map, string_bytes};
+ghost use Rattle.std.specs.Prelude.{◌≡◌, ◌∷◌, ◌++◌, ◌+◌, ◌<◌, ℕ, List, [], None, Some, drop, true, if◌then◌else◌, IfOk, MatchOption, OnOk, length, map, option_map, string_bytes};
 ghost use Rattle.std.specs.List.{flat_map};
 ghost use Rattle.crawl_sources.specs.Tallies.{pointed};
 ghost use Rattle.site_files.specs.declared.files.SiteFiles.{SiteFiles};
-ghost use Rattle.site_check.specs.Broken.{is_ignored, linked_at};
+ghost use Rattle.site_check.specs.Broken.{begins, is_ignored, linked_at};
 ghost use Rattle.site_check.specs.Hints.{hints_in};
 ghost use Rattle.site_check.specs.Ignored.{anchors_in};
 ghost use Rattle.site_check.specs.Invalid.{invalid_rows_in};
 ghost use Rattle.site_check.specs.Leads.{indices_in, leads_from, number_at, number_in, target_at};
-ghost use Rattle.site_check.specs.Leaving.{is_left, is_outside, leaving_in, leaving_kind, outside_at, outside_linked, outside_number, outside_of, outside_row, outside_targets, outside_text, path_from, row_at, shown_at, steps_up};
+ghost use Rattle.site_check.specs.Leaving.{after_front, is_left, is_outside, leaving_in, leaving_kind, outside_at, outside_linked, outside_number, outside_of, outside_row, outside_targets, outside_text, page_at_path, page_below, page_for, page_of_file, path_from, row_at, shown_at, steps_up, with_slash};
 ghost use Rattle.site_check.specs.Located.{KeepsRows, located_row, placed_at, row_unless};
 ghost use Rattle.site_check.specs.Locations.{location_of};
 ghost use Rattle.site_check.specs.Names.{AreNamed};
@@ -17,9 +17,11 @@ ghost use Rattle.site_check.specs.Totals.{is_leaving};
 
 use crate::ignored::is_ignored;
 use crate::input::CheckInput;
-use crate::leads::{Lead, Maps, Target, TargetNumbers, insert_all, link_indices, push_target};
+use crate::leads::{
+    Lead, Maps, Target, TargetNumbers, URLS, insert_all, link_indices, push_target,
+};
 use crate::linked::{Linked, linked_among};
-use crate::located::{TargetPlace, URLS, row_places};
+use crate::located::{TargetPlace, row_places};
 use crate::maps::folder_of;
 use crate::outside::Outside;
 use crate::shown::{begins, is_below};
@@ -27,7 +29,7 @@ use crate::site_pages::Site;
 use crate::threads::leads_by;
 use check_report::{Broken, Kind, Place};
 use crawl_pages::{NoMemory, PageResult};
-use site_files::SiteFiles;
+use site_files::{SiteFiles, before_query};
 use std::alloc::Global;
 use std::collections::BTreeMap;
 use std::thread::Threads;
@@ -111,12 +113,93 @@ fn with_text<'a>(
     let text = outside_text(alloc, files, input.rooted, url)?;
     let folder = folder_of(input.maps, url);
     let kind = kind_of(input.rooted, folder);
+    let page = page_for(alloc, files, kind, url)?;
     Ok(Outside {
         linked,
         text,
         kind,
         folder,
+        page,
     })
+}
+
+/// The page that may be meant by a URL that is outside the site in this way.
+fn page_for(
+    alloc: Global,
+    files: &SiteFiles<'_>,
+    kind: Kind,
+    url: &str,
+) -> Result<Option<String>, NoMemory>
+    ensures { IfOk result (λ page. option_map string_bytes page ≡ page_for kind (page_below files.now url.now)) }
+{
+    match kind {
+        Kind::OutsideBase => page_below(alloc, files, url),
+        Kind::NoPage
+        | Kind::NoAnchor
+        | Kind::NotUrl
+        | Kind::UnknownScheme
+        | Kind::LocalFile
+        | Kind::Leaves
+        | Kind::NotInMap => Ok(None),
+    }
+}
+
+/// The top of the site, if this URL lacks only its last slash. Otherwise the page that has the same path below the top as the URL has
+/// below the host.
+fn page_below(alloc: Global, files: &SiteFiles<'_>, url: &str) -> Result<Option<String>, NoMemory>
+    ensures { IfOk result (λ page. option_map string_bytes page ≡ page_below files.now url.now) }
+{
+    let own = before_query(url);
+    let folder = with_slash(alloc, own)?;
+    if folder.as_str() == files.top() {
+        return Ok(Some(folder));
+    }
+    page_at_path(alloc, files, own)
+}
+
+/// The page of the site that has the same path below the top as this URL has below the host.
+fn page_at_path(alloc: Global, files: &SiteFiles<'_>, url: &str) -> Result<Option<String>, NoMemory>
+    ensures { IfOk result (λ page. option_map string_bytes page ≡ page_at_path files.now url.now) }
+{
+    let host = with_slash(alloc, files.origin())?;
+    match after_front(host.as_str(), url) {
+        Some(path) => {
+            let mut text = String::from_str(alloc, files.top())?;
+            text.push_str(path)?;
+            Ok(page_of_file(files, text))
+        }
+        None => Ok(None),
+    }
+}
+
+/// A text and a slash.
+fn with_slash(alloc: Global, text: &str) -> Result<String, NoMemory>
+    ensures { IfOk result (λ new. string_bytes new ≡ with_slash text.now) }
+{
+    let mut new = String::from_str(alloc, text)?;
+    new.push_str("/")?;
+    Ok(new)
+}
+
+/// What follows the front of a URL, if it begins with that.
+#[tactic(auto, using(crate::proofs::Fronts::front_after, crate::proofs::Fronts::none_after))]
+fn after_front<'a>(front: &str, url: &'a str) -> Option<&'a str>
+    ensures { option_map (λ rest. rest.now) result ≡ after_front front.now url.now }
+{
+    match url.strip_prefix(front) {
+        Some(rest) => Some(rest),
+        None => None,
+    }
+}
+
+/// The URL, if a file has it.
+fn page_of_file(files: &SiteFiles<'_>, url: String) -> Option<String>
+    ensures { option_map string_bytes result ≡ page_of_file files.now (string_bytes url) }
+{
+    match files.file_of(url.as_str()) {
+        Some(_) => Some(url),
+        None => None,
+    }
 }
 
 /// The kind of the row of a URL that was looked up in this folder, if in any.
@@ -283,7 +366,7 @@ pub(crate) fn push_outside(
 }
 
 /// Appends the row of a URL, unless an entry matches it.
-#[tactic(auto, using(crate::proofs::LeavingRows::no_page, crate::proofs::LeavingRows::no_anchor, crate::proofs::LeavingRows::no_text, crate::proofs::LeavingRows::no_hint, crate::proofs::LeavingRows::no_name))]
+#[tactic(auto, using(crate::proofs::LeavingRows::no_page, crate::proofs::LeavingRows::no_anchor, crate::proofs::LeavingRows::no_text, crate::proofs::LeavingRows::no_hint, crate::proofs::LeavingRows::own_name))]
 fn push_row(
     alloc: Global,
     ignores: &[String],
@@ -304,12 +387,13 @@ fn push_row(
     }
     let target = one.text.clone()?;
     let hint = copy(alloc, one.folder)?;
+    let page = copy(alloc, one.page.as_deref())?;
     all.push(Broken {
         target,
         kind: one.kind,
         pages: one.linked.pages,
         places,
-        same_name: None,
+        same_name: page,
         hint,
     })?;
     Ok(())

@@ -1,40 +1,37 @@
 //! The locations of broken links. Only files that have one are read again.
 ghost use Rattle.std.specs.Prelude.{◌≡◌, ◌++◌, [], true, All, IfOk, IsPermutation, MatchOption, OnOk, length, map, option_map, string_bytes, take_while};
-ghost use Rattle.document_links.specs.Places.{ArePlaces};
 ghost use Rattle.site_check.specs.Complete.{HasPlace, HasTaken, is_taken};
-ghost use Rattle.site_check.specs.Located.{IsFileOf, IsFirstPage, IsRowPlace, IsTargetPlace, IsToTarget, Pushes, PushesPlaces, comes_last, document_of, index_of, is_of, is_to, link_places, placed_at, places_from, put_last};
-ghost use Rattle.site_check.specs.Locations.{ascends, comes_before, if_any, in_row, is_earlier, location_in, location_of, text_kind, unless_same};
+ghost use Rattle.site_check.specs.Broken.{result_at};
+ghost use Rattle.site_check.specs.Located.{IsFileOf, IsFirstPage, IsRowPlace, IsTargetPlace, IsToTarget, LeadsAsSaid, Pushes, PushesPlaces, comes_last, document_of, is_of, is_to, link_places, list_of, placed_at, places_from, put_last};
+ghost use Rattle.site_check.specs.Locations.{ascends, comes_before, if_any, in_row, is_earlier, location_in, location_of, root_of, text_kind, unless_same};
 
 use crate::check_error::CheckError;
-use crate::leads::Lead;
+use crate::leads::{ANCHORS, ListedLead, PAGES, TEXTS, URLS};
+use crate::own_links::{LinkSite, own_links, page_of_file};
 use crate::site_pages::Site;
 use crate::worst::is_less;
-use check_report::Place;
+use check_report::{Kind, Place};
+use crawl_keys::CanonUrl;
 use crawl_pages::NoMemory;
-use document_links::{Syntax, TextKind, TextPlace, text_places};
-use site_files::{Body, FileBytes, FileKind, SiteFile};
+use document_links::{Syntax, TextKind, TextPlace};
+use site_files::{Body, FileBytes, FileKind, SiteFile, SiteFiles};
 use std::alloc::Global;
 use std::cmp::Ordering;
 
-/// The number of the list of missing pages, among the four lists of targets.
-pub(crate) const PAGES: usize = 0;
-
-/// The number of the list of missing anchors.
-pub(crate) const ANCHORS: usize = 1;
-
-/// The number of the list of the texts of invalid links.
-pub(crate) const TEXTS: usize = 2;
-
-/// The number of the list of URLs outside the site.
-pub(crate) const URLS: usize = 3;
-
-/// A link to a target of a list.
-#[derive(Clone, Copy)]
-pub(crate) struct ListedLead {
-    /// The number of the list.
-    pub(crate) list: usize,
-    /// The link, and the number of its target in the list.
-    pub(crate) lead: Lead,
+/// The number of the list with the target of a row of this kind.
+pub(crate) fn list_of(kind: Kind) -> usize
+    ensures { result ≡ list_of kind }
+{
+    match kind {
+        Kind::NoPage => PAGES,
+        Kind::NoAnchor => ANCHORS,
+        Kind::NotUrl => TEXTS,
+        Kind::UnknownScheme => TEXTS,
+        Kind::LocalFile => TEXTS,
+        Kind::Leaves => URLS,
+        Kind::OutsideBase => URLS,
+        Kind::NotInMap => URLS,
+    }
 }
 
 /// The location of a link to a target of a list.
@@ -62,18 +59,18 @@ pub(crate) struct PageLeads<'a> {
 /// by `of`. The links of a page are consecutive. Its file is read again.
 ///
 /// # Errors
-/// `FileUnread`, `LinkLost`, `NoMemory`.
+/// `FileUnread`, `FileChanged`, `LinkLost`, `NoMemory`.
 #[tactic(auto, using(crate::proofs::Placed::all_contained, crate::proofs::AllPlaced::passed_none))]
 pub(crate) fn every_place<B: FileBytes>(
     alloc: Global,
-    site: Site<'_, '_>,
+    on: LinkSite<'_, '_, '_>,
     leads: &[ListedLead],
     bytes: &B,
     rest: usize,
     of: usize,
 ) -> Result<Vec<TargetPlace>, CheckError>
-    ensures links { IfOk result (λ all. All (IsTargetPlace site.entry.files.now site.entry.pages.results.now (B.reads bytes.now) leads.now) (map placed_at all.items)) }
-    ensures whole { IfOk result (λ all. All (HasTaken site.entry.files.now site.entry.pages.results.now (B.reads bytes.now) of rest (map placed_at all.items)) leads.now) }
+    ensures links { IfOk result (λ all. All (IsTargetPlace (LeadsAsSaid on.entry.site.pages.results.now (map result_at on.entry.linked.now)) on.entry.site.files.now on.entry.site.pages.results.now (B.reads bytes.now) leads.now) (map placed_at all.items)) }
+    ensures whole { IfOk result (λ all. All (HasTaken (LeadsAsSaid on.entry.site.pages.results.now (map result_at on.entry.linked.now)) on.entry.site.files.now on.entry.site.pages.results.now (B.reads bytes.now) of rest (map placed_at all.items)) leads.now) }
 {
     let mut all = Vec::new(alloc);
     let mut body = Body::new(alloc);
@@ -83,7 +80,7 @@ pub(crate) fn every_place<B: FileBytes>(
             Some(page) => {
                 left = page.more;
                 if is_taken(of, rest, page.source) {
-                    push_page(alloc, site, page, bytes, &mut body, &mut all)?;
+                    push_page(alloc, on, page, bytes, &mut body, &mut all)?;
                 }
             }
             None => return Ok(all),
@@ -131,56 +128,67 @@ fn is_of(source: usize, one: &ListedLead) -> bool
 /// file, but this is checked, because a contract promises it.
 ///
 /// # Errors
-/// `FileUnread`, `LinkLost`, `NoMemory`.
+/// `FileUnread`, `FileChanged`, `LinkLost`, `NoMemory`.
 fn push_page<B: FileBytes>(
     alloc: Global,
-    site: Site<'_, '_>,
+    on: LinkSite<'_, '_, '_>,
     page: PageLeads<'_>,
     bytes: &B,
     body: &mut Body,
     all: &mut Vec<TargetPlace>,
 ) -> Result<(), CheckError>
     requires { All (λ one. one.lead.source ≡ page.source) page.own.now }
-    ensures links { OnOk result (Pushes (IsTargetPlace site.entry.files.now site.entry.pages.results.now (B.reads bytes.now) page.entry.own.now) (map placed_at all.old.items) (map placed_at all.new.items)) }
-    ensures whole { OnOk result (All (HasPlace site.entry.files.now site.entry.pages.results.now (B.reads bytes.now) (map placed_at all.new.items)) page.entry.own.now) }
+    ensures links { OnOk result (Pushes (IsTargetPlace (LeadsAsSaid on.entry.site.pages.results.now (map result_at on.entry.linked.now)) on.entry.site.files.now on.entry.site.pages.results.now (B.reads bytes.now) page.entry.own.now) (map placed_at all.old.items) (map placed_at all.new.items)) }
+    ensures whole { OnOk result (All (HasPlace (LeadsAsSaid on.entry.site.pages.results.now (map result_at on.entry.linked.now)) on.entry.site.files.now on.entry.site.pages.results.now (B.reads bytes.now) (map placed_at all.new.items)) page.entry.own.now) }
 {
-    let Some(file) = file_of(site, page.source) else {
+    let Some(file) = file_of(on.site, page.source) else {
         return Err(CheckError::LinkLost);
     };
     body.clear();
-    if bytes.read(file, body)?.is_some() {
+    if bytes.read(file.file, body)?.is_some() {
         return Err(CheckError::FileUnread);
     }
-    push_places(alloc, site, page.own, file, body.as_slice(), all)?;
+    push_places(alloc, on, page.own, file, body.as_slice(), all)?;
     Ok(())
 }
 
 /// The file of the result with this number, if it can have links.
-fn file_of<'f>(site: Site<'_, 'f>, source: usize) -> Option<SiteFile<'f>>
-    ensures { MatchOption result (Unit {0}) (λ file. IsFileOf site.entry.files.now site.entry.pages.results.now source (document_of file)) }
+fn file_of<'p, 'f>(site: Site<'p, 'f>, source: usize) -> Option<PageFile<'p, 'f>>
+    ensures { MatchOption result (Unit {0}) (λ page. IsFileOf site.entry.files.now site.entry.pages.results.now source page.url.now (document_of page.file)) }
 {
     let one = site.pages.results.get(source)?;
     let number = site.files.find(one.url.as_str())?;
     match site.files.document(number) {
-        Some(file) => Some(file),
+        Some(file) => Some(PageFile {
+            url: &one.url,
+            file,
+        }),
         None => None,
     }
+}
+
+/// A file, and the URL of its page.
+#[derive(Clone, Copy)]
+pub(crate) struct PageFile<'p, 'f> {
+    url: &'p CanonUrl,
+    file: SiteFile<'f>,
 }
 
 /// Appends the locations of these links in the contents of this file.
 fn push_places(
     alloc: Global,
-    site: Site<'_, '_>,
+    on: LinkSite<'_, '_, '_>,
     leads: &[ListedLead],
-    file: SiteFile<'_>,
+    page: PageFile<'_, '_>,
     body: &[u8],
     all: &mut Vec<TargetPlace>,
-) -> Result<(), NoMemory>
-    ensures { OnOk result (PushesPlaces file.entry.name.now (text_kind site.entry.files.now.rules.now.styles file.entry.kind) body.now leads.now (map placed_at all.old.items) (map placed_at all.new.items)) }
+) -> Result<(), CheckError>
+    ensures { OnOk result (PushesPlaces (LeadsAsSaid on.entry.site.pages.results.now (map result_at on.entry.linked.now)) (root_of on.entry.site.files.now) page.entry.url.now page.entry.file.name.now (text_kind on.entry.site.files.now.rules.now.styles page.entry.file.kind) body.now leads.now (map placed_at all.old.items) (map placed_at all.new.items)) }
 {
-    let kind = text_kind(site.files.rules().styles, file.kind);
-    let places = places_of(alloc, body, kind, leads)?;
-    push_all(alloc, file.name, places.as_slice(), leads, all)?;
+    let kind = text_kind(on.site.files.rules().styles, page.file.kind);
+    let from = page_of_file(page.url, root_of(on.site.files));
+    let links = own_links(alloc, body, kind, from, on, leads)?;
+    push_all(alloc, page.file.name, links.places.as_slice(), leads, all)?;
     Ok(())
 }
 
@@ -211,24 +219,15 @@ fn text_kind(styles: bool, kind: FileKind) -> TextKind
     }
 }
 
-/// The places of these links in the contents of a file of this kind.
-fn places_of(
-    alloc: Global,
-    body: &[u8],
-    kind: TextKind,
-    leads: &[ListedLead],
-) -> Result<Vec<TextPlace>, NoMemory>
-    ensures { IfOk result (λ places. ArePlaces kind body.now (map index_of leads.now) places.items) }
+/// The path of the top, if absolute paths are below it: as `saved_site`, which this crate does not use, has it for the links of a page.
+fn root_of<'a>(files: &'a SiteFiles<'_>) -> Option<&'a str>
+    ensures { option_map (λ path. path.now) result ≡ root_of files.now }
 {
-    let indices = indices_of(alloc, leads)?;
-    text_places(alloc, body, kind, indices.as_slice())
-}
-
-/// The indices of these links among the links of their file.
-fn indices_of(alloc: Global, leads: &[ListedLead]) -> Result<Vec<usize>, NoMemory>
-    ensures { IfOk result (λ all. all.items ≡ map index_of leads.now) }
-{
-    leads.iter().map(|one| one.lead.index).collect(alloc)
+    if files.rules().rooted {
+        files.top().strip_prefix(files.origin())
+    } else {
+        None
+    }
 }
 
 /// Appends the locations of these links, which are at these places of the file with this name.

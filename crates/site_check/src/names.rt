@@ -2,7 +2,8 @@
 ghost use Rattle.std.specs.Prelude.{◌≡◌, ◌∷◌, ◌++◌, [], ℕ, List, None, Some, filter, if◌then◌else◌, IfOk, MatchOption, OnOk, slice_get, string_bytes, unwrap_or, option_copied, option_map, bytes_eq};
 ghost use Rattle.std.specs.Str.{str_to_ascii_lowercase};
 ghost use Rattle.site_files.specs.Files.{PageFile, page_file, pages_of};
-ghost use Rattle.site_check.specs.Names.{AreKnown, AreNames, IsKnown, after_slashes, has_lower_name, has_name, is_slash, known_at, known_with, last_name, last_part, lower_at, name_for_part, named_at, named_page, only_name, name_of_page, other_form, folder_form, page_at, same_name, has_place_in, without_slash};
+ghost use Rattle.site_check.specs.declared.names.Key.TheVariants.{Name};
+ghost use Rattle.site_check.specs.Names.{AreKnown, AreLower, AreNames, IsKnown, after_slashes, has_key, has_name, is_slash, key_of, known_at, known_with, last_name, last_part, lower_at, lower_path, name_for_part, named_at, named_page, one_or_path, only_name, only_path, name_of_page, other_form, folder_form, page_at, same_name, has_place_in, without_slash};
 
 use crate::shown::shown;
 use check_report::Place;
@@ -19,11 +20,25 @@ pub(crate) enum Namesakes {
     Several,
 }
 
+/// What pages are found by, in lower case: the names that their URLs end with, or their whole URLs without a query.
+#[derive(Clone, Copy)]
+pub(crate) enum Key {
+    Name,
+    Path,
+}
+
 /// The pages that are made of files, by their names.
 type Names<'a> = BTreeMap<&'a [u8], Namesakes>;
 
-/// The same by their names in lower case.
-type LowerNames = BTreeMap<Vec<u8>, Namesakes>;
+/// The same by one of their keys in lower case.
+type LowerKeys = BTreeMap<Vec<u8>, Namesakes>;
+
+/// The same by their names in lower case, and by their whole paths in lower case.
+#[derive(Drop)]
+pub(crate) struct LowerNames {
+    names: LowerKeys,
+    paths: LowerKeys,
+}
 
 /// The files of a site, and its pages by their names: as these are, and in lower case.
 #[derive(Clone, Copy)]
@@ -89,62 +104,73 @@ fn add_name<'a>(names: &mut Names<'a>, name: &'a [u8], number: usize) -> Result<
     Ok(())
 }
 
-/// The pages of a site by their names in lower case.
-#[tactic(auto, using(crate::proofs::Namesakes::names_more))]
+/// The pages of a site by their names and by their paths, in lower case.
 pub(crate) fn lower_names_of(alloc: Global, files: &SiteFiles<'_>) -> Result<LowerNames, NoMemory>
-    ensures { IfOk result (λ names. AreKnown has_lower_name files.now (lower_at names)) }
+    ensures { IfOk result (λ lower. AreLower files.now lower) }
 {
-    let mut names = BTreeMap::new(alloc);
-    for number in 0..files.page_count() {
-        add_lower_page(alloc, &mut names, files, number)?;
-    }
-    Ok(names)
+    let names = lower_keys_of(alloc, files, Key::Name)?;
+    let paths = lower_keys_of(alloc, files, Key::Path)?;
+    Ok(LowerNames { names, paths })
 }
 
-/// Adds the page with this number under its name in lower case, if there is such a page and it is made of a file.
+/// The pages of a site by a key in lower case.
+#[tactic(auto, using(crate::proofs::Namesakes::names_more))]
+fn lower_keys_of(alloc: Global, files: &SiteFiles<'_>, key: Key) -> Result<LowerKeys, NoMemory>
+    ensures { IfOk result (λ keys. AreKnown (has_key key) files.now (lower_at keys)) }
+{
+    let mut keys = BTreeMap::new(alloc);
+    for number in 0..files.page_count() {
+        add_lower_page(alloc, &mut keys, files, key, number)?;
+    }
+    Ok(keys)
+}
+
+/// Adds the page with this number under its key in lower case, if there is such a page and it is made of a file.
 fn add_lower_page(
     alloc: Global,
-    names: &mut LowerNames,
+    keys: &mut LowerKeys,
     files: &SiteFiles<'_>,
+    key: Key,
     number: usize,
 ) -> Result<(), NoMemory>
-    ensures { OnOk result ((name : List ℕ) → lower_at names.new name ≡ known_at (has_lower_name name) (slice_get (pages_of files.now) number) number (lower_at names.old name)) }
+    ensures { OnOk result ((text : List ℕ) → lower_at keys.new text ≡ known_at (has_key key text) (slice_get (pages_of files.now) number) number (lower_at keys.old text)) }
 {
     match files.page(number) {
         Some((url, file)) => {
-            add_lower_file(alloc, names, url, file, number)?;
+            add_lower_file(alloc, keys, url, key, file, number)?;
             Ok(())
         }
         None => Ok(()),
     }
 }
 
-/// Adds a page at a URL under its name in lower case, if it is made of a file.
+/// Adds a page at a URL under its key in lower case, if it is made of a file.
 fn add_lower_file(
     alloc: Global,
-    names: &mut LowerNames,
+    keys: &mut LowerKeys,
     url: &str,
+    key: Key,
     file: Option<usize>,
     number: usize,
 ) -> Result<(), NoMemory>
-    ensures { OnOk result ((name : List ℕ) → lower_at names.new name ≡ known_at (has_lower_name name) (Some (page_file url.now file)) number (lower_at names.old name)) }
+    ensures { OnOk result ((text : List ℕ) → lower_at keys.new text ≡ known_at (has_key key text) (Some (page_file url.now file)) number (lower_at keys.old text)) }
 {
     match file {
         Some(_) => {
-            let name = last_name(url).to_ascii_lowercase(alloc)?;
-            add_lower_name(names, name, number)?;
+            let text = key_of(key, url).to_ascii_lowercase(alloc)?;
+            add_lower_key(keys, text, number)?;
             Ok(())
         }
         None => Ok(()),
     }
 }
 
-/// Adds a page with this name in lower case. A name that was added before means several pages from then on.
-fn add_lower_name(names: &mut LowerNames, name: Vec<u8>, number: usize) -> Result<(), NoMemory>
-    ensures { OnOk result ((other : List ℕ) → lower_at names.new other ≡ (if bytes_eq name.items other then Some (known_with (lower_at names.old other) number) else lower_at names.old other)) }
+/// Adds a page with this key in lower case. A key that was added before means several pages from then on.
+fn add_lower_key(keys: &mut LowerKeys, text: Vec<u8>, number: usize) -> Result<(), NoMemory>
+    ensures { OnOk result ((other : List ℕ) → lower_at keys.new other ≡ (if bytes_eq text.items other then Some (known_with (lower_at keys.old other) number) else lower_at keys.old other)) }
 {
-    let known = known_with(names.get(name.as_slice()), number);
-    names.insert(name, known)?;
+    let known = known_with(keys.get(text.as_slice()), number);
+    keys.insert(text, known)?;
     Ok(())
 }
 
@@ -176,7 +202,7 @@ pub(crate) fn same_name(
 }
 
 /// The only page of the site with the name of a target, unless one of the places is in its file. If no page has the name, the only one
-/// counts that has it in another case.
+/// counts that has it in another case. If several have it, the only one counts whose path is the same in another case.
 fn named_page(
     alloc: Global,
     front: &str,
@@ -191,7 +217,7 @@ fn named_page(
     if name.is_empty() {
         return Ok(None);
     }
-    only_name(alloc, front, named, name, places)
+    only_name(alloc, front, named, target, name, places)
 }
 
 /// The page of a folder for an HTML file of its name, or of an HTML file for a folder of its name, unless one of the places is in its file.
@@ -244,42 +270,92 @@ fn page_at(
     name_of_file(alloc, front, files, url, files.file_of(url), places)
 }
 
-/// The only page with this name or, if there is none, the only one with it in another case, unless one of the places is in its file.
+/// The page that is meant by this name of a target or, if no page has it, by the name in another case, unless one of the places is in
+/// its file.
 fn only_name(
     alloc: Global,
     front: &str,
     named: Named<'_, '_>,
+    target: &str,
     name: &[u8],
     places: &[Place],
 ) -> Result<Option<String>, NoMemory>
     requires { AreNames named.files.now named.exact.now named.lower.now }
-    ensures { IfOk result (λ found. option_map string_bytes found ≡ name_for_part front.now named.entry.files.now places.now name.now) }
+    ensures { IfOk result (λ found. option_map string_bytes found ≡ name_for_part front.now named.entry.files.now places.now target.now name.now) }
 {
     match named.exact.get(name) {
-        Some(known) => name_of_known(alloc, front, named.files, *known, places),
-        None => only_lower(alloc, front, named, name, places),
+        Some(known) => one_or_path(alloc, front, named, target, *known, places),
+        None => only_lower(alloc, front, named, target, name, places),
     }
 }
 
-/// The only page with this name in any case, unless one of the places is in its file.
+/// The page that is meant by this name of a target in any case, unless one of the places is in its file.
 fn only_lower(
     alloc: Global,
     front: &str,
     named: Named<'_, '_>,
+    target: &str,
     name: &[u8],
     places: &[Place],
 ) -> Result<Option<String>, NoMemory>
     requires { AreNames named.files.now named.exact.now named.lower.now }
-    ensures { IfOk result (λ found. option_map string_bytes found ≡ only_name front.now named.entry.files.now places.now (filter (has_lower_name (str_to_ascii_lowercase name.now)) (pages_of named.entry.files.now))) }
+    ensures { IfOk result (λ found. option_map string_bytes found ≡ one_or_path front.now named.entry.files.now places.now target.now (filter (has_key Name (str_to_ascii_lowercase name.now)) (pages_of named.entry.files.now))) }
 {
     let lower = name.to_ascii_lowercase(alloc)?;
-    match named.lower.get(lower.as_slice()) {
+    match named.lower.names.get(lower.as_slice()) {
+        Some(known) => one_or_path(alloc, front, named, target, *known, places),
+        None => Ok(None),
+    }
+}
+
+/// The page, if only one has the name or, if several have it, the only one with the path of the target in another case, unless one of the
+/// places is in its file.
+fn one_or_path(
+    alloc: Global,
+    front: &str,
+    named: Named<'_, '_>,
+    target: &str,
+    known: Namesakes,
+    places: &[Place],
+) -> Result<Option<String>, NoMemory>
+    requires { AreNames named.files.now named.exact.now named.lower.now }
+    ensures { (pages : List PageFile) → IsKnown (pages_of named.entry.files.now) pages (Some known) → IfOk result (λ found. option_map string_bytes found ≡ one_or_path front.now named.entry.files.now places.now target.now pages) }
+{
+    match known {
+        Namesakes::One(number) => name_of_page(alloc, front, named.files, number, places),
+        Namesakes::Several => only_path(alloc, front, named, target, places),
+    }
+}
+
+/// The only page whose path differs from that of a target in nothing but case, unless one of the places is in its file.
+fn only_path(
+    alloc: Global,
+    front: &str,
+    named: Named<'_, '_>,
+    target: &str,
+    places: &[Place],
+) -> Result<Option<String>, NoMemory>
+    requires { AreNames named.files.now named.exact.now named.lower.now }
+    ensures { IfOk result (λ found. option_map string_bytes found ≡ only_path front.now named.entry.files.now places.now target.now) }
+{
+    let path = lower_path(alloc, front, target)?;
+    match named.lower.paths.get(path.as_slice()) {
         Some(known) => name_of_known(alloc, front, named.files, *known, places),
         None => Ok(None),
     }
 }
 
-/// The page, if only one has the name, unless one of the places is in its file.
+/// The path of a target in lower case, after the front.
+fn lower_path(alloc: Global, front: &str, target: &str) -> Result<Vec<u8>, NoMemory>
+    ensures { IfOk result (λ path. path.items ≡ lower_path front.now target.now) }
+{
+    let mut text = String::from_str(alloc, front)?;
+    text.push_str(before_query(target))?;
+    let path = text.as_str().as_bytes().to_ascii_lowercase(alloc)?;
+    Ok(path)
+}
+
+/// The page, if it is the only one, unless one of the places is in its file.
 fn name_of_known(
     alloc: Global,
     front: &str,
@@ -361,6 +437,16 @@ pub(crate) fn last_part(url: &str) -> &[u8]
     ensures { result.now ≡ last_part url.now }
 {
     after_slashes(before_query(url).as_bytes())
+}
+
+/// The key of the page at a URL.
+fn key_of(key: Key, url: &str) -> &[u8]
+    ensures { result.now ≡ key_of key url.now }
+{
+    match key {
+        Key::Name => last_name(url),
+        Key::Path => before_query(url).as_bytes(),
+    }
 }
 
 /// The name of the file or folder that a URL ends with. There may be a slash after that of a folder.

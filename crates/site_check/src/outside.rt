@@ -16,5 +16,7 @@ pub(crate) struct Outside<'a> {
     pub(crate) kind: Kind,
     /// The folder in which it was looked up.
     pub(crate) folder: Option<&'a str>,
+    /// The page that may be meant.
+    pub(crate) page: Option<String>,
     ghost is_its_kind: { is_leaving kind ≡ true },
 }

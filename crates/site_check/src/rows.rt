@@ -14,9 +14,9 @@ ghost use Rattle.site_check.specs.RowMeanings.{row_in, rows_in, way_of};
 
 use crate::hints::hint_of;
 use crate::input::CheckInput;
-use crate::leads::is_reported;
+use crate::leads::{PAGES, is_reported};
 use crate::linked::Linked;
-use crate::located::{PAGES, TargetPlace, row_places};
+use crate::located::{TargetPlace, row_places};
 use crate::names::{Named, same_name};
 use crate::shown::shown;
 use check_report::{Broken, Kind, Place, Redirect};

@@ -8,16 +8,19 @@ ghost use Rattle.site_check.specs.Documents.{AreSearchable};
 ghost use Rattle.site_check.specs.LackedLinks.{lack_of};
 ghost use Rattle.site_check.specs.Lacks.{AreLacks, is_any};
 ghost use Rattle.site_check.specs.Leads.{indices_at, leads_from, number_at};
-ghost use Rattle.site_check.specs.Located.{IsTargetPlace, items_of, placed_at};
+ghost use Rattle.site_check.specs.Broken.{result_at};
+ghost use Rattle.site_check.specs.Located.{IsTargetPlace, LeadsAsSaid, items_of, placed_at};
 ghost use Rattle.site_check.specs.declared.check_error.CheckError.{CheckError};
 ghost use Rattle.site_check.specs.declared.located.TargetPlace.{TargetPlace};
 ghost use Rattle.site_check.specs.declared.missing_anchors.MissingAnchorLink.{MissingAnchorLink};
 
 use crate::anchors::every_lacked;
 use crate::check_error::CheckError;
-use crate::leads::{Lead, Maps, leads_from};
-use crate::located::{ListedLead, TargetPlace, every_place, sort_by_target};
+use crate::leads::{Lead, ListedLead, Maps, leads_from};
+use crate::linked::Linked;
+use crate::located::{TargetPlace, every_place, sort_by_target};
 use crate::missing_anchors::MissingAnchorLink;
+use crate::own_links::LinkSite;
 use crate::site_pages::Site;
 use crawl_pages::{NoMemory, PageResult};
 use site_files::FileBytes;
@@ -146,19 +149,21 @@ fn lacked_in_parts<'p, R: Threads + Sync>(
 /// The locations of these links, which are together by their pages, sorted by their targets. Each thread reads the pages that it takes.
 ///
 /// # Errors
-/// `FileUnread`, `LinkLost`, `NoMemory`.
-pub(crate) fn locate_by<R: Threads + Sync, B: FileBytes + Sync>(
+/// `FileUnread`, `FileChanged`, `LinkLost`, `NoMemory`.
+pub(crate) fn locate_by<'p, R: Threads + Sync, B: FileBytes + Sync>(
     rt: &R,
     alloc: Global,
-    site: Site<'_, '_>,
+    site: Site<'p, '_>,
+    linked: &[Linked<'p>],
     leads: &[ListedLead],
     bytes: &B,
 ) -> Result<Vec<TargetPlace>, CheckError>
-    ensures links { IfOk result (λ places. All (IsTargetPlace site.entry.files.now site.entry.pages.results.now (B.reads bytes.now) leads.now) (map placed_at places.items)) }
-    ensures whole { IfOk result (λ places. All (HasPlace site.entry.files.now site.entry.pages.results.now (B.reads bytes.now) (map placed_at places.items)) leads.now) }
+    ensures links { IfOk result (λ places. All (IsTargetPlace (LeadsAsSaid site.entry.pages.results.now (map result_at linked.now)) site.entry.files.now site.entry.pages.results.now (B.reads bytes.now) leads.now) (map placed_at places.items)) }
+    ensures whole { IfOk result (λ places. All (HasPlace (LeadsAsSaid site.entry.pages.results.now (map result_at linked.now)) site.entry.files.now site.entry.pages.results.now (B.reads bytes.now) (map placed_at places.items)) leads.now) }
 {
     let count = site.files.threads().min(leads.len()).max(1);
-    let chunks = places_by(rt, alloc, site, leads, bytes, count)?;
+    let on = LinkSite { site, linked };
+    let chunks = places_by(rt, alloc, on, leads, bytes, count)?;
     let mut places = joined(alloc, chunks)?;
     sort_by_target(&mut places)?;
     Ok(places)
@@ -168,20 +173,20 @@ pub(crate) fn locate_by<R: Threads + Sync, B: FileBytes + Sync>(
 fn places_by<R: Threads + Sync, B: FileBytes + Sync>(
     rt: &R,
     alloc: Global,
-    site: Site<'_, '_>,
+    on: LinkSite<'_, '_, '_>,
     leads: &[ListedLead],
     bytes: &B,
     count: usize,
 ) -> Result<Vec<Result<Vec<TargetPlace>, CheckError>>, NoMemory>
     ensures len { IfOk result (λ chunks. length chunks.items ≡ count) }
-    ensures links { IfOk result (λ chunks. All (λ chunk. IfOk chunk (λ places. All (IsTargetPlace site.entry.files.now site.entry.pages.results.now (B.reads bytes.now) leads.now) (map placed_at places.items))) chunks.items) }
-    ensures whole { IfOk result (λ chunks. (rest : ℕ) (other : Result (Vec TargetPlace Global) CheckError) → rest < count → IfOk (slice_index_or chunks.items rest other) (λ places. All (HasTaken site.entry.files.now site.entry.pages.results.now (B.reads bytes.now) count rest (map placed_at places.items)) leads.now)) }
+    ensures links { IfOk result (λ chunks. All (λ chunk. IfOk chunk (λ places. All (IsTargetPlace (LeadsAsSaid on.entry.site.pages.results.now (map result_at on.entry.linked.now)) on.entry.site.files.now on.entry.site.pages.results.now (B.reads bytes.now) leads.now) (map placed_at places.items))) chunks.items) }
+    ensures whole { IfOk result (λ chunks. (rest : ℕ) (other : Result (Vec TargetPlace Global) CheckError) → rest < count → IfOk (slice_index_or chunks.items rest other) (λ places. All (HasTaken (LeadsAsSaid on.entry.site.pages.results.now (map result_at on.entry.linked.now)) on.entry.site.files.now on.entry.site.pages.results.now (B.reads bytes.now) count rest (map placed_at places.items)) leads.now)) }
 {
     thread::map_indices(
         rt,
         alloc,
         count,
-        &|rest: usize| { every_place(alloc, site, leads, bytes, rest, count) },
+        &|rest: usize| { every_place(alloc, on, leads, bytes, rest, count) },
     )
 }
 

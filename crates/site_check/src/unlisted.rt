@@ -2,9 +2,11 @@
 ghost use Rattle.std.specs.Prelude.{◌≡◌, ◌||◌, ℕ, List, IfOk, OnOk, filter, map, string_bytes};
 ghost use Rattle.std.specs.List.{list_any};
 ghost use Rattle.site_check.specs.Aliases.{is_in};
-ghost use Rattle.site_check.specs.Broken.{shown};
+ghost use Rattle.site_check.specs.Broken.{matches_target, shown};
+ghost use Rattle.site_check.specs.Ignored.{not_ignored, unused_by};
 ghost use Rattle.site_check.specs.Unlisted.{is_missed, is_not_found_page, is_other_of, unlisted_in, unlisted_of};
 
+use crate::ignored::{is_ignored, matches_target};
 use crate::input::CheckInput;
 use crate::names::last_part;
 use crate::shown::shown;
@@ -23,6 +25,46 @@ pub(crate) fn unlisted(alloc: Global, input: CheckInput<'_>) -> Result<Vec<Strin
         Some(listed) => unlisted_of(alloc, input.front, input.aliases, input.documents, listed),
         None => Ok(Vec::new(alloc)),
     }
+}
+
+/// Leaves out the documents that an entry of the ignore list matches, and the unused entries that match one of them. An entry with a file
+/// matches no document.
+pub fn ignore_unlisted(
+    entries: &[String],
+    documents: &mut Vec<String>,
+    unused_entries: &mut Vec<String>,
+)
+    ensures documents { map string_bytes documents.new.items ≡ not_ignored (map string_bytes entries.now) (map string_bytes documents.old.items) }
+    ensures unused { map string_bytes unused_entries.new.items ≡ unused_by (map string_bytes documents.old.items) (map string_bytes unused_entries.old.items) }
+{
+    leave_used(documents.as_slice(), unused_entries);
+    leave_ignored(entries, documents);
+}
+
+/// Leaves out the entries that match one of these documents.
+fn leave_used(documents: &[String], entries: &mut Vec<String>)
+    ensures { map string_bytes entries.new.items ≡ unused_by (map string_bytes documents.now) (map string_bytes entries.old.items) }
+{
+    entries.retain(|entry| !is_used_for(entry.as_str(), documents));
+}
+
+/// Leaves out the documents that an entry matches.
+fn leave_ignored(entries: &[String], documents: &mut Vec<String>)
+    ensures { map string_bytes documents.new.items ≡ not_ignored (map string_bytes entries.now) (map string_bytes documents.old.items) }
+{
+    documents.retain(|document| !is_ignored(entries, document.as_str()));
+}
+
+/// Whether the entry matches one of these documents.
+fn is_used_for(entry: &str, documents: &[String]) -> bool
+    ensures { result ≡ list_any (matches_target entry.now) (map string_bytes documents.now) }
+{
+    for document in documents {
+        if matches_target(entry, document.as_str()) {
+            return true;
+        }
+    }
+    false
 }
 
 /// The documents of which none of these URLs is the own URL or an alias, in order, as they are printed, without those with the file name

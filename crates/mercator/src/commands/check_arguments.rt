@@ -23,8 +23,10 @@ const LOCAL: &str =
 
 const CHECK_HELP: &str = "\
 Reports links to pages or anchors that do not exist, and invalid links, with the file, line and
-column of each. The exit status is 4 if a link is broken or invalid, or leaves the site, or if
---sitemap reports a document; with --fix --dry-run, it is 4 if a link would be rewritten.
+column of each. Links are read from attributes such as href, src and srcset, and from styles, but
+not from the action of a form. The exit status is 4 if a link is broken or invalid, or leaves the
+site, or if --sitemap reports a document; with --fix --dry-run, it is 4 if a link would be
+rewritten.
 Example: mercator check examples/site";
 
 /// `check`: finds the broken links of a folder.
@@ -210,7 +212,7 @@ const REPORT_OPTIONS: &[Valued] = &[Valued {
 const IGNORE_OPTIONS: &[Valued] = &[Valued {
     name: "ignore",
     value: "LIST",
-    help: "Ignore each target that begins with a line of the file LIST, or matches one such as img/*.png",
+    help: "Ignore each target that begins with a line of the file LIST, or matches one such as *.png; with BASE, a target is a URL",
 }];
 
 /// Which documents and links are checked.

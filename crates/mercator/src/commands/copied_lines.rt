@@ -1,26 +1,74 @@
-//! Lines of an ignore list that were copied from a report, such as `docs/a.html:3:14: gone.html: no such page`. They match nothing, because an
-//! entry has neither a line and a column nor a message.
+//! Lines of an ignore list that are written as a report shows findings. A line that was copied from a report, such as
+//! `docs/a.html:3:14: gone.html: no such page`, matches nothing, because an entry has neither a line and a column nor a message. Neither
+//! does a path with spaces or characters beyond ASCII, because an entry has escapes for them.
 
 use std::alloc::{AllocError, Global};
 
-/// What to write in place of a line of an ignore list, if that is like a line of a report. A comment is not.
+/// What to write in place of a line of an ignore list, if that is written as in a report. A comment is not.
 pub fn advice_for(alloc: Global, line: &str) -> Result<Option<String>, AllocError> {
     if line.starts_with('#') {
         return Ok(None);
     }
-    let Some((location, rest)) = line.split_once(": ") else {
-        return Ok(None);
-    };
-    let Some(file) = file_in(location) else {
-        return Ok(None);
-    };
-    let target = before_message(rest);
-    if is_plain(target) {
-        let advice = format!(in alloc; "write only the file and the target: {file}: {target}")?;
-        return Ok(Some(advice));
+    match line.split_once(": ") {
+        Some((location, rest)) => advice_for_parts(alloc, location, rest),
+        None => advice_for_target(alloc, line),
     }
-    let advice = "write only the file and the target, as --json spells them";
-    Ok(Some(String::from_str(alloc, advice)?))
+}
+
+/// What to write in place of a line with a colon and a space after its first part.
+fn advice_for_parts(
+    alloc: Global,
+    location: &str,
+    rest: &str,
+) -> Result<Option<String>, AllocError> {
+    match file_in(location) {
+        Some(file) => advice_for_copy(alloc, file, before_message(rest)),
+        None => advice_for_target(alloc, rest),
+    }
+}
+
+/// What to write in place of a line that was copied from a report.
+fn advice_for_copy(alloc: Global, file: &str, target: &str) -> Result<Option<String>, AllocError> {
+    if has_no_escapes(target) {
+        let advice = "write only the file and the target, as --json spells them";
+        return Ok(Some(String::from_str(alloc, advice)?));
+    }
+    let target = with_escapes(alloc, target)?;
+    let advice = format!(in alloc; "write only the file and the target: {file}: {target}")?;
+    Ok(Some(advice))
+}
+
+/// What to write in place of the target of an entry, if it is a path without escapes for spaces and characters beyond ASCII.
+fn advice_for_target(alloc: Global, target: &str) -> Result<Option<String>, AllocError> {
+    if is_plain(target) || has_no_escapes(target) {
+        return Ok(None);
+    }
+    let path = with_escapes(alloc, target)?;
+    let advice = format!(in alloc; "write the path as --json spells it: {path}")?;
+    Ok(Some(advice))
+}
+
+/// Whether a target has spaces or characters beyond ASCII, but may be no path: an invalid link, which has them without escapes, has a colon.
+fn has_no_escapes(target: &str) -> bool {
+    !is_plain(target) && target.contains(':')
+}
+
+/// A path with an escape for each byte that is not a visible character of ASCII.
+fn with_escapes(alloc: Global, path: &str) -> Result<String, AllocError> {
+    let mut new = String::new(alloc);
+    for byte in path.bytes() {
+        push_byte(alloc, byte, &mut new)?;
+    }
+    Ok(new)
+}
+
+/// Appends a byte of a path, or its escape.
+fn push_byte(alloc: Global, byte: u8, path: &mut String) -> Result<(), AllocError> {
+    if byte.is_ascii_graphic() {
+        return path.push(char::from(byte));
+    }
+    let escape = format!(in alloc; "%{byte:02X}")?;
+    path.push_str(escape.as_str())
 }
 
 /// The file in a location such as `docs/a.html:3:14`. `None` if the text does not end with a line and a column.

@@ -297,6 +297,10 @@ impl fmt::Display for SiteText<'_> {
             FolderError::TooLarge => write!(f, "{file}: more than 1073741824 bytes of links"),
             FolderError::PagesLost => write!(f, "{file}: a page was lost; please report this bug"),
             FolderError::FileUnread => write!(f, "{file}: a file changed while it was checked"),
+            FolderError::FileChanged => write!(
+                f,
+                "{file}: a link in a file changed while it was checked"
+            ),
             FolderError::LinkLost => write!(f, "{file}: a link was lost; please report this bug"),
             FolderError::Crawl(failure) => CrawlText(failure.error).fmt(f),
             FolderError::NoMemory => f.write_str("out of memory"),

@@ -10,7 +10,9 @@ use crate::commands::folder::{note_line, print_notes, read_ignore_list};
 use crate::commands::source::read_named;
 use crate::commands::writing::{begin, end};
 use link_fixes::push_diff;
-use mercator_site::{CheckOptions, DocumentFix, FileFix, FolderError, Note, fixes_of_folder};
+use mercator_site::{
+    CheckOptions, DocumentFix, FileFix, FolderError, LeftLink, LeftReason, Note, fixes_of_folder,
+};
 use shown_text::shown;
 use std::alloc::{AllocError, Global};
 use std::fs::{self, Files, OpenFile, OpenOptions};
@@ -209,8 +211,32 @@ fn print_left<E: Write>(
     if left == 0 {
         return Ok(());
     }
-    let reason = format!(in alloc; "links left as they are: {left}")?;
+    let mut reason = format!(in alloc; "links left as they are: {left}")?;
+    push_first(alloc, fix.first_left, &mut reason)?;
     print_note(alloc, name, reason.as_str(), err)
+}
+
+/// Appends the location of the first link that stays as it is, and the reason.
+fn push_first(alloc: Global, link: Option<LeftLink>, text: &mut String) -> Result<(), AllocError> {
+    let Some(link) = link else {
+        return Ok(());
+    };
+    let line = link.line;
+    let column = link.column;
+    let why = why_left(link.reason);
+    let first = format!(in alloc; " (the first is at {line}:{column}: {why})")?;
+    text.push_str(first.as_str())
+}
+
+/// Why a link stays as it is.
+fn why_left(reason: LeftReason) -> &'static str {
+    match reason {
+        LeftReason::Encoding => "the file is not in UTF-8, or begins with a byte order mark",
+        LeftReason::Written => "it is not written as it is read, or follows another one in a list",
+        LeftReason::NewText =>
+            "it has no path, or its new text would need escapes or lead elsewhere",
+        LeftReason::OtherChanges => "rewriting the file would change other links or text",
+    }
 }
 
 /// Prints a note about a file.

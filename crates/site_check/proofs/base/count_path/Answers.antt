@@ -6,6 +6,7 @@ pub returns : goal.returns
 returns c = λ fits other.
     let old = c.args.counts.now in
     let count = c.saturating_add-count.result in
+    let key = c.from.result in
     let more : count ≡ count_at old c.args.folder.now + 1 = omega (arith, fits, c.count_at.ensures, c.saturating_add-count.ensures) in
-    count_put old c.insert.new.self c.as_bytes.result count c.in_ok-insert.ensures.updates (more ∙ ap (λ t. count_at old t + 1) (sym c.as_bytes.ensures.value)) other
-    ∙ ap (λ t. one_if (bytes_eq t other) + count_at old other) c.as_bytes.ensures.value
+    count_put old c.insert.new.self key count c.in_ok-insert.ensures.updates (more ∙ ap (λ t. count_at old t + 1) (sym c.from.ensures)) other
+    ∙ ap (λ t. one_if (bytes_eq t other) + count_at old other) c.from.ensures

@@ -16,5 +16,5 @@ returns-clause-located c =
 pub returns-clause-whole : goal.returns-clause-whole
 returns-clause-whole c =
     let input = c.args.input in
-    subst (λ (rows : List Broken). All (IsKeptPlace input.front.now (map string_bytes input.ignores.now) c.args.linked.now rows) (map placed_at c.args.places.now)) c.as_slice-2.ensures.value
+    subst (λ (rows : List Broken). All (IsKeptPlace input.front.now (map string_bytes input.ignores.now) c.args.linked.now c.args.others.anchors.now rows) (map placed_at c.args.places.now)) c.as_slice-2.ensures.value
     (c.has_all_places-is_whole.ensures c.if-not-is_whole.false)

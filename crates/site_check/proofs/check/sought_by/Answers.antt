@@ -7,10 +7,11 @@ use Rattle.site_check.specs.Complete.{HasIndices}
 use Rattle.site_check.specs.Leads.{indices_in, leads_from, number_in, targets_of}
 use Rattle.site_check.specs.Located.{listed}
 use Rattle.site_check.specs.declared.check_error.CheckError.{CheckError}
-use Rattle.site_check.specs.declared.located.ListedLead.{ListedLead}
+use Rattle.site_check.specs.declared.leads.ListedLead.{ListedLead}
 use Rattle.site_check.proofs.KeptLinks.{all_led}
 use Rattle.site_check.proofs.LeadTargets.{all_listed}
-use Rattle.site_check.proofs.AllLacked.{anchors_found}
+use Rattle.site_check.proofs.AllLacked.{anchors_found, lacks_given}
+use Rattle.site_check.proofs.KeptLacks.{lacks_led}
 use Rattle.site_check.specs.AnchorGroups.{anchor_row}
 use Rattle.site_check.specs.Documents.{AreSearchable}
 use Rattle.std.proofs.Common.{arith, string_bytes, ◌<◌}
@@ -49,3 +50,16 @@ returns-clause-anchors g c = λ s.
     let some : 0 < count = omega (arith, c.max-threads.ensures) in
     anchors_found pages.anchors.now pages.aliases.now site.files.now pages.results.now input.front.now (map string_bytes input.ignores.now) (AreSearchable site.files.now pages) count c.join-leads.result.1 c.in_ok-lacked.lacked c.sort_by_anchor.new.all.items
     c.as_slice.result.now (map anchor_row c.in_ok-anchors.anchors.items) _ _ c.in_ok-lacked.was some c.join-leads.ensures.second c.sort_by_anchor.ensures.permutation c.in_ok-sort_by_anchor.ensures.sorted c.as_slice.ensures.value c.in_ok-anchors.ensures.groups s
+
+pub returns-clause-anchor_leads : goal.returns-clause-anchor_leads
+returns-clause-anchor_leads g c = λ s.
+    let site = c.args.site in
+    let pages = site.pages in
+    let input = c.args.input in
+    let count = c.max-threads.result in
+    let some : 0 < count = omega (arith, c.max-threads.ensures) in
+    let given = c.as_slice.result.now in
+    lacks_led input.front.now (map string_bytes input.ignores.now) pages.anchors.now pages.aliases.now site.files.now pages.results.now given c.in_ok-anchors.anchors.items _ _ _ _ _ _
+    (lacks_given pages.anchors.now pages.aliases.now site.files.now pages.results.now (AreSearchable site.files.now pages) count c.join-leads.result.1 c.in_ok-lacked.lacked c.sort_by_anchor.new.all.items given c.in_ok-lacked.was some c.join-leads.ensures.second
+    c.sort_by_anchor.ensures.permutation c.as_slice.ensures.value s)
+    c.in_ok-anchors.ensures.groups c.in_ok-invalid.ensures.leads c.in_ok-push_listed.ensures c.sort_by_page.ensures

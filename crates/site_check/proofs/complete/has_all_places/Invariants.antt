@@ -5,4 +5,4 @@ use Rattle.site_check.specs.Located.{placed_at}
 use Rattle.site_check.proofs.complete.has_all_places.Given as goal
 
 abbrev pub invariant-loop-one : goal.invariant-loop-one
-invariant-loop-one l = All (IsKeptPlace l.front (map string_bytes l.ignores) l.linked l.rows) (map placed_at (take l.one-index l.places))
+invariant-loop-one l = All (IsKeptPlace l.targets.front.now (map string_bytes l.ignores) l.targets.linked.now l.targets.anchors.now l.rows) (map placed_at (take l.one-index l.places))

@@ -1,4 +1,4 @@
-use Rattle.site_check.proofs.Prelude.{◌≡◌, ◌∙◌, arith, inl, inr, indices_at, is_alias, length, ap, subst, sym}
+use Rattle.site_check.proofs.Prelude.{◌∙◌, arith, inl, inr, is_alias, length, ap, subst, sym}
 use Rattle.std.proofs.Common.{true≢false}
 use Rattle.site_check.proofs.PageIndices.{AreEnough}
 use Rattle.site_check.proofs.indexed.are_indexed.Goals as goal

@@ -1,4 +1,4 @@
-use Rattle.site_check.proofs.Prelude.{List, Some, ap, option_map, sym}
+use Rattle.site_check.proofs.Prelude.{option_map, sym}
 use Rattle.std.proofs.Common.{rules}
 use Rattle.std.proofs.lemmas.Fn.{always_returns_same}
 use Rattle.std.specs.Cmp.Lexicographic.{slice_cmp}
