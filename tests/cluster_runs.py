@@ -46,6 +46,7 @@ from mercator_frontier import FrontierEnded  # noqa: E402
 from serving.crawlers import Folder, found_by_search  # noqa: E402
 from serving.trial import SECONDS, Differs, expect  # noqa: E402
 
+END = " ."  # of a record of a URL that is about to be fetched
 LONG = "\u00fc" * 1500
 BUILT = ROOT / "crates/mercator_cli/out/mercator_cli"
 # The exit statuses of the process of a part.
@@ -270,13 +271,18 @@ def started(shared: Shared, part: int) -> Part:
     return made
 
 
+def records(taken: Iterable[Tuple[int, str]]) -> str:
+    """Lines of URLs that are about to be fetched. One that is cut off, since its process was killed, has no end, and its URL was not fetched."""
+    return "".join([f"\n{queue} {url}{END}" for queue, url in taken])
+
+
 def work(shared: Shared, part: int) -> None:
     """Run a part until the crawl is complete. Each URL is recorded before it is fetched."""
     pages = shared.web.pages
     file = os.open(shared.folder / f"fetched.{part}", os.O_WRONLY | os.O_CREAT | os.O_APPEND)
 
     def fetch(queue: int, url: str) -> Tuple[str, List[str]]:
-        os.write(file, f"{queue} {url}\n".encode())
+        os.write(file, records([(queue, url)]).encode())
         return url, pages.get(url, [])
 
     if shared.has_threads:
@@ -291,7 +297,7 @@ def work(shared: Shared, part: int) -> None:
                     taken = made.round(fetched)
                     if taken is None:
                         break
-                    os.write(file, "".join([f"{queue} {url}\n" for queue, url in taken]).encode())
+                    os.write(file, records(taken).encode())
                     fetched = [Fetched(queue, url, pages.get(url, [])) for queue, url in taken]
                 counts.update(vars(made.counts))
             break
@@ -426,7 +432,7 @@ def fetched_by(shared: Shared) -> Tuple[Counter[str], Dict[str, Set[Tuple[int, i
     hosts: Dict[str, Set[Tuple[int, int]]] = defaultdict(set)
     for part in range(shared.crawl.parts):
         lines = (shared.folder / f"fetched.{part}").read_text().splitlines()
-        for queue, url in (line.split(" ") for line in lines):
+        for queue, url, _ in (line.split(" ") for line in lines if line.endswith(END)):
             count[url] += 1
             hosts[url.split("/")[2]].add((part, int(queue)))
     return count, hosts
@@ -628,7 +634,7 @@ class ByHand:
         """Run one round, and return whether the crawl is complete for this part."""
         taken = self.made.round(self.fetched)
         with open(self.shared.folder / f"fetched.{self.part}", "a") as file:
-            file.writelines(f"{queue} {url}\n" for queue, url in taken or ())
+            file.write(records(taken or ()))
         pages = self.shared.web.pages
         self.fetched = [Fetched(queue, url, pages.get(url, [])) for queue, url in taken or ()]
         return taken is None
