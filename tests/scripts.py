@@ -9,7 +9,8 @@
 - Texts: a test, mistake, package or crate that another file names by its text is in the file that defines it (see TEXTS), and each part of
   quick.sh has a command.
 - Crates: crates.txt has a line for each folder of `crates/`, and names no library that `rt ci` refuses, nor one that is neither in
-  `crates/` nor in the toolchain. The toolchain's libraries are compared only if the command `rt` is found.
+  `crates/` nor in the toolchain. The toolchain's libraries are compared only if the command `rt` is found. A crate has only the files
+  and folders of IN_CRATE.
 - Changes: each text to replace in a mutant or planted bug occurs exactly once in its file, and tests/planted.txt lists exactly the
   bugs in tests/planted, and only mutants that exist.
 
@@ -49,6 +50,8 @@ TOOLCHAIN = {"docs/NOT_COVERED.md", "docs/REFUSED.md"}
 # The folders of scripts whose paths are checked. Python files with random folders of documents have paths of these, too.
 SCRIPTS = re.compile(r"(?:[^/]+\.sh|(?:tests|tools|docs|bench|clients|examples)/.*\.(?:sh|py|mjs))")
 PROGRAM = re.compile(r".*\.(?:py|sh)")
+# What the folder of a crate has in git.
+IN_CRATE = {"README.md", "src", "specs", "proofs", "mutants", "must-fail", "data", "args", "stdin", "stdout"}
 # An argument: quoted, computed, or up to a space or a sign that ends the command.
 ARGUMENTS = re.compile(r"(?:[ \t]+(?:\"[^\"]*\"|'[^']*'|\$\(\(.*?\)\)|\$\([^()]*\)|[^\s;|&<>()\"'`])+)*")
 COMPUTED = re.compile(r"\$\(\(.*?\)\)|\$\([^()]*\)")
@@ -332,7 +335,9 @@ def check_parts(results: Results) -> None:
 
 # ---------------------------------------------------------------- crates
 
-def check_crates(results: Results) -> None:
+def check_crates(names: List[str], results: Results) -> None:
+    for folder in sorted({"/".join(name.split("/")[:3]) for name in names if name.startswith("crates/")}):
+        results.add(folder, None if folder.split("/")[2] in IN_CRATE else "a crate has no such file or folder")
     lines = [line.partition("#")[0] for line in text_of("crates.txt").splitlines()]
     listed: Dict[str, List[str]] = {}
     for head, _, after in (line.partition(":") for line in lines if line.strip()):
@@ -397,7 +402,7 @@ def main() -> int:
     check_commands(names, results)
     check_texts(results)
     check_parts(results)
-    check_crates(results)
+    check_crates(names, results)
     check_changes(results)
     print(f"{results.passed} passed, {results.failed} failed")
     return 1 if results.failed else 0
