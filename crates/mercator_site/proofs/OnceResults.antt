@@ -1,14 +1,21 @@
--- Each URL is that of one result of a crawl.
+-- Each URL is that of one result of a crawl, and the results are in the order of their URLs.
 use Rattle.mercator_site.proofs.Prelude.{◌≡◌, ◌∙◌, ℕ, ◌+◌, ◌≤◌, List, [], length, map, get_or, sym, ap, arith, nat_cmp, nat_list_cmp_total, slice_cmp, IsAscending, result_urls, begins, own_of, PageResult}
-use Rattle.std.proofs.Common.{◌<◌, inl, inr}
+use Rattle.std.proofs.Common.{◌<◌, inl, inr, ◌∷◌, zero, suc, subst, suc-le-suc, zero-le}
 use Rattle.std.proofs.lemmas.Bool.{cases_eq, cases_lt}
 use Rattle.std.proofs.lemmas.List.{get_or-map, get_or_default, length-map}
 use Rattle.std.proofs.lemmas.List.Elements.{All-contains, All-contains_itself, All-filter}
-use Rattle.std.specs.List.{All, Contains}
+use Rattle.std.proofs.lemmas.List.Kept.{IsStrictlySortedBy-filter}
+use Rattle.std.specs.List.{All, AllByRecursion, Contains}
+use Rattle.std.specs.List.Sorted.{IsStrictlySortedBy}
 use Rattle.std.specs.Ordering.{ordering_reverse}
 use Rattle.std.specs.declared.cmp.Ordering.{Ordering}
 use Rattle.std.specs.declared.cmp.Ordering.TheVariants.{Less, Equal, Greater}
+use Rattle.document_links.specs.declared.anchors.PageAnchors.{PageAnchors}
+use Rattle.saved_site.specs.Served.{AliasesAscend, AnchorsAscend}
 use Rattle.site_check.specs.Complete.{AreOnce}
+use Rattle.site_check.specs.Documents.{AreInOrder}
+use Rattle.site_files.specs.Firsts.{cmp_keys}
+use Rattle.site_files.specs.declared.alias.Alias.{Alias}
 
 not_less : (o : Ordering) → o ≡ ordering_reverse o → o ≡ Less → ⊥
 not_less Less same is = cc
@@ -52,3 +59,28 @@ once_own top pages once =
   where
     among : (x : PageResult) → Contains (own_of top pages) x → Contains pages x
     among x has = All-contains (Contains pages) (own_of top pages) x (All-filter (λ (r : PageResult). begins top r.url) (Contains pages) pages (All-contains_itself pages)) has
+
+-- ---- results in the order of their URLs
+
+abbrev url_in : PageResult → List ℕ
+url_in r = r.url
+
+before_all : (first : PageResult) (more : List PageResult) → ((j : ℕ) (d : List ℕ) → j < length (result_urls more) → slice_cmp nat_cmp first.url (get_or (result_urls more) j d) ≡ Less) → AllByRecursion (λ r. cmp_keys url_in first r ≡ Less) more
+before_all first [] before = tt
+before_all first (r ∷ more) before = (before zero [] (suc-le-suc zero-le), before_all first more (λ j d below. before (suc j) d (suc-le-suc below)))
+
+strictly : (pages : List PageResult) → IsAscending (result_urls pages) → IsStrictlySortedBy (cmp_keys url_in) pages
+unfolding IsStrictlySortedBy
+strictly [] pairs = tt
+strictly (r ∷ more) pairs = (
+  before_all r more (λ j d below. pairs zero (suc j) d (suc-le-suc zero-le) (suc-le-suc below)),
+  strictly more (λ i j d before below. pairs (suc i) (suc j) d (suc-le-suc before) (suc-le-suc below)),
+)
+
+-- so are those below a top
+pub in_order : (anchors : List PageAnchors) (aliases : List Alias) (pages own : List PageResult) (top : List ℕ) → AnchorsAscend anchors → AliasesAscend aliases → IsAscending (result_urls pages) → own ≡ own_of top pages → AreInOrder anchors aliases own
+in_order anchors aliases pages own top anchors_ascend aliases_ascend ascends are_own = record {
+  own = anchors_ascend;
+  others = aliases_ascend;
+  found = subst (IsStrictlySortedBy (cmp_keys url_in)) (sym are_own) (IsStrictlySortedBy-filter (cmp_keys url_in) (λ (r : PageResult). begins top r.url) pages (strictly pages ascends));
+}

@@ -6,6 +6,7 @@ use Rattle.std.specs.Prelude.{None, Option, Some}
 use Rattle.std.specs.Str.Lines.{lines}
 use Rattle.crawl_certificate.proofs.OneCrawl.{one_crawl}
 use Rattle.crawl_keys.specs.declared.error.KeyError.{KeyError}
+use Rattle.document_links.specs.declared.anchors.PageAnchors.{PageAnchors}
 use Rattle.mercator_site.specs.Checks.{AreReached, unreached_by}
 use Rattle.mercator_site.specs.Maps.{names_of, unmapped}
 use Rattle.mercator_site.specs.Starts.{documents_in}
@@ -46,31 +47,31 @@ one_reached false top web reachable links (Some pages) others own its = absurd o
 
 -- ---- what is reported of them
 
-module _ (files : SiteFiles) (reads : ℕ → Option (List ℕ) → Type 0) (name top web : List ℕ) (aliases others : List Alias) (asks : Asks) (broken fails : Bool) (text report : List ℕ) where
-  one_pages : (one : IsCheck files reads name top web aliases asks broken text) (other : IsCheck files reads name top web others asks fails report) → one.pages ≡ other.pages
+module _ (files : SiteFiles) (reads : ℕ → Option (List ℕ) → Type 0) (name top web : List ℕ) (aliases others : List Alias) (anchors kept : List PageAnchors) (asks : Asks) (broken fails : Bool) (text report : List ℕ) where
+  one_pages : (one : IsCheck files reads name top web aliases anchors asks broken text) (other : IsCheck files reads name top web others kept asks fails report) → one.pages ≡ other.pages
   one_pages one other = one_top_crawl top web asks.reachable asks.seeds (documents_in asks.reachable files top) one.pages other.pages one.crawled other.crawled
 
-  one_own : (one : IsCheck files reads name top web aliases asks broken text) (other : IsCheck files reads name top web others asks fails report) → one.own ≡ other.own
+  one_own : (one : IsCheck files reads name top web aliases anchors asks broken text) (other : IsCheck files reads name top web others kept asks fails report) → one.own ≡ other.own
   one_own one other = one.are_own ∙ ap (own_of top) (one_pages one other) ∙ sym other.are_own
 
-  pub same_results : (one : IsCheck files reads name top web aliases asks broken text) (other : IsCheck files reads name top web others asks fails report) → (one.pages ≡ other.pages) × (one.own ≡ other.own)
+  pub same_results : (one : IsCheck files reads name top web aliases anchors asks broken text) (other : IsCheck files reads name top web others kept asks fails report) → (one.pages ≡ other.pages) × (one.own ≡ other.own)
   same_results one other = (one_pages one other, one_own one other)
 
-  pub same_redirects : (one : IsCheck files reads name top web aliases asks broken text) (other : IsCheck files reads name top web others asks fails report) → map way_of one.findings.checked.redirects.items ≡ map way_of other.findings.checked.redirects.items
+  pub same_redirects : (one : IsCheck files reads name top web aliases anchors asks broken text) (other : IsCheck files reads name top web others kept asks fails report) → map way_of one.findings.checked.redirects.items ≡ map way_of other.findings.checked.redirects.items
   same_redirects one other = one.findings.results.ways ∙ ap (redirects_of asks.front) (one_own one other) ∙ sym other.findings.results.ways
 
-  pub same_unreached : (one : IsCheck files reads name top web aliases asks broken text) (other : IsCheck files reads name top web others asks fails report) → map string_bytes one.findings.checked.unreached.items ≡ map string_bytes other.findings.checked.unreached.items
+  pub same_unreached : (one : IsCheck files reads name top web aliases anchors asks broken text) (other : IsCheck files reads name top web others kept asks fails report) → map string_bytes one.findings.checked.unreached.items ≡ map string_bytes other.findings.checked.unreached.items
   same_unreached one other =
       one.findings.results.unreached ∙ ap (unreached_by asks.front files) (one_reached asks.report.lists.unreached top web asks.reachable asks.seeds one.reached other.reached one.are_reached other.are_reached)
       ∙ sym other.findings.results.unreached
 
   -- the rows of missing pages are those of the results
-  rows_of : (its : List Alias) (verdict : Bool) (printed : List ℕ) (one : IsCheck files reads name top web its asks verdict printed) → list_any names_file asks.entries ≡ false → rows_in one.findings.checked.broken.items ≡ broken_of asks.front asks.entries one.own
-  rows_of its verdict printed one none =
+  rows_of : (its : List Alias) (found : List PageAnchors) (verdict : Bool) (printed : List ℕ) (one : IsCheck files reads name top web its found asks verdict printed) → list_any names_file asks.entries ≡ false → rows_in one.findings.checked.broken.items ≡ broken_of asks.front asks.entries one.own
+  rows_of its found verdict printed one none =
       let results = one.findings.results in
       let checked = one.findings.checked in
       (reported_all asks.front asks.entries asks.scope results.places asks.rooted (names_of asks.folders) files one.own (unmapped asks.folders one.pages) checked.broken.items results.unused none results.rows).pages
 
-  pub same_pages : list_any names_file asks.entries ≡ false → (one : IsCheck files reads name top web aliases asks broken text) (other : IsCheck files reads name top web others asks fails report) →
+  pub same_pages : list_any names_file asks.entries ≡ false → (one : IsCheck files reads name top web aliases anchors asks broken text) (other : IsCheck files reads name top web others kept asks fails report) →
       rows_in one.findings.checked.broken.items ≡ rows_in other.findings.checked.broken.items
-  same_pages none one other = rows_of aliases broken text one none ∙ ap (broken_of asks.front asks.entries) (one_own one other) ∙ sym (rows_of others fails report other none)
+  same_pages none one other = rows_of aliases anchors broken text one none ∙ ap (broken_of asks.front asks.entries) (one_own one other) ∙ sym (rows_of others kept fails report other none)

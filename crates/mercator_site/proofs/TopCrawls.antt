@@ -23,10 +23,6 @@ use Rattle.site_files.specs.declared.files.SiteFiles.{SiteFiles}
 pub source_of : (top : List ℕ) (pages : List PageFound) (source : IsSiteSource top pages) → IsSourceOf (page_at pages) source.bytes
 source_of top pages source = record { sound = source.web.sound; same = source.same }
 
--- and those that a server returns
-pub web_of : (files : SiteFiles) (reads : ℕ → Option (List ℕ) → Type 0) (top : List ℕ) (pages : List PageFound) (source : IsSiteSource top pages) → AreServed (IsServedPage files reads) pages → HasAllPages files pages → IsWebOf files reads source.bytes
-web_of files reads top pages source served all = record { pages = pages; same = λ url. sym (source.same url); served = served; all = all }
-
 -- aliases among the pages of a source are aliases in its saved web
 pub aliases_in : (pages : List PageFound) (web : List ℕ) (aliases : List Alias) → IsSourceOf (page_at pages) web → AreAliases pages aliases → AreAliasesIn web aliases
 aliases_in pages web aliases source are = λ k d below. sym (source.same (get_or aliases k d).url) ∙ are k d below

@@ -9,6 +9,7 @@ use Rattle.check_report.specs.declared.value.Contents.{Contents}
 use Rattle.crawl_keys.specs.HostFilter.{allows}
 use Rattle.crawl_keys.specs.HostKey.{host_key}
 use Rattle.crawl_certificate.specs.Certificate.{IsCrawl}
+use Rattle.document_links.specs.declared.anchors.PageAnchors.{PageAnchors}
 use Rattle.document_links.specs.declared.positions.LinkPlaces.{LinkPlaces}
 use Rattle.saved_pages.specs.SavedWeb.{page_of}
 use Rattle.saved_pages.specs.WebErrors.{IsSound}
@@ -32,16 +33,19 @@ use Rattle.site_files.specs.declared.rules.Rules.{Rules}
 use Rattle.site_files.specs.Below.{IsTop}
 use Rattle.saved_site.specs.Below.{IsWebBelow}
 use Rattle.saved_site.specs.Meaning.{IsSiteWeb}
+use Rattle.saved_site.specs.Served.{HaveAnchors, IsServedPage}
 use Rattle.saved_site.specs.declared.web.LinkedSite.{LinkedSite}
 use Rattle.site_check.specs.Base.{hint_at}
 use Rattle.site_check.specs.Broken.{redirects_of}
 use Rattle.site_check.specs.Complete.{AreOnce, HasAllLinks}
+use Rattle.site_check.specs.Documents.{AreInOrder}
 use Rattle.site_files.specs.declared.files.SiteFiles.{SiteFiles}
 use Rattle.site_files.specs.declared.alias.Alias.{Alias}
 use Rattle.site_check.specs.LinkBase.{base_hint_of}
 use Rattle.site_check.specs.Ignored.{not_ignored, unused_by}
+use Rattle.site_check.specs.LackedPlaces.{HasAllLacks}
 use Rattle.site_check.specs.Locations.{IsLocated}
-use Rattle.site_check.specs.Reported.{AreReported}
+use Rattle.site_check.specs.Reported.{AreReported, ReportsAnchors}
 use Rattle.site_check.specs.RowMeanings.{way_of}
 use Rattle.site_check.specs.Totals.{totals_of}
 use Rattle.site_check.specs.Unlisted.{unlisted_of}
@@ -114,7 +118,7 @@ other_rows contents = option_map (λ urls. map row_of urls.now) contents.externa
 -- broken links; and the hint at BASE. The totals count the pages at the own URLs of files, those of some documents apart, their links, the
 -- pages at these aliases, and the rows. By the totals something is broken if there is a row: of a missing page or anchor, of an invalid
 -- link, or of a link that leads out of the site
-pub record AreResults (site : SiteFiles) (reads : ℕ → Option (List ℕ) → Type 0) (own pages : List PageResult) (reached : Option (List PageResult)) (aliases : List Alias) (asks : Asks) (checked : Checked) : Type 0 where
+pub record AreResults (site : SiteFiles) (reads : ℕ → Option (List ℕ) → Type 0) (own pages : List PageResult) (reached : Option (List PageResult)) (aliases : List Alias) (anchors : List PageAnchors) (asks : Asks) (checked : Checked) : Type 0 where
   pub ways : map way_of checked.redirects.items ≡ redirects_of asks.front own
   -- the own URLs of documents
   pub documents : List (List ℕ)
@@ -133,6 +137,9 @@ pub record AreResults (site : SiteFiles) (reads : ℕ → Option (List ℕ) → 
   pub located : All (IsLocated asks.front places site own reads) checked.broken.items
   -- no link to a missing page is left out, if each URL is that of one result
   pub complete : AreOnce own → HasAllLinks asks.front asks.entries aliases places site own reads checked.broken.items
+  -- the missing anchors are those that the documents with these anchors lack, and no link to one is left out, if each URL is that of one
+  pub lacked : AreInOrder anchors aliases own → ReportsAnchors asks.front asks.entries anchors aliases site own checked.broken.items
+  pub all_lacked : AreInOrder anchors aliases own → HasAllLacks asks.front asks.entries anchors aliases site own reads checked.broken.items
   pub verdict : is_broken checked.totals ≡ not (length checked.broken.items == 0)
   pub worst : map file_links checked.worst.items ≡ worst_of checked.broken.items
   pub unreached : map string_bytes checked.unreached.items ≡ unreached_by asks.front site reached
@@ -161,10 +168,10 @@ pub record IsReport (checked : Checked) (others : Option (List Row)) (name : Lis
 
 -- the text is the report of a check of these results of a crawl, with the links to other hosts than the site's, if they are listed. A missing
 -- page of the site is rightly so
-pub record IsFindings (name : List ℕ) (site : SiteFiles) (reads : ℕ → Option (List ℕ) → Type 0) (own pages : List PageResult) (reached : Option (List PageResult)) (aliases : List Alias) (asks : Asks) (broken : Bool) (text : List ℕ) : Type 0 where
+pub record IsFindings (name : List ℕ) (site : SiteFiles) (reads : ℕ → Option (List ℕ) → Type 0) (own pages : List PageResult) (reached : Option (List PageResult)) (aliases : List Alias) (anchors : List PageAnchors) (asks : Asks) (broken : Bool) (text : List ℕ) : Type 0 where
   pub missing : All (IsRightlyMissed site) own
   pub checked : Checked
-  pub results : AreResults site reads own pages reached aliases asks checked
+  pub results : AreResults site reads own pages reached aliases anchors asks checked
   pub others : Option (List Row)
   pub are_others : AreOthersListed asks.report.external (host_root site) own others
   pub report : IsReport checked others name asks broken text
@@ -172,16 +179,19 @@ pub record IsFindings (name : List ℕ) (site : SiteFiles) (reads : ℕ → Opti
 -- the text reports what is found in the results of a crawl of the saved web below the top, on a site with this name and these files. The
 -- crawl also starts at the own URL of each document, sitemap and feed of the site at which a check starts, unless only what the search
 -- reaches is checked
-pub record IsCheck (site : SiteFiles) (reads : ℕ → Option (List ℕ) → Type 0) (name top web : List ℕ) (aliases : List Alias) (asks : Asks) (broken : Bool) (text : List ℕ) : Type 0 where
+pub record IsCheck (site : SiteFiles) (reads : ℕ → Option (List ℕ) → Type 0) (name top web : List ℕ) (aliases : List Alias) (anchors : List PageAnchors) (asks : Asks) (broken : Bool) (text : List ℕ) : Type 0 where
   pub pages : List PageResult
   pub crawled : IsTopCrawl top web asks.reachable asks.seeds (documents_in asks.reachable site top) pages
   pub own : List PageResult
   pub are_own : own ≡ own_of top pages
   pub reached : Option (List PageResult)
   pub are_reached : AreReached asks.report.lists.unreached top web asks.reachable asks.seeds reached
-  pub findings : IsFindings name site reads own pages reached aliases asks broken text
+  pub findings : IsFindings name site reads own pages reached aliases anchors asks broken text
   -- no link to a missing page is left out
   pub complete : HasAllLinks asks.front asks.entries aliases findings.results.places site own reads findings.checked.broken.items
+  -- the missing anchors are those that the documents with these anchors lack, and no link to one is left out
+  pub lacked : ReportsAnchors asks.front asks.entries anchors aliases site own findings.checked.broken.items
+  pub all_lacked : HasAllLacks asks.front asks.entries anchors aliases site own reads findings.checked.broken.items
 
 -- the page of each alias in the saved web has one link, to the own URL of the alias's file
 abbrev pub AreAliasesIn : List ℕ → List Alias → Type 0
@@ -195,7 +205,7 @@ abbrev pub IsAny : ℕ → Option (List ℕ) → Type 0
 IsAny index found = Unit {0}
 
 -- such a check, of the saved web of a site with some aliases, whose pages are below the top. They are those that a server returns for
--- these files, of which this can be read
+-- these files, of which this can be read, and so are their anchors
 pub record IsSiteCheck (files : SiteFiles) (reads : ℕ → Option (List ℕ) → Type 0) (name : List ℕ) (asks : Asks) (broken : Bool) (text : List ℕ) : Type 0 where
   pub web : List ℕ
   pub made : IsSiteWeb web
@@ -203,7 +213,10 @@ pub record IsSiteCheck (files : SiteFiles) (reads : ℕ → Option (List ℕ) �
   pub below : IsWebBelow (string_bytes files.site.top) web
   pub aliases : List Alias
   pub are_aliases : AreAliasesIn web aliases
-  pub checked : IsCheck files reads name (string_bytes files.site.top) web aliases asks broken text
+  -- the anchors of each page are those that are kept of what was read of its file
+  pub anchors : List PageAnchors
+  pub are_anchors : HaveAnchors (IsServedPage files reads) of_files.pages anchors
+  pub checked : IsCheck files reads name (string_bytes files.site.top) web aliases anchors asks broken text
 
 -- such a check, of the files with these names and bodies, whose top is that of BASE. A server answers for them as it does for a folder
 pub record IsSiteCheckAt (names : List (String Global)) (bodies : List (Vec ℕ Global)) (rules : Rules) (name base : List ℕ) (asks : Asks) (broken : Bool) (text : List ℕ) : Type 0 where

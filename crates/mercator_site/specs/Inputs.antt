@@ -1,6 +1,7 @@
 -- What a check reads of its settings and of the site.
 use Rattle.std.specs.Prelude.{ℕ, Bool, List, map, string_bytes, Option, option_map}
 use Rattle.crawl_pages.specs.declared.page.PageResult.{PageResult}
+use Rattle.document_links.specs.declared.anchors.PageAnchors.{PageAnchors}
 use Rattle.mercator_site.specs.Asks.{Asks}
 use Rattle.site_check.specs.declared.input.CheckInput.{CheckInput}
 use Rattle.site_check.specs.declared.input.MapName.{MapName}
@@ -17,6 +18,8 @@ pub record Input : Type 0 where
   pub found : List PageResult
   pub aliases : List Alias
   pub documents : List (List ℕ)
+  -- the anchors of the site's documents
+  pub anchors : List PageAnchors
   -- what a search finds, if unreached files are listed
   pub reached : Option (List PageResult)
   -- the URLs that sitemaps list, if the documents that none lists are reported
@@ -32,13 +35,14 @@ input_in input = record {
   found = input.found.now;
   aliases = input.aliases.now;
   documents = input.documents.now;
+  anchors = input.anchors.now;
   reached = option_map (λ results. results.now) input.reached;
   listed = option_map (λ urls. urls.now) input.listed;
 }
 
 -- with these settings
-abbrev pub input_with : Asks → List MapName → List PageResult → List Alias → List (List ℕ) → Option (List PageResult) → Option (List (List ℕ)) → Input
-input_with asks maps found aliases documents reached listed = record {
+abbrev pub input_with : Asks → List MapName → List PageResult → List Alias → List (List ℕ) → List PageAnchors → Option (List PageResult) → Option (List (List ℕ)) → Input
+input_with asks maps found aliases documents anchors reached listed = record {
   front = asks.front;
   entries = asks.entries;
   scope = asks.scope;
@@ -47,6 +51,7 @@ input_with asks maps found aliases documents reached listed = record {
   found = found;
   aliases = aliases;
   documents = documents;
+  anchors = anchors;
   reached = reached;
   listed = listed;
 }

@@ -10,6 +10,7 @@ ghost use Rattle.mercator_site.specs.Inputs.{input_in, input_with};
 ghost use Rattle.mercator_site.specs.Own.{own_of};
 ghost use Rattle.mercator_site.specs.Sources.{IsSourceOf};
 ghost use Rattle.saved_site.specs.Linked.{page_at};
+ghost use Rattle.saved_site.specs.Served.{AliasesAscend, AnchorsAscend};
 
 use crate::crawl::{SiteCrawls, crawl_site};
 use crate::error::FolderError;
@@ -127,7 +128,7 @@ fn report_of_pages<R: Threads + Wait + Sync, B: FileBytes + Sync>(
     bytes: &B,
     settings: CheckSettings<'_>,
 ) -> Result<CheckReport, FolderError>
-    ensures checked { (web : List ℕ) → IsSourceOf (page_at site.now.pages) web → IfOk result (λ report. IsCheck files.now (B.reads bytes.now) settings.entry.name.now files.now.site.top_url web site.now.aliases.items (asks_in settings.entry) report.is_broken report.text.items) }
+    ensures checked { (web : List ℕ) → IsSourceOf (page_at site.now.pages) web → AnchorsAscend site.now.anchors.items → AliasesAscend site.now.aliases.items → IfOk result (λ report. IsCheck files.now (B.reads bytes.now) settings.entry.name.now files.now.site.top_url web site.now.aliases.items site.now.anchors.items (asks_in settings.entry) report.is_broken report.text.items) }
     ensures incomplete { (web : List ℕ) → IsSourceOf (page_at site.now.pages) web → IfErr result (λ error. is_unfinished error ≡ true → IsTopIncomplete files.now.site.top_url web settings.entry.reachable (map string_bytes settings.entry.seeds.now) settings.entry.workers) }
 {
     let top = files.top_url();
@@ -168,7 +169,7 @@ fn report_of_crawled<R: Threads + Sync, B: FileBytes + Sync>(
     bytes: &B,
     settings: CheckSettings<'_>,
 ) -> Result<CheckReport, FolderError>
-    ensures findings { IfOk result (λ report. IsFindings settings.entry.name.now files.now (B.reads bytes.now) crawled.entry.own.now crawled.entry.pages.now (reached_in crawled.entry.crawls.now settings.entry.report.lists.unreached) crawled.entry.site.now.aliases.items (asks_in settings.entry) report.is_broken report.text.items) }
+    ensures findings { IfOk result (λ report. IsFindings settings.entry.name.now files.now (B.reads bytes.now) crawled.entry.own.now crawled.entry.pages.now (reached_in crawled.entry.crawls.now settings.entry.report.lists.unreached) crawled.entry.site.now.aliases.items crawled.entry.site.now.anchors.items (asks_in settings.entry) report.is_broken report.text.items) }
     ensures plain { IfErr result (λ error. is_unfinished error ≡ false) }
 {
     let is_wrong = has_false_miss(alloc, files, crawled.own)?;
@@ -195,7 +196,7 @@ pub(crate) fn checked_of<R: Threads + Sync, B: FileBytes + Sync>(
     bytes: &B,
     settings: CheckSettings<'_>,
 ) -> Result<Checked, CheckError>
-    ensures { IfOk result (AreResults files.now (B.reads bytes.now) crawled.entry.own.now crawled.entry.pages.now (reached_in crawled.entry.crawls.now settings.entry.report.lists.unreached) crawled.entry.site.now.aliases.items (asks_in settings.entry)) }
+    ensures { IfOk result (AreResults files.now (B.reads bytes.now) crawled.entry.own.now crawled.entry.pages.now (reached_in crawled.entry.crawls.now settings.entry.report.lists.unreached) crawled.entry.site.now.aliases.items crawled.entry.site.now.anchors.items (asks_in settings.entry)) }
 {
     let left = unmapped(alloc, settings.maps, crawled.pages)?;
     let names = names_of(alloc, settings.maps)?;
@@ -228,7 +229,7 @@ fn input_of<'a>(
     lookups: Lookups<'a>,
     settings: CheckSettings<'a>,
 ) -> CheckInput<'a>
-    ensures { input_in result ≡ input_with (asks_in settings.entry) lookups.entry.names.now lookups.entry.left.now crawled.entry.site.now.aliases.items crawled.entry.site.now.documents.items (reached_in crawled.entry.crawls.now settings.entry.report.lists.unreached) (listed_in crawled.entry.site.now settings.entry.report.lists.unlisted) }
+    ensures { input_in result ≡ input_with (asks_in settings.entry) lookups.entry.names.now lookups.entry.left.now crawled.entry.site.now.aliases.items crawled.entry.site.now.documents.items crawled.entry.site.now.anchors.items (reached_in crawled.entry.crawls.now settings.entry.report.lists.unreached) (listed_in crawled.entry.site.now settings.entry.report.lists.unlisted) }
 {
     let site = crawled.site;
     let lists = settings.report.lists;

@@ -1,4 +1,6 @@
 pub mod Prelude
+pub mod Anchors
+pub mod Ascending
 pub mod Found
 pub mod LedPages
 pub mod Lines

@@ -1,6 +1,11 @@
 -- One page more of those whose links are the indices of URLs.
-use Rattle.saved_site.proofs.Prelude.{◌≡◌, ℕ, Bool, true, false, List, [], ◌∷◌, ◌++◌, is_some, refl, sym, ap, subst, ◌∙◌, arith, if◌then◌else◌, cond-true, map_push, All-push, KeepIndices, Page, index_of, is_next, PageFound, page_with, found_of, IsKept, AreKept, with_found, page_led, found_in, found_all, IsLed, AreLed, urls_of, under_page, IsPage, LinkedPage, SitePage}
+use Rattle.saved_site.proofs.Prelude.{◌≡◌, ℕ, Bool, true, false, List, [], ◌∷◌, ◌++◌, length, length-append, append-nil, not, Option, is_some, refl, sym, ap, subst, ◌∙◌, arith, if◌then◌else◌, cond-true, map_push, All-push, KeepIndices, Page, index_of, is_next, PageFound, page_with, found_of, IsKept, AreKept, with_found, page_led, found_in, found_all, IsLed, AreLed, urls_of, under_page, IsPage, LinkedPage, SitePage}
+use Rattle.std.proofs.lemmas.Bool.Decides.{nat_tests}
+use Rattle.std.specs.Option.{option_to_list}
+use Rattle.std.specs.Prelude.{nat_lt}
+use Rattle.document_links.specs.declared.anchors.PageAnchors.{PageAnchors}
 use Rattle.saved_site.proofs.LedPages.{all_led_still, has_found, same_found}
+use Rattle.saved_site.specs.Served.{entry_of}
 
 abbrev pub with_one : List LinkedPage → LinkedPage → List LinkedPage
 with_one list one = if is_some (index_of (urls_of list) one.url) then list else list ++ one ∷ []
@@ -45,3 +50,24 @@ linked_one serves top old turned new list longer one page base is same keep_turn
       kept = kept_with serves top (found_all old list) (found_all new longer) page view all fit kept served;
       view = view;
     }
+
+-- ---- anchors
+
+-- the list is longer if no page has the URL
+is_longer : (list longer : List LinkedPage) (one : LinkedPage) (b : Bool) → is_some (index_of (urls_of list) one.url) ≡ b → longer ≡ (if b then list else list ++ one ∷ []) → nat_lt (length list) (length longer) ≡ not b
+is_longer list longer one true has is = ap (λ (l : List LinkedPage). nat_lt (length list) (length l)) is ∙ grind (arith, nat_tests)
+is_longer list longer one false has is = ap (λ (l : List LinkedPage). nat_lt (length list) (length l)) is ∙ grind (arith, nat_tests, length-append)
+
+-- the anchors of a page are added if no page has its URL
+pub own_added : (urls : List (List ℕ)) (list longer : List LinkedPage) (one : LinkedPage) (page : SitePage) (entries more : List PageAnchors) (own : Option PageAnchors) → longer ≡ with_one list one → one.url ≡ page.url → own ≡ entry_of page
+    → more ≡ entries ++ (if nat_lt (length list) (length longer) then option_to_list own else []) → more ≡ (if is_some (page_with (found_all urls list) page.url) then entries else entries ++ option_to_list (entry_of page))
+own_added urls list longer one page entries more own is url own_is more_is =
+    let new : nat_lt (length list) (length longer) ≡ not (is_some (index_of (urls_of list) one.url)) = is_longer list longer one (is_some (index_of (urls_of list) one.url)) refl is in
+    let has : is_some (index_of (urls_of list) one.url) ≡ is_some (page_with (found_all urls list) page.url) =
+    sym (has_found urls list one.url) ∙ ap (λ (u : List ℕ). is_some (page_with (found_all urls list) u)) url in
+    more_is ∙ ap (λ b. entries ++ (if b then option_to_list own else [])) (new ∙ ap not has)
+    ∙ turned (is_some (page_with (found_all urls list) page.url)) ∙ ap (λ (o : Option PageAnchors). if is_some (page_with (found_all urls list) page.url) then entries else entries ++ option_to_list o) own_is
+  where
+    turned : (b : Bool) → entries ++ (if not b then option_to_list own else []) ≡ (if b then entries else entries ++ option_to_list own)
+    turned true = append-nil entries
+    turned false = refl

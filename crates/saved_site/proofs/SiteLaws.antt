@@ -26,7 +26,7 @@ use Rattle.site_files.specs.declared.page_table.Source.TheVariants as source
 
 read_url : (files : SiteFiles) (url : List ℕ) (kind : FileKind) (found : Option (List ℕ)) (page : SitePage) → IsReadPage files url kind found page → page.url ≡ url
 read_url files url kind None page is = is.0
-read_url files url kind (Some body) page is = is.is.0
+read_url files url kind (Some body) page is = is.own
 
 answered_url : (files : SiteFiles) (reads : ℕ → Option (List ℕ) → Type 0) (number : ℕ) (url : List ℕ) (page_kind : PageKind) (page : SitePage) → IsPageOfKind files reads number url page_kind page → page.url ≡ url
 answered_url files reads number url (Own None) page is = is.0

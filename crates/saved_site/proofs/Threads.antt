@@ -4,7 +4,7 @@ use Rattle.std.specs.Option.{IfSome}
 use Rattle.crawl_pages.specs.declared.page.Page.TheVariants as page
 use Rattle.saved_site.specs.Served.{AreServed, IsServedAt}
 
-with-append : (front back : List PageFound) (url : List ℕ) → page_with (front ++ back) url ≡ option_or (page_with front url) (page_with back url)
+pub with-append : (front back : List PageFound) (url : List ℕ) → page_with (front ++ back) url ≡ option_or (page_with front url) (page_with back url)
 with-append [] back url = refl
 with-append (first ∷ more) back url = grind (arith, with-append more back url)
 

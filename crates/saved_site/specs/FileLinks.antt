@@ -1,14 +1,18 @@
--- The links of a file, by its kind.
+-- The links of a file and the anchors that are kept of it, by its kind.
 use Rattle.std.specs.Prelude.{◌≡◌, ◌^◌, ℕ, Bool, true, false, List, [], Option, None, option_map, string_bytes, if◌then◌else◌}
 use Rattle.html_links.specs.declared.context.Syntax.{Syntax}
 use Rattle.html_links.specs.declared.context.Syntax.TheVariants as syntax
-use Rattle.document_links.specs.Encoding.{HasFeed, HasLinkTexts, HasSheet, HasUrlList}
+use Rattle.document_links.specs.Encoding.{HasFeed, HasSheet, HasUrlList}
+use Rattle.document_links.specs.KeptAnchors.{IsRead}
 use Rattle.document_links.specs.Sniffing.{is_document}
+use Rattle.document_links.specs.declared.anchor_targets.AnchorTargets.{AnchorTargets}
 use Rattle.document_links.specs.declared.document.ReadOptions.{ReadOptions}
 use Rattle.site_files.specs.Server.{after_front}
 use Rattle.site_files.specs.declared.files.SiteFiles.{SiteFiles}
 use Rattle.site_files.specs.declared.kinds.FileKind.{FileKind}
 use Rattle.site_files.specs.declared.kinds.FileKind.TheVariants.{Html, Xml, Svg, Style, Feed, UrlList, Unknown}
+use Rattle.saved_site.specs.SiteAnchors.{KeepsAnchors}
+use Rattle.saved_site.specs.declared.page.SiteAnchors.{SiteAnchors}
 use Rattle.saved_site.specs.declared.page.SitePage.{SitePage}
 use Rattle.saved_site.specs.declared.page.Under.{Under}
 use Rattle.saved_site.specs.declared.page.Under.TheVariants.{Links}
@@ -36,24 +40,28 @@ pub record AreOptions (files : SiteFiles) (kind : FileKind) (options : ReadOptio
   pub root : option_map (λ path. path.now) options.root ≡ root_of files
   pub limit : options.byte_limit ≡ 2 ^ 30
 
--- a file of this kind with these contents has these link texts
-abbrev pub HasFileLinks : FileKind → ReadOptions → List ℕ → List (List ℕ) → Type 0
-HasFileLinks Html options body links = HasLinkTexts options body links
-HasFileLinks Xml options body links = HasLinkTexts options body links
-HasFileLinks Svg options body links = HasLinkTexts options body links
-HasFileLinks Style options body links = HasSheet options body links
-HasFileLinks Feed options body links = HasFeed options body links
-HasFileLinks UrlList options body links = HasUrlList options body links
-HasFileLinks Unknown options body links = HasLinkTexts options body links
+-- a file of this kind at this URL, with these contents, has these link texts, and this is kept of its anchors. Only documents have anchors
+abbrev pub HasFileLinks : FileKind → ReadOptions → List ℕ → List ℕ → List (List ℕ) → Option AnchorTargets → Type 0
+HasFileLinks Html options url body links kept = IsRead options url body links kept
+HasFileLinks Xml options url body links kept = IsRead options url body links kept
+HasFileLinks Svg options url body links kept = IsRead options url body links kept
+HasFileLinks Style options url body links kept = HasSheet options body links × (kept ≡ None)
+HasFileLinks Feed options url body links kept = HasFeed options body links × (kept ≡ None)
+HasFileLinks UrlList options url body links kept = HasUrlList options body links × (kept ≡ None)
+HasFileLinks Unknown options url body links kept = IsRead options url body links kept
 
-pub record IsFileDocument (files : SiteFiles) (kind : FileKind) (body : List ℕ) (links : List (List ℕ)) : Type 0 where
+pub record IsFileDocument (files : SiteFiles) (url : List ℕ) (kind : FileKind) (body : List ℕ) (links : List (List ℕ)) (kept : Option AnchorTargets) : Type 0 where
   pub options : ReadOptions
   pub are : AreOptions files kind options
-  pub has : HasFileLinks kind options body links
+  pub has : HasFileLinks kind options url body links kept
 
--- the page at this URL, with these contents
+-- the page at this URL, with these contents and these anchors
+abbrev pub IsPageWith : List ℕ → Under → Option SiteAnchors → SitePage → Type 0
+IsPageWith url under anchors page = (page.url ≡ url) × (page.under ≡ under) × (page.anchors ≡ anchors)
+
+-- the page at this URL, with these contents and no anchors
 abbrev pub IsPageOf : List ℕ → Under → SitePage → Type 0
-IsPageOf url under page = (page.url ≡ url) × (page.under ≡ under)
+IsPageOf url under page = IsPageWith url under None page
 
 -- the links of a file of this kind with these contents are read. If the kind is unknown, that is so if the file begins like a document
 abbrev pub is_read : FileKind → List ℕ → Bool
@@ -65,9 +73,12 @@ is_read Feed body = true
 is_read UrlList body = true
 is_read Unknown body = is_document body
 
--- the page at the URL of a file of this kind with these contents
+-- the page at the URL of a file of this kind with these contents: it has the links of the file, and the anchors that are kept of it
 pub record IsFilePage (files : SiteFiles) (url : List ℕ) (kind : FileKind) (body : List ℕ) (page : SitePage) : Type 0 where
   pub links : List (List ℕ)
-  pub is : IsPageOf url (Links links) page
-  pub has : is_read kind body ≡ true → IsFileDocument files kind body links
-  pub none : is_read kind body ≡ false → links ≡ []
+  pub kept : Option AnchorTargets
+  pub own : page.url ≡ url
+  pub under : page.under ≡ Links links
+  pub anchors : KeepsAnchors files kept page.anchors
+  pub has : is_read kind body ≡ true → IsFileDocument files url kind body links kept
+  pub none : is_read kind body ≡ false → (links ≡ []) × (kept ≡ None)

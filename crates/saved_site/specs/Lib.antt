@@ -8,6 +8,7 @@ pub mod LinkedPages
 pub mod Meaning
 pub mod Pages
 pub mod Served
+pub mod SiteAnchors
 pub mod SiteTexts
 pub mod Sitemaps
 pub mod TaskPages

@@ -47,7 +47,7 @@ abbrev pub read_if : Bool → List ℕ → Option (List ℕ)
 read_if true body = Some body
 read_if false body = None
 
--- the page at the own URL of a file of this kind, of which this was read; if nothing was, it has no links
+-- the page at the own URL of a file of this kind, of which this was read; if nothing was, it has no links and no anchors
 abbrev pub IsReadPage : SiteFiles → List ℕ → FileKind → Option (List ℕ) → SitePage → Type 0
 IsReadPage files url kind None page = IsPageOf url (Links []) page
 IsReadPage files url kind (Some body) page = IsFilePage files url kind body page

@@ -1,8 +1,9 @@
 //! The aliases of a site among its pages.
-ghost use Rattle.std.specs.Prelude.{◌≡◌, ◌∷◌, [], true, IfOk};
+ghost use Rattle.std.specs.Prelude.{◌≡◌, ◌∷◌, [], true, IfOk, List};
 ghost use Rattle.crawl_pages.specs.declared.page.Page.TheVariants as variant;
 ghost use Rattle.saved_site.specs.Aliases.{AreAliases, alias_page};
-ghost use Rattle.saved_site.specs.Linked.{page_at};
+ghost use Rattle.saved_site.specs.Linked.{PageFound, page_at};
+ghost use Rattle.saved_site.specs.Served.{AliasesAscend};
 
 use crate::linked::LinkedPages;
 use crawl_keys::CanonUrl;
@@ -10,14 +11,15 @@ use crawl_pages::{Fetch, Page};
 use site_files::Alias;
 use std::alloc::{AllocError, Global};
 
-/// Returns the aliases whose page has only the link to the file's own URL. Every alias has such a page, but no clause says so of the
-/// pages that are passed here. So each is looked up, and one without such a page would be left out.
+/// Returns the aliases whose page has only the link to the file's own URL, in the order of their URLs. Every alias has such a page, but no
+/// clause says so of the pages that are passed here. So each is looked up, and one without such a page would be left out.
 pub(crate) fn aliases_among(
     alloc: Global,
     pages: &LinkedPages,
     aliases: Vec<Alias>,
 ) -> Result<Vec<Alias>, AllocError>
-    ensures { IfOk result (λ all. AreAliases pages.now all.items) }
+    ensures pages { IfOk result (λ all. AreAliases pages.now all.items) }
+    ensures order { IfOk result (λ all. AliasesAscend all.items) }
 {
     let mut all = Vec::with_capacity(alloc, aliases.len())?;
     'aliases: for alias in aliases {
@@ -26,7 +28,18 @@ pub(crate) fn aliases_among(
             all.push(alias)?;
         }
     }
-    Ok(all)
+    in_order(all)
+}
+
+/// The aliases in the order of their URLs. Of those with one URL, the first is left.
+fn in_order(aliases: Vec<Alias>) -> Result<Vec<Alias>, AllocError>
+    ensures order { IfOk result (λ ordered. AliasesAscend ordered.items) }
+    ensures pages { (pages : List PageFound) → AreAliases pages aliases.items → IfOk result (λ ordered. AreAliases pages ordered.items) }
+{
+    let mut ordered = aliases;
+    ordered.sort_by(|a: &Alias, b: &Alias| a.url.as_str().cmp(b.url.as_str()))?;
+    ordered.dedup_by(|one, last| one.url.as_str() == last.url.as_str());
+    Ok(ordered)
 }
 
 /// Whether the page at the alias has only the link to the own URL. The only error is out of memory.

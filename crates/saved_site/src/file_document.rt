@@ -1,5 +1,5 @@
 //! What is read of a file that can have links.
-ghost use Rattle.std.specs.Prelude.{◌≡◌, IfOk, option_map};
+ghost use Rattle.std.specs.Prelude.{◌≡◌, IfOk, None, option_map};
 ghost use Rattle.saved_site.specs.FileLinks.{AreOptions, IsFileDocument, root_of, syntax_of};
 
 use crate::web_text::WEB_LIMIT;
@@ -20,16 +20,36 @@ pub(crate) fn file_document(
     body: &[u8],
     room: &mut RawLinks,
 ) -> Result<Document, AllocError>
-    ensures { IfOk result (λ document. IsFileDocument files.now kind body.now document.links) }
+    ensures { IfOk result (λ document. IsFileDocument files.now url.now kind body.now document.links document.anchors) }
 {
     let options = options_of(files, kind);
     match kind {
-        FileKind::Style => read_style_sheet(alloc, body, url, options, room),
-        FileKind::Feed => read_feed(alloc, body, url, options, room),
-        FileKind::UrlList => read_url_list(alloc, body, url, options, room),
+        FileKind::Style => {
+            let sheet = read_style_sheet(alloc, body, url, options, room)?;
+            Ok(without_anchors(sheet))
+        }
+        FileKind::Feed => {
+            let feed = read_feed(alloc, body, url, options, room)?;
+            Ok(without_anchors(feed))
+        }
+        FileKind::UrlList => {
+            let list = read_url_list(alloc, body, url, options, room)?;
+            Ok(without_anchors(list))
+        }
         FileKind::Html | FileKind::Xml | FileKind::Svg | FileKind::Unknown => {
             read_document(alloc, body, url, options, room)
         }
+    }
+}
+
+/// The same without anchors. A style sheet, a feed and a list of URLs have none, but no clause says so of what is read of them.
+fn without_anchors(document: Document) -> Document
+    ensures links { result.links ≡ document.links }
+    ensures anchors { result.anchors ≡ None }
+{
+    Document {
+        anchors: None,
+        ..document
     }
 }
 

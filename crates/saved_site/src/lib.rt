@@ -28,6 +28,6 @@ pub use all_pages::has_all_pages;
 pub use file_document::root_of;
 pub use linked::LinkedPages;
 pub use on_disk::OnDisk;
-pub use page::{LineText, SitePage, Under};
+pub use page::{LineText, SiteAnchors, SitePage, Under};
 pub use web::{LinkedSite, Web, site_pages, site_web};
 pub use web_text::WebText;

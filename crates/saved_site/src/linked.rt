@@ -1,7 +1,7 @@
 //! The pages of a site as a source of a crawl. Their links are stored as indices of URLs.
-ghost use Rattle.std.specs.Prelude.{◌≡◌, IfOk, IfErr, flat_map, is_some};
+ghost use Rattle.std.specs.Prelude.{◌≡◌, ◌∷◌, ◌++◌, [], IfOk, IfErr, OnOk, filter, flat_map, if◌then◌else◌, is_some, not, ℕ, List};
 ghost use Rattle.saved_site.specs.Linked.{AreKept, IsSiteSource, page_at, page_with};
-ghost use Rattle.saved_site.specs.Served.{AreServed};
+ghost use Rattle.saved_site.specs.Served.{AnchorsAscend, AreServed, HaveAnchors, entry_at};
 
 mod known_texts;
 mod link_table;
@@ -12,6 +12,7 @@ mod page_list;
 use crate::site_name::SiteName;
 use crawl_keys::CanonUrl;
 use crawl_pages::{Fetch, FetchError, Page};
+use document_links::PageAnchors;
 pub(crate) use linker::Linker;
 use page_list::ThreadPages;
 use std::alloc::{AllocError, Global};
@@ -35,17 +36,21 @@ impl Model for LinkedPages {
 }
 
 impl LinkedPages {
-    /// Returns the pages of the site with this top, which threads have made.
+    /// Returns the pages of the site with this top, which threads have made, and their anchors in the order of the URLs.
     pub(crate) fn new<K: SiteName>(
         alloc: Global,
         top: &str,
         linkers: Vec<Linker<K>>,
-    ) -> Result<LinkedPages, AllocError>
-        ensures source { IfOk result (IsSiteSource top.now) }
-        ensures served { IfOk result (AreServed K.serves) }
+    ) -> Result<(LinkedPages, Vec<PageAnchors>), AllocError>
+        ensures source { IfOk result (λ both. IsSiteSource top.now both.0) }
+        ensures served { IfOk result (λ both. AreServed K.serves both.0) }
+        ensures anchors { IfOk result (λ both. HaveAnchors K.serves both.0 both.1.items) }
+        ensures order { IfOk result (λ both. AnchorsAscend both.1.items) }
     {
-        let threads = kept_pages(alloc, top, linkers)?;
-        Ok(LinkedPages { threads })
+        let both = kept_pages(alloc, top, linkers)?;
+        let (threads, anchors) = both;
+        let anchors = in_order(anchors)?;
+        Ok((LinkedPages { threads }, anchors))
     }
 
     /// Whether there is a page at the URL.
@@ -69,21 +74,66 @@ fn has_page(threads: &[ThreadPages], url: &CanonUrl) -> bool
     false
 }
 
-/// Returns the pages that threads have made, except those of another site.
+/// Returns the pages that threads have made, except those of another site, and their anchors.
 fn kept_pages<K: SiteName>(
     alloc: Global,
     top: &str,
     linkers: Vec<Linker<K>>,
-) -> Result<Vec<ThreadPages>, AllocError>
-    ensures { IfOk result (λ threads. AreKept K.serves top.now (flat_map (λ made. made) threads.items)) }
+) -> Result<(Vec<ThreadPages>, Vec<PageAnchors>), AllocError>
+    ensures kept { IfOk result (λ both. AreKept K.serves top.now (flat_map (λ made. made) both.0.items)) }
+    ensures anchors { IfOk result (λ both. HaveAnchors K.serves (flat_map (λ made. made) both.0.items) both.1.items) }
 {
     let mut threads = Vec::with_capacity(alloc, linkers.len())?;
+    let mut anchors = Vec::new(alloc);
     'linkers: for linker in linkers {
         if linker.is_of(top) {
-            threads.push(linker.into_pages())?;
+            let (pages, own) = linker.into_pages();
+            anchors = with_anchors(threads.as_slice(), anchors, own)?;
+            threads.push(pages)?;
         }
     }
-    Ok(threads)
+    Ok((threads, anchors))
+}
+
+/// Appends the anchors of a thread's pages, except those at whose URL one of these threads has a page.
+fn with_anchors(
+    threads: &[ThreadPages],
+    anchors: Vec<PageAnchors>,
+    own: Vec<PageAnchors>,
+) -> Result<Vec<PageAnchors>, AllocError>
+    ensures { IfOk result (λ all. all.items ≡ anchors.items ++ filter (λ one. not (is_some (page_with (flat_map (λ made. made) threads.now) one.url))) own.items) }
+{
+    let mut all = anchors;
+    'entries: for one in own {
+        push_if(!has_page(threads, &one.url), one, &mut all)?;
+    }
+    Ok(all)
+}
+
+/// Appends the anchors of a page, if they are kept.
+fn push_if(
+    is_kept: bool,
+    one: PageAnchors,
+    anchors: &mut Vec<PageAnchors>,
+) -> Result<(), AllocError>
+    ensures { OnOk result (anchors.new.items ≡ anchors.old.items ++ (if is_kept then one ∷ [] else [])) }
+{
+    if !is_kept {
+        return Ok(());
+    }
+    anchors.push(one)?;
+    Ok(())
+}
+
+/// The anchors in the order of their URLs. Of those with one URL, the first is left.
+fn in_order(anchors: Vec<PageAnchors>) -> Result<Vec<PageAnchors>, AllocError>
+    ensures order { IfOk result (λ ordered. AnchorsAscend ordered.items) }
+    ensures same { IfOk result (λ ordered. (url : List ℕ) → entry_at ordered.items url ≡ entry_at anchors.items url) }
+{
+    let mut ordered = anchors;
+    ordered.sort_by(|a: &PageAnchors, b: &PageAnchors| a.url.as_str().cmp(b.url.as_str()))?;
+    ordered.dedup_by(|one, last| one.url.as_str() == last.url.as_str());
+    Ok(ordered)
 }
 
 /// Returns the page at the URL of the first thread that has one.

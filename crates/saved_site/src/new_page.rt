@@ -1,6 +1,7 @@
 //! Makes the page of a task from the contents of its file.
-ghost use Rattle.std.specs.Prelude.{◌≡◌, [], IfOk, IfSome, option_map, string_bytes};
-ghost use Rattle.saved_site.specs.FileLinks.{IsFilePage, IsPageOf, is_read};
+ghost use Rattle.std.specs.Prelude.{◌≡◌, ◌∷◌, ◌++◌, [], IfOk, IfSome, OnOk, Some, map, option_map, string_bytes};
+ghost use Rattle.saved_site.specs.FileLinks.{IsFilePage, IsPageOf, IsPageWith, is_read};
+ghost use Rattle.saved_site.specs.SiteAnchors.{HaveUrls, KeepsAnchors, target_url};
 ghost use Rattle.saved_site.specs.SiteTexts.{begins_slash, is_path, is_url, link_to, redirect_to, target_at, text_to, with_query, without_origin};
 ghost use Rattle.saved_site.specs.TaskPages.{IsReadPage};
 ghost use Rattle.saved_site.specs.declared.page.Under.TheVariants.{Links};
@@ -8,12 +9,12 @@ ghost use Rattle.site_files.specs.Files.{url_of};
 ghost use Rattle.site_files.specs.Server.{after_front, query_of};
 
 use crate::file_document::file_document;
-use crate::page::{LineText, SitePage, Under};
+use crate::page::{LineText, SiteAnchors, SitePage, Under};
 use crate::spellings::{link_spellings, text_spelling};
 use crate::task::Task;
 use crawl_keys::CanonUrl;
 use document_links::{
-    AnchorTargets, Anchors, Document, InvalidLink, LINK_FRONT, LinkTexts, RawLinks, Target, fits,
+    AnchorTargets, Document, InvalidLink, LINK_FRONT, LinkTexts, RawLinks, Target, fits,
     is_document,
 };
 use site_files::{FileKind, Left, Note, SiteFiles};
@@ -34,23 +35,15 @@ pub(crate) struct NewPage {
     pub(crate) own: Option<CanonUrl>,
     /// Whether the URL is the own one of an HTML or XHTML document.
     pub(crate) is_document: bool,
-    /// Its anchors and the targets of its links to anchors, if the rules ask for them, the page is a document, and they are known.
-    pub(crate) anchors: Option<SiteAnchors>,
     /// The positions of its links and its invalid links, if the rules ask for them.
     pub(crate) positions: Vec<u32>,
     pub(crate) invalid: Vec<InvalidLink>,
     pub(crate) notes: Vec<Note>,
 }
 
-/// The anchors of a document, and the targets of its links to anchors.
-#[derive(Drop)]
-pub(crate) struct SiteAnchors {
-    pub(crate) anchors: Anchors,
-    pub(crate) targets: Vec<Target>,
-}
-
 /// Makes the page at the own URL of a file of this kind with these contents. A file of unknown kind has no links, unless its first bytes
 /// are those of a document. `room` is memory for the links.
+#[tactic(auto, using(crate::proofs::TaskPages::file_page, crate::proofs::TaskPages::unread_page))]
 fn file_page(
     alloc: Global,
     files: &SiteFiles<'_>,
@@ -116,14 +109,16 @@ pub(crate) fn empty_page(alloc: Global, task: &Task) -> Result<NewPage, AllocErr
     NewPage::new(task, Under::Links(LinkTexts::new(alloc)), Vec::new(alloc))
 }
 
-/// Makes the page of a document.
+/// Makes the page of a document, with its anchors and the targets of its links to anchors if they are known.
+#[tactic(auto, using(crate::proofs::TaskPages::page_keeps))]
 fn document_page(
     alloc: Global,
     files: &SiteFiles<'_>,
     task: &Task,
     document: Document,
 ) -> Result<NewPage, AllocError>
-    ensures { IfOk result (λ new. IfSome new.page (IsPageOf task.now.url (Links document.links))) }
+    ensures links { IfOk result (λ new. IfSome new.page (λ page. (page.url ≡ task.now.url) × (page.under ≡ Links document.links))) }
+    ensures anchors { IfOk result (λ new. IfSome new.page (λ page. KeepsAnchors files.now document.anchors page.anchors)) }
 {
     let notes = document_notes(alloc, task, &document)?;
     let spellings = link_spellings(alloc, files, &task.url, &document.links)?;
@@ -135,9 +130,8 @@ fn document_page(
         ..
     } = document;
     let anchors = site_anchors(files, anchors)?;
-    let mut new = NewPage::new(task, Under::Links(links), notes)?;
+    let mut new = NewPage::with_anchors(task, Under::Links(links), anchors, notes)?;
     new.spellings = spellings;
-    new.anchors = anchors;
     new.positions = positions;
     new.invalid = invalid;
     Ok(new)
@@ -166,7 +160,9 @@ fn document_notes(
 fn site_anchors(
     files: &SiteFiles<'_>,
     anchors: Option<AnchorTargets>,
-) -> Result<Option<SiteAnchors>, AllocError> {
+) -> Result<Option<SiteAnchors>, AllocError>
+    ensures { IfOk result (KeepsAnchors files.now anchors) }
+{
     let Some(AnchorTargets { anchors, urls }) = anchors else {
         return Ok(None);
     };
@@ -175,15 +171,36 @@ fn site_anchors(
 }
 
 /// The targets at these URLs, in the same order.
-fn targets_at(files: &SiteFiles<'_>, urls: Vec<CanonUrl>) -> Result<Vec<Target>, AllocError> {
+fn targets_at(files: &SiteFiles<'_>, urls: Vec<CanonUrl>) -> Result<Vec<Target>, AllocError>
+    ensures { IfOk result (λ targets. HaveUrls files.now urls.items targets.items) }
+{
     let mut targets = Vec::with_capacity(*urls.allocator(), urls.len())?;
-    for url in urls {
-        targets.push(match files.find(url.as_str()) {
-            Some(page) => Target::Page(page),
-            None => Target::Other(url),
-        })?;
+    'links: for url in urls {
+        push_target(files, url, &mut targets)?;
     }
     Ok(targets)
+}
+
+/// Appends the target at a URL.
+fn push_target(
+    files: &SiteFiles<'_>,
+    url: CanonUrl,
+    targets: &mut Vec<Target>,
+) -> Result<(), AllocError>
+    ensures { OnOk result (map (target_url files.now) targets.new.items ≡ map (target_url files.now) targets.old.items ++ Some url ∷ []) }
+{
+    targets.push(target_at(files, url))?;
+    Ok(())
+}
+
+/// The target at a URL: the page of the site with this URL, if there is one.
+fn target_at(files: &SiteFiles<'_>, url: CanonUrl) -> Target
+    ensures { target_url files.now result ≡ Some url }
+{
+    match files.find(url.as_str()) {
+        Some(page) => Target::Page(page),
+        None => Target::Other(url),
+    }
 }
 
 /// Makes the page of an alias, whose only link is the own URL of its file.
@@ -347,14 +364,26 @@ fn begins_slash(text: &[u8]) -> bool
 }
 
 impl NewPage {
-    /// Creates the page of a task, as yet without spellings, anchors, positions and invalid links. If its URL is too long for a line, there is a
-    /// note instead of the page.
+    /// Creates the page of a task without anchors, as yet without spellings, positions and invalid links. If its URL is too long for a line,
+    /// there is a note instead of the page.
     fn new(task: &Task, under: Under, notes: Vec<Note>) -> Result<NewPage, AllocError>
         ensures { IfOk result (λ new. IfSome new.page (IsPageOf task.now.url under)) }
     {
+        NewPage::with_anchors(task, under, None, notes)
+    }
+
+    /// The same with these anchors.
+    fn with_anchors(
+        task: &Task,
+        under: Under,
+        anchors: Option<SiteAnchors>,
+        notes: Vec<Note>,
+    ) -> Result<NewPage, AllocError>
+        ensures { IfOk result (λ new. IfSome new.page (IsPageWith task.now.url under anchors)) }
+    {
         let own = task.url.clone()?;
         let url = task.url.clone()?;
-        let page = SitePage::new(own, under);
+        let page = SitePage::new(own, under, anchors);
         let mut notes = notes;
         let alloc = *notes.allocator();
         if page.is_none() {
@@ -368,7 +397,6 @@ impl NewPage {
             spellings: Vec::new(alloc),
             own: None,
             is_document: false,
-            anchors: None,
             positions: Vec::new(alloc),
             invalid: Vec::new(alloc),
             notes,

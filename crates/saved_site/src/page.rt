@@ -2,10 +2,11 @@
 ghost use Rattle.std.specs.Prelude.{◌≡◌, false, true, IfOk, IfSome, IsNone};
 ghost use Rattle.document_links.specs.Texts.{fits};
 
+mod entry;
 mod lines;
 
 use crawl_keys::CanonUrl;
-use document_links::{LINK_FRONT, LinkTexts, fits};
+use document_links::{Anchors, LINK_FRONT, LinkTexts, Target, fits};
 use std::alloc::{AllocError, Global};
 use std::marker::Model;
 
@@ -18,24 +19,36 @@ pub enum Under {
     Moved(LineText),
 }
 
-/// A page: its URL, which fits in a line, and its contents.
+/// The anchors of a document, and the targets of its links to anchors.
+#[derive(Drop)]
+pub struct SiteAnchors {
+    pub anchors: Anchors,
+    pub targets: Vec<Target>,
+}
+
+/// A page: its URL, which fits in a line, its contents, and its anchors if they are known.
 #[derive(Drop)]
 pub struct SitePage {
     url: CanonUrl,
     under: Under,
+    anchors: Option<SiteAnchors>,
     ghost fit: { fits 5 url ≡ true },
 }
 
 impl SitePage {
     /// Makes a page, or returns `None` if its URL does not fit in a line.
-    pub fn new(url: CanonUrl, under: Under) -> Option<SitePage>
-        ensures page { IfSome result (λ page. (page.url ≡ url) × (page.under ≡ under)) }
+    pub fn new(url: CanonUrl, under: Under, anchors: Option<SiteAnchors>) -> Option<SitePage>
+        ensures page { IfSome result (λ page. (page.url ≡ url) × (page.under ≡ under) × (page.anchors ≡ anchors)) }
         ensures none { IsNone result → fits 5 url ≡ false }
     {
         if !fits(LINK_FRONT, url.as_str().as_bytes()) {
             return None;
         }
-        Some(SitePage { url, under })
+        Some(SitePage {
+            url,
+            under,
+            anchors,
+        })
     }
 
     /// The URL of the page.

@@ -1,9 +1,9 @@
 //! The pages of a site, and what is known of them.
-use crate::new_page::{NewPage, SiteAnchors};
+use crate::new_page::NewPage;
 use crate::page_maker::PageMaker;
 use crate::page_sink::PageSink;
 use crawl_keys::CanonUrl;
-use document_links::{InvalidLink, LinkPlaces, PageAnchors};
+use document_links::{InvalidLink, LinkPlaces};
 use site_files::{Alias, Note};
 use std::alloc::{AllocError, Global};
 use std::mem;
@@ -23,7 +23,6 @@ pub(crate) struct SiteData<S> {
     pub(crate) notes: Vec<Note>,
     pub(crate) aliases: Vec<Alias>,
     pub(crate) documents: Vec<CanonUrl>,
-    pub(crate) anchors: Vec<PageAnchors>,
     pub(crate) places: Vec<LinkPlaces>,
     /// The notes about the pages of a round that has not ended.
     page_notes: Vec<PageNotes>,
@@ -37,7 +36,6 @@ impl<S: PageSink> SiteData<S> {
             notes: Vec::new(alloc),
             aliases: Vec::new(alloc),
             documents: Vec::new(alloc),
-            anchors: Vec::new(alloc),
             places: Vec::new(alloc),
             page_notes: Vec::new(alloc),
         }
@@ -52,15 +50,14 @@ impl<S: PageSink> SiteData<S> {
         Ok(())
     }
 
-    /// Takes over what is known of a page, except its lines, which the sink has.
+    /// Takes over what is known of a page, except its lines and its anchors, which the sink has.
     fn push(&mut self, page: &mut NewPage) -> Result<(), AllocError> {
         if page.is_document {
             self.documents.push(page.url.clone()?)?;
         }
         self.push_alias(page)?;
         self.push_places(page)?;
-        self.push_notes(page)?;
-        self.push_anchors(page)
+        self.push_notes(page)
     }
 
     /// Adds an alias from the page's URL to the own URL of its file, if the page is an alias.
@@ -102,20 +99,6 @@ impl<S: PageSink> SiteData<S> {
         Ok(())
     }
 
-    /// Adds the anchors of the page and the targets of its links to anchors, if they are known.
-    fn push_anchors(&mut self, page: &mut NewPage) -> Result<(), AllocError> {
-        let Some(SiteAnchors { anchors, targets }) = page.anchors.take() else {
-            return Ok(());
-        };
-        let url = page.url.clone()?;
-        self.anchors.push(PageAnchors {
-            url,
-            anchors,
-            targets,
-        })?;
-        Ok(())
-    }
-
     /// Adds the pages of the makers of a round.
     pub(crate) fn add_makers(&mut self, makers: Vec<PageMaker<S>>) -> Result<(), AllocError> {
         for maker in makers {
@@ -124,16 +107,12 @@ impl<S: PageSink> SiteData<S> {
         Ok(())
     }
 
-    /// Sorts the lists by the URLs of the pages.
+    /// Sorts the lists of documents and of positions by the URLs of the pages.
     pub(crate) fn sort(&mut self) -> Result<(), AllocError> {
-        let aliases = &mut self.aliases;
-        aliases.sort_by(|a: &Alias, b: &Alias| a.url.as_str().cmp(b.url.as_str()))?;
         let documents = &mut self.documents;
         documents.sort_by(|a: &CanonUrl, b: &CanonUrl| a.as_str().cmp(b.as_str()))?;
         let places = &mut self.places;
-        places.sort_by(|a: &LinkPlaces, b: &LinkPlaces| a.url.as_str().cmp(b.url.as_str()))?;
-        let anchors = &mut self.anchors;
-        anchors.sort_by(|a: &PageAnchors, b: &PageAnchors| a.url.as_str().cmp(b.url.as_str()))
+        places.sort_by(|a: &LinkPlaces, b: &LinkPlaces| a.url.as_str().cmp(b.url.as_str()))
     }
 
     /// Moves the notes about the pages of a round to the others, in the order of the pages' URLs.

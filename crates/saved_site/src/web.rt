@@ -4,7 +4,7 @@ ghost use Rattle.saved_site.specs.Aliases.{AreAliases};
 ghost use Rattle.saved_site.specs.Below.{IsWebBelow};
 ghost use Rattle.saved_site.specs.Linked.{IsSiteSource};
 ghost use Rattle.saved_site.specs.Meaning.{IsOfWeb, IsSiteWeb};
-ghost use Rattle.saved_site.specs.Served.{AreServed, IsServedPage};
+ghost use Rattle.saved_site.specs.Served.{AliasesAscend, AnchorsAscend, AreServed, HaveAnchors, IsServedPage};
 ghost use Rattle.saved_site.specs.Sitemaps.{AreListed, named_sitemaps};
 ghost use Rattle.saved_site.specs.declared.page.SitePage.{SitePage};
 
@@ -43,7 +43,7 @@ pub struct LinkedSite {
     pub aliases: Vec<Alias>,
     /// The own URLs of its HTML and XHTML documents, in the order of their URLs.
     pub documents: Vec<CanonUrl>,
-    /// The anchors of its documents, in the order of their URLs, if the rules ask for them and they are known.
+    /// The anchors of its pages, in the order of their URLs, if the rules ask for them and they are known.
     pub anchors: Vec<PageAnchors>,
     /// The positions of the links in its documents and their invalid links, in the order of the documents' URLs, if the rules ask for
     /// them.
@@ -91,6 +91,9 @@ pub fn site_pages<R: Threads + Sync, B: FileBytes + Sync>(
     ensures source { IfOk result (λ site. IsSiteSource (string_bytes files.now.site.top) site.pages) }
     // Each page is the one that a server returns for its URL.
     ensures served { IfOk result (λ site. AreServed (IsServedPage files.now (B.reads bytes.now)) site.pages) }
+    // The anchors are those of the pages.
+    ensures anchors { IfOk result (λ site. HaveAnchors (IsServedPage files.now (B.reads bytes.now)) site.pages site.anchors.items) }
+    ensures order { IfOk result (λ site. AnchorsAscend site.anchors.items × AliasesAscend site.aliases.items) }
     ensures aliases { IfOk result (λ site. AreAliases site.pages site.aliases.items) }
     // The URLs that sitemaps list are the links of their pages.
     ensures listed { IfOk result (λ site. AreListed files.now site.pages site.listed.items) }
@@ -111,6 +114,8 @@ fn named_pages<K: SiteName + Send + Sync, R: Threads + Sync, B: FileBytes + Sync
     requires { (page : SitePage) → IsServedPage files.now (B.reads bytes.now) page → K.serves page }
     ensures source { IfOk result (λ site. IsSiteSource (string_bytes files.now.site.top) site.pages) }
     ensures served { IfOk result (λ site. AreServed K.serves site.pages) }
+    ensures anchors { IfOk result (λ site. HaveAnchors K.serves site.pages site.anchors.items) }
+    ensures order { IfOk result (λ site. AnchorsAscend site.anchors.items × AliasesAscend site.aliases.items) }
     ensures aliases { IfOk result (λ site. AreAliases site.pages site.aliases.items) }
     ensures listed { IfOk result (λ site. AreListed files.now site.pages site.listed.items) }
     ensures sitemaps { IfOk result (λ site. site.has_sitemap ≡ not (length (named_sitemaps files.now) == 0)) }
@@ -130,6 +135,8 @@ fn linked_site<K: SiteName>(
 ) -> Result<LinkedSite, AllocError>
     ensures source { IfOk result (λ site. IsSiteSource (string_bytes files.now.site.top) site.pages) }
     ensures served { IfOk result (λ site. AreServed K.serves site.pages) }
+    ensures anchors { IfOk result (λ site. HaveAnchors K.serves site.pages site.anchors.items) }
+    ensures order { IfOk result (λ site. AnchorsAscend site.anchors.items × AliasesAscend site.aliases.items) }
     ensures aliases { IfOk result (λ site. AreAliases site.pages site.aliases.items) }
     ensures listed { IfOk result (λ site. AreListed files.now site.pages site.listed.items) }
     ensures sitemaps { IfOk result (λ site. site.has_sitemap ≡ not (length (named_sitemaps files.now) == 0)) }
@@ -139,11 +146,11 @@ fn linked_site<K: SiteName>(
         notes,
         aliases,
         documents,
-        anchors,
         places,
         ..
     } = data;
-    let pages = LinkedPages::new(alloc, files.top(), sinks)?;
+    let both = LinkedPages::new(alloc, files.top(), sinks)?;
+    let (pages, anchors) = both;
     let aliases = aliases_among(alloc, &pages, aliases)?;
     let listed = ListedUrls::new(alloc, files, &pages)?;
     Ok(LinkedSite {

@@ -1,20 +1,24 @@
-//! The pages that one thread makes, with the indices of their links' URLs.
-ghost use Rattle.std.specs.Prelude.{◌≡◌, [], true, IfOk, OnOk};
+//! The pages that one thread makes, with the indices of their links' URLs, and their anchors.
+ghost use Rattle.std.specs.Prelude.{◌≡◌, ◌++◌, [], true, IfOk, OnOk, if◌then◌else◌};
+ghost use Rattle.std.specs.Option.{option_to_list};
 ghost use Rattle.saved_pages.specs.UrlIndices.{KeepIndices};
 ghost use Rattle.saved_site.specs.Below.{is_next};
 ghost use Rattle.saved_site.specs.Linked.{AreKept, found_of, with_found};
 ghost use Rattle.saved_site.specs.LinkedPages.{IsLed, IsLonger, IsPageList, page_led};
 ghost use Rattle.saved_site.specs.LinkTables.{IsTableOf};
 ghost use Rattle.saved_site.specs.Meaning.{under_page};
+ghost use Rattle.saved_site.specs.Served.{HaveAnchors};
 
 use crate::below::is_next;
 use crate::linked::link_table::LinkTable;
 use crate::linked::linked_page::LinkedPage;
 use crate::linked::page_list::{PageList, ThreadPages};
+use crate::linked::push_if;
 use crate::page::SitePage;
 use crate::page_sink::PageSink;
 use crate::site_name::SiteName;
 use crawl_keys::Base;
+use document_links::PageAnchors;
 use std::alloc::{AllocError, Global};
 use std::marker::{Model, PhantomData};
 
@@ -27,6 +31,8 @@ pub(crate) struct Linker<K: SiteName> {
     /// The page that came last.
     last: Option<Base>,
     pages: PageList,
+    /// The anchors of these pages.
+    anchors: Vec<PageAnchors>,
     of: PhantomData<K>,
 }
 
@@ -40,10 +46,11 @@ impl<K: SiteName> Model for Linker<K> {
     ghost use Rattle.saved_site.specs.Linked.{AreKept};
     ghost use Rattle.saved_site.specs.LinkTables.{IsTable};
     ghost use Rattle.saved_site.specs.LinkedPages.{AreLed, IsPageList, found_all};
+    ghost use Rattle.saved_site.specs.Served.{HaveAnchors};
 
     ghost view = { λ linker. (string_bytes linker.top, found_all linker.table.urls linker.pages.list.items) };
 
-    ghost invariant = { λ linker. IsTable linker.last linker.table × (IsPageList linker.pages × (AreLed linker.table.urls linker.pages.list.items × AreKept K.serves (string_bytes linker.top) (found_all linker.table.urls linker.pages.list.items))) };
+    ghost invariant = { λ linker. IsTable linker.last linker.table × (IsPageList linker.pages × (AreLed linker.table.urls linker.pages.list.items × (AreKept K.serves (string_bytes linker.top) (found_all linker.table.urls linker.pages.list.items) × HaveAnchors K.serves (found_all linker.table.urls linker.pages.list.items) linker.anchors.items))) };
 }
 
 impl<K: SiteName + Send + Sync> PageSink for Linker<K> {
@@ -59,6 +66,7 @@ impl<K: SiteName + Send + Sync> PageSink for Linker<K> {
             table: LinkTable::new(alloc),
             last: None,
             pages: PageList::new(alloc),
+            anchors: Vec::new(alloc),
             of: PhantomData,
         })
     }
@@ -72,16 +80,16 @@ impl<K: SiteName + Send + Sync> PageSink for Linker<K> {
         if !is_next {
             return Ok(self);
         }
-        self.with_kept(&page)
+        self.with_kept(page)
     }
 }
 
 impl<K: SiteName> Linker<K> {
-    /// The same with a page below the top.
-    fn with_kept(self, page: &SitePage) -> Result<Linker<K>, AllocError>
-        requires kept { is_next self.0 [] page.now.url ≡ true }
-        requires served { ∥ K.serves page.now ∥₁ }
-        ensures { IfOk result (λ linker. linker ≡ (self.0, with_found self.0 self.1 (found_of page.now))) }
+    /// The same with a page below the top, and with its anchors.
+    fn with_kept(self, page: SitePage) -> Result<Linker<K>, AllocError>
+        requires kept { is_next self.0 [] page.url ≡ true }
+        requires served { ∥ K.serves page ∥₁ }
+        ensures { IfOk result (λ linker. linker ≡ (self.0, with_found self.0 self.1 (found_of page))) }
     {
         // For the proof: the page fits in lines.
         page.fits_lines();
@@ -92,17 +100,22 @@ impl<K: SiteName> Linker<K> {
             table,
             last,
             pages,
+            anchors,
             ..
         } = self;
         let table = table.turned(alloc, &last, &base);
-        let both = with_led(alloc, table, pages, &base, page)?;
+        let count = pages.list.len();
+        let both = with_led(alloc, table, pages, &base, &page)?;
         let (table, pages) = both;
+        let is_new = count < pages.list.len();
+        let anchors = with_own(anchors, is_new, page.into_anchors())?;
         Ok(Linker {
             alloc,
             top,
             table,
             last: Some(base),
             pages,
+            anchors,
             of: PhantomData,
         })
     }
@@ -114,15 +127,38 @@ impl<K: SiteName> Linker<K> {
         self.top.as_str() == top
     }
 
-    /// Its pages.
-    pub(crate) fn into_pages(self) -> ThreadPages
-        ensures pages { result ≡ self.1 }
-        ensures kept { AreKept K.serves self.0 result }
+    /// Its pages and their anchors.
+    pub(crate) fn into_pages(self) -> (ThreadPages, Vec<PageAnchors>)
+        ensures pages { result.0 ≡ self.1 }
+        ensures kept { AreKept K.serves self.0 result.0 }
+        ensures anchors { HaveAnchors K.serves result.0 result.1.items }
     {
-        let Linker { table, pages, .. } = self;
+        let Linker {
+            table,
+            pages,
+            anchors,
+            ..
+        } = self;
         let LinkTable { urls, .. } = table;
-        ThreadPages::new(urls.into_urls(), pages)
+        (ThreadPages::new(urls.into_urls(), pages), anchors)
     }
+}
+
+/// The anchors with those of a page, if the page is new and has any.
+#[tactic(auto, using(crate::proofs::Anchors::none_added))]
+fn with_own(
+    anchors: Vec<PageAnchors>,
+    is_new: bool,
+    own: Option<PageAnchors>,
+) -> Result<Vec<PageAnchors>, AllocError>
+    ensures { IfOk result (λ all. all.items ≡ anchors.items ++ (if is_new then option_to_list own else [])) }
+{
+    let mut anchors = anchors;
+    match own {
+        Some(own) => push_if(is_new, own, &mut anchors)?,
+        None => {}
+    }
+    Ok(anchors)
 }
 
 /// The pages with one more, whose links are looked up in a table, and that.

@@ -3,6 +3,7 @@ use Rattle.std.proofs.Common.{Bool}
 use Rattle.std.specs.Borrow.{Bor}
 use Rattle.std.specs.Prelude.{All, Option, Some, None, String, is_some, option_map}
 use Rattle.check_report.specs.Text.{is_broken}
+use Rattle.document_links.specs.declared.anchors.PageAnchors.{PageAnchors}
 use Rattle.mercator_site.specs.Checks.{listed_in, reached_in, unlisted_by, unreached_by}
 use Rattle.mercator_site.specs.Inputs.{Input, input_in, input_with}
 use Rattle.mercator_site.specs.Maps.{names_of, unmapped}
@@ -10,10 +11,12 @@ use Rattle.saved_site.specs.declared.web.LinkedSite.{LinkedSite}
 use Rattle.site_check.specs.Base.{hint_at}
 use Rattle.site_check.specs.Broken.{redirects_of}
 use Rattle.site_check.specs.Complete.{AreOnce, HasAllLinks}
+use Rattle.site_check.specs.Documents.{AreInOrder}
 use Rattle.site_check.specs.Ignored.{not_ignored, unused_by}
+use Rattle.site_check.specs.LackedPlaces.{HasAllLacks}
 use Rattle.site_check.specs.LinkBase.{base_hint_of}
 use Rattle.site_check.specs.Locations.{IsLocated}
-use Rattle.site_check.specs.Reported.{AreReported}
+use Rattle.site_check.specs.Reported.{AreReported, ReportsAnchors}
 use Rattle.site_check.specs.RowMeanings.{way_of}
 use Rattle.site_check.specs.Totals.{totals_of}
 use Rattle.site_check.specs.Unlisted.{unlisted_in}
@@ -50,7 +53,7 @@ with_lists found documents entries = record {
   base_hint = found.base_hint;
 }
 
-module _ (found : Checked) (texts entries : Vec (String Global) Global) (site : SiteFiles) (reads : ℕ → Option (List ℕ) → Type 0) (own pages : List PageResult) (reached : Option (List PageResult)) (aliases : List Alias) (documents : List (List ℕ)) (sitemaps : Option (List (List ℕ))) (asks : Asks) (input : CheckInput) (same : input_in input ≡ input_with asks (names_of asks.folders) (unmapped asks.folders pages) aliases documents reached sitemaps) where
+module _ (found : Checked) (texts entries : Vec (String Global) Global) (site : SiteFiles) (reads : ℕ → Option (List ℕ) → Type 0) (own pages : List PageResult) (reached : Option (List PageResult)) (aliases : List Alias) (documents : List (List ℕ)) (anchors : List PageAnchors) (sitemaps : Option (List (List ℕ))) (asks : Asks) (input : CheckInput) (same : input_in input ≡ input_with asks (names_of asks.folders) (unmapped asks.folders pages) aliases documents anchors reached sitemaps) where
   -- the documents that no sitemap lists are those by the settings that the input has
   unlisted_as : map string_bytes found.unlisted.items ≡ unlisted_in input.front.now input.aliases.now input.documents.now input.listed → map string_bytes found.unlisted.items ≡ unlisted_by asks.front aliases documents sitemaps
   unlisted_as unlisted = unlisted ∙ by_listed input.front.now input.aliases.now input.documents.now input.listed ∙ ap (λ (i : Input). unlisted_by i.front i.aliases i.documents i.listed) same
@@ -62,12 +65,14 @@ module _ (found : Checked) (texts entries : Vec (String Global) Global) (site : 
       → is_broken found.totals ≡ not (length found.broken.items == 0) → map file_links found.worst.items ≡ worst_of found.broken.items
       → map string_bytes found.unreached.items ≡ unreached_in input.front.now site input.reached → All (IsLocated input.front.now input.places.now site own reads) found.broken.items
       → (AreOnce own → HasAllLinks input.front.now (map string_bytes input.ignores.now) input.aliases.now input.places.now site own reads found.broken.items)
+      → (AreInOrder input.anchors.now input.aliases.now own → ReportsAnchors input.front.now (map string_bytes input.ignores.now) input.anchors.now input.aliases.now site own found.broken.items)
+      → (AreInOrder input.anchors.now input.aliases.now own → HasAllLacks input.front.now (map string_bytes input.ignores.now) input.anchors.now input.aliases.now site own reads found.broken.items)
       → option_map hint_at found.base_hint ≡ base_hint_of input.rooted site own found.broken.items
       → map string_bytes found.unlisted.items ≡ unlisted_in input.front.now input.aliases.now input.documents.now input.listed
       → map string_bytes texts.items ≡ not_ignored asks.entries (map string_bytes found.unlisted.items)
       → map string_bytes entries.items ≡ unused_by (map string_bytes found.unlisted.items) (map string_bytes found.unused_ignores.items)
-      → AreResults site reads own pages reached aliases asks (with_lists found texts entries)
-  results_of reported rows ways totals verdict worst unreached located complete hint unlisted texts_left entries_left = record {
+      → AreResults site reads own pages reached aliases anchors asks (with_lists found texts entries)
+  results_of reported rows ways totals verdict worst unreached located complete lacked all_lacked hint unlisted texts_left entries_left = record {
     ways = ways ∙ ap (λ (i : Input). redirects_of i.front own) same;
     documents = documents;
     totals = totals ∙ ap (λ (i : Input). totals_of i.aliases i.documents own found.broken.items found.redirects.items) same;
@@ -82,6 +87,8 @@ module _ (found : Checked) (texts entries : Vec (String Global) Global) (site : 
     unused_left = entries_left ∙ ap (λ all. unused_by all (map string_bytes found.unused_ignores.items)) (unlisted_as unlisted);
     located = subst (λ (i : Input). All (IsLocated i.front input.places.now site own reads) found.broken.items) same located;
     complete = subst (λ (i : Input). AreOnce own → HasAllLinks i.front i.entries i.aliases input.places.now site own reads found.broken.items) same complete;
+    lacked = subst (λ (i : Input). AreInOrder i.anchors i.aliases own → ReportsAnchors i.front i.entries i.anchors i.aliases site own found.broken.items) same lacked;
+    all_lacked = subst (λ (i : Input). AreInOrder i.anchors i.aliases own → HasAllLacks i.front i.entries i.anchors i.aliases site own reads found.broken.items) same all_lacked;
     verdict = verdict;
     worst = worst;
     unreached = unreached ∙ by_reached input.front.now site input.reached ∙ ap (λ (i : Input). unreached_by i.front site i.reached) same;
@@ -99,8 +106,8 @@ returns g c =
     let left = c.as_slice.ensures.value ∙ c.in_ok-left.ensures in
     let reached = reached_in c.args.crawled.crawls.now lists.unreached in
     let listed = listed_in site lists.unlisted in
-    let same = c.input_of-input.ensures ∙ ap (λ ns. input_with asks ns c.as_slice.result.now site.aliases.items site.documents.items reached listed) names
-    ∙ ap (λ rs. input_with asks (names_of asks.folders) rs site.aliases.items site.documents.items reached listed) left in
+    let same = c.input_of-input.ensures ∙ ap (λ ns. input_with asks ns c.as_slice.result.now site.aliases.items site.documents.items site.anchors.items reached listed) names
+    ∙ ap (λ rs. input_with asks (names_of asks.folders) rs site.aliases.items site.documents.items site.anchors.items reached listed) left in
     results_of c.in_ok-checked.checked c.ignore_unlisted.new.documents c.ignore_unlisted.new.unused_entries c.args.files.now (g.B.FileBytes.reads c.args.bytes.now) c.args.crawled.own.now pages reached
-    site.aliases.items site.documents.items listed asks c.input_of-input.result same (if_reported site lists.unlisted) checked.rows checked.redirects checked.totals checked.verdict checked.worst checked.unreached checked.places checked.complete
-    checked.base_hint checked.unlisted c.ignore_unlisted.ensures.documents c.ignore_unlisted.ensures.unused
+    site.aliases.items site.documents.items site.anchors.items listed asks c.input_of-input.result same (if_reported site lists.unlisted) checked.rows checked.redirects checked.totals checked.verdict checked.worst checked.unreached checked.places checked.complete
+    checked.anchors checked.anchor_places checked.base_hint checked.unlisted c.ignore_unlisted.ensures.documents c.ignore_unlisted.ensures.unused

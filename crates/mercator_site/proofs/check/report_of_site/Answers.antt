@@ -1,6 +1,6 @@
 use Rattle.mercator_site.proofs.Prelude.{map, string_bytes, subst, sym, err_from_is_err_and, asks_in, IsCheck, IsTopIncomplete}
 use Rattle.std.proofs.Common.{true≢false}
-use Rattle.mercator_site.proofs.TopCrawls.{aliases_in, source_of, web_of}
+use Rattle.mercator_site.proofs.TopCrawls.{aliases_in, source_of}
 use Rattle.mercator_site.proofs.check.report_of_site.Goals as goal
 
 pub returns-clause-checked : goal.returns-clause-checked
@@ -15,13 +15,20 @@ returns-clause-checked g c =
     record {
       web = source.bytes;
       made = source.web;
-      of_files = web_of files reads _ site.pages source c.in_ok-site.ensures.served (c.has_all_pages.ensures.all c.if-not-has_all_pages.false);
+      of_files = record {
+        pages = site.pages;
+        same = λ url. sym (source.same url);
+        served = c.in_ok-site.ensures.served;
+        all = c.has_all_pages.ensures.all c.if-not-has_all_pages.false;
+      };
       below = source.below;
       aliases = site.aliases.items;
       are_aliases = aliases_in site.pages source.bytes site.aliases.items (source_of _ _ source) c.in_ok-site.ensures.aliases;
+      anchors = site.anchors.items;
+      are_anchors = c.in_ok-site.ensures.anchors;
       checked =
-          subst (λ t. IsCheck files reads name t source.bytes site.aliases.items asks report.is_broken report.text.items) c.requires
-          (c.in_ok-report.ensures.checked source.bytes (source_of _ _ source));
+          subst (λ t. IsCheck files reads name t source.bytes site.aliases.items site.anchors.items asks report.is_broken report.text.items) c.requires
+          (c.in_ok-report.ensures.checked source.bytes (source_of _ _ source) c.in_ok-site.ensures.order.0 c.in_ok-site.ensures.order.1);
     }
 
 pub returns-in_err-report-clause-incomplete : goal.returns-in_err-report-clause-incomplete
