@@ -58,6 +58,7 @@ FALLBACK = (("fallback", True),)
 FOLLOW = (("follow", True),)
 LONG = "/".join(["%" * 200] * 8)  # a path with 1,607 bytes, and 4,807 in a URL
 ALMOST_LONG = 5 * ("\u00fc" * 127 + "/") + "\u00fc" * 43  # a path with 4,073 bytes in a URL
+LONGEST = 2013 * "\u00fc"  # a path of 4,026 bytes, which below the 65 bytes of the path of a top without BASE just fits in the line of a link
 NO_BASE = (("base", NOWHERE), ("front", NOWHERE), ("external", True))
 NO_STYLES = (("styles", False),)
 # A site with documents that the top does not lead to. Two of them lead to each other
@@ -910,7 +911,7 @@ KNOWN = [
         ({"kind": "hint", "base": "/p/", "paths": 2, "of": 4},), settings=NO_BASE,
     ),
     Known(
-        "folders of paths from the root that have another text in a URL, or a dot in front",
+        "paths from the root of five folders",
         {"index.html": "<a href='/a b/x'><a href='/a b/y'><a href=/../c/x><a href=/../c/y><a href=/.d/x><a href=/.d/y><a href=/%41/x><a href=/%41/y><a href=/a-b_c.d~1/z>"},
         [
             "%41/x index.html:1:103", "%41/y index.html:1:118", ".d/x index.html:1:75", ".d/y index.html:1:89", "a%20b/x index.html:1:10", "a%20b/y index.html:1:27",
@@ -921,7 +922,7 @@ KNOWN = [
     Known(
         "the folder of a path from the root with signs of URLs", {"index.html": "<a href='/a b/x'><a href=/a-b_c.d~1/y><a href='\t/a-b_c.d~1/z'>"},
         ["a%20b/x index.html:1:10", "a-b_c.d~1/y index.html:1:26", "a-b_c.d~1/z index.html:1:48"],
-        ({"kind": "hint", "base": "/a-b_c.d~1/", "paths": 2, "of": 2},), settings=NO_BASE,
+        ({"kind": "hint", "base": "/a-b_c.d~1/", "paths": 2, "of": 3},), settings=NO_BASE,
     ),
     Known(
         "links with the host of the site, without BASE",
@@ -934,12 +935,12 @@ KNOWN = [
     ),
     Known(
         "as many links with a host as without one", {"index.html": "<a href=http://o.test/a.html><a href=http://o.test/b.html><a href=a.html><a href=b.html>", "a.html": "", "b.html": ""}, [],
-        ({"kind": "hint", "base": "http://o.test/", "paths": 2, "of": 4},), settings=NO_BASE,
+        settings=NO_BASE, without=("hint",),
     ),
     Known(
         "links with a host, and an alias, which has a link to the file's own URL",
         {"index.html": "<a href=http://o.test/a.html><a href=http://o.test/b.html><a href=a.html?x>", "a.html": "", "b.html": ""}, [],
-        ({"kind": "hint", "base": "http://o.test/", "paths": 2, "of": 4},), settings=NO_BASE,
+        settings=NO_BASE, without=("hint",),
     ),
     Known(
         "links to the first page of another site", {"index.html": "<a href=http://o.test/><a href=http://o.test/?q><a href=http://o.test/a.html>", "a.html": ""}, [],
@@ -976,6 +977,28 @@ KNOWN = [
         "paths from the root, and links with the host of the site",
         {"index.html": "<a href=/p/a><a href=/p/b><a href=http://h.test/p/c.html><a href=http://h.test/p/><a href=http://h.test/p/c.html>", "c.html": ""},
         ["p/a index.html:1:9", "p/b index.html:1:22"], ({"kind": "hint", "base": "http://h.test/p/", "paths": 3, "of": 5},), settings=NO_BASE,
+    ),
+    Known(
+        "pages with a link to themselves below another URL",
+        {
+            "index.html": "<a href=http://s.test/p/index.html>", "a.html": "<a href=http://s.test/p/a.html?q#x><a href=b.html>" + 9 * "<a href=http://t.test/x.html>",
+            "d/b.html": "<a href=http://o.test/><a href=http://s.test/p/d/b.html><a href=c.html>", "d/c.html": "<a href=http://s.test/p/c.html><a href=../a.html>", "b.html": "",
+        },
+        [],
+        ({"kind": "hint", "base": "http://s.test/p/", "paths": 4, "of": 17},), settings=NO_BASE,
+    ),
+    Known(
+        "pages with a link to themselves, and then to the same path elsewhere",
+        {
+            "a.html": "<link rel=canonical href=http://docs.test/a.html><a href=https://o.test/x/a.html><a href=b.html>",
+            "b.html": "<a href=b.html><a href=https://o.test/x/b.html><a href=a.html>", "c.html": "<a href=https://o.test/x/c.html>",
+        },
+        [], without=("hint",),
+    ),
+    Known(
+        "a sitemap with another host, and other links to other sites",
+        {"index.html": "<a href=a.html><a href=http://o.test/x.html><a href=http://o.test/y.html><a href=http://o.test/z.html>", "a.html": "", "sitemap.txt": "http://s.test/\nhttp://s.test/a.html\nhttp://s.test/b.html\n"},
+        [], ({"kind": "hint", "base": "http://s.test/", "paths": 3, "of": 7},), settings=NO_BASE,
     ),
     Known("links above the folder", {"index.html": "<a href=../a.html><a href=../../b.html>", "a.html": ""}, ["../../b.html index.html:1:27", "../a.html index.html:1:9"], settings=NO_BASE, without=("hint",)),
     Known(
@@ -1125,6 +1148,16 @@ KNOWN = [
         settings=(*NO_BASE, ("queries", True)),
     ),
     Known(
+        "other index files with queries in their names",
+        {"index.html": "<a href='d/?q'><a href='d/?r/s'><a href='?t'><a href='\u00fc/'>", "d/home.html?q": "", "d/home.html?r/s": "", "default.htm?t": "", "\u00fc/home.html": ""},
+        ["%C3%BC/ index.html:1:55", "?t index.html:1:42", "d/?q index.html:1:10", "d/?r/s index.html:1:25"],
+        (
+            *hint("?t", "./ has default.htm?t: --index-file default.htm"), *hint("d/?q", "d/ has home.html?q: --index-file home.html"),
+            *hint("d/?r/s", "d/ has home.html?r/s: --index-file home.html"), *hint("%C3%BC/", "\u00fc/ has home.html: --index-file home.html"),
+        ),
+        settings=(*NO_BASE, ("queries", True)),
+    ),
+    Known(
         "folders without an index file, by the rules of a plain server",
         {"index.html": "<a href=d/><a href=d//><a href=%64/><a href=d/?q>", "d/a": ""},
         ["%64/ index.html:1:32", "d/ index.html:1:9", "d// index.html:1:20", "d/?q index.html:1:45"],
@@ -1156,6 +1189,13 @@ KNOWN = [
             *written("x&y", "../x&y"), *written("d/a", "./a"), *written("d/ab.html", "ab.html"), *written("d/z.png", "z.png"), *written("d/z", "z#<"),
             *written("HTP:y", None), *written("d/w.png", "./w.png"), *written("v", "/v"), *written("d/e/#f", "e#f"), *written("//[x", None),
         ),
+        settings=NO_BASE,
+    ),
+    Known(
+        "long paths from the root, which are longer below the top",
+        {"index.html": f"<a href='/{LONGEST}'>\n<a href='/{LONGEST}x'>\n<a href='/../%2e./{LONGEST}#x'>\n<a href='/d/../{LONGEST}'>"},
+        [f"{2013 * '%C3%BC'} index.html:1:10", f"{2013 * '%C3%BC'} index.html:3:10"],
+        total(pages=1, links=2, redirects=0, aliases=0),
         settings=NO_BASE,
     ),
     Known(

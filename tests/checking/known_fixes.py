@@ -72,6 +72,10 @@ FIXED = [
         {"s/t/u.html": "<a href=../a.html><a href=../../d/#x>", "s/t/v.html": "<a href=w.html><a href=y/x.html>"}, settings=NO_BASE,
     ),
     Fixed(
+        "files whose names have 255 bytes", {250 * "n" + ".html": "<a href=d>", 125 * "\u00fc" + ".html": "<a href=d>", "d/index.html": ""},
+        {250 * "n" + ".html": "<a href=d/>", 125 * "\u00fc" + ".html": "<a href=d/>"}, settings=NO_BASE,
+    ),
+    Fixed(
         "the forms of links, with BASE",
         {
             "index.html": "<a href=/p/a.html><a href=//docs.test/p/old/a.html#q><a href=HTTP://docs.test:80/p/a.html#x><a href=http:a.html><a href=//docs.test/p/d><a href=/p/d#x>",

@@ -26,7 +26,7 @@ ERROR_PAGE = "404.html"  # the last name of the URL of a page that no sitemap ha
 LEADS_OUT = "a symbolic link out of the folder: --follow"  # the hint of a symbolic link that is not followed
 LEADS_NOWHERE = "a symbolic link to nothing"
 NO_INDEX_FILE = "the folder has no index file"
-ROOT_FOLDER = re.compile("/([A-Za-z0-9_~-][A-Za-z0-9_.~-]*)/")  # the first folder of a path from the root, if it has the same text in a URL
+ROOT_PATH = re.compile("/(?!/)")  # the start of a link that is a path from the root
 SLASHES = range(3, 9)  # the slashes in a URL of a host and at most five folders
 LINE_LIMIT = 4096  # the most bytes in a line of a saved web
 FILE_LIMIT = 1 << 30  # the most bytes of a file that is read
@@ -77,6 +77,15 @@ class Link(NamedTuple):
     fragment: Optional[str]
     place: Place
     written: str  # as the file has it, without white space around it
+
+
+class Invalid(NamedTuple):
+    """An invalid link of a page."""
+
+    text: str  # as the report has it
+    reason: str
+    place: Place
+    written: str
 
 
 Located = Dict[Place, str]  # the locations of the links to a target, each with the text of its first link
@@ -188,6 +197,17 @@ def in_folder(text: str, top: drawn.Url) -> Optional[str]:
     return None if url is None else str(top) + url[len(str(top._replace(path=("",)))):]
 
 
+def path_below(text: str, top: drawn.Url) -> str:
+    """A path that begins with a slash, below the path of the top, without each `..` that leads above the top. Its escapes stay as they are."""
+    path, mark, query = text.partition("?")
+    depth, kept = 0, "/" + "/".join(top.path)
+    for segment in re.findall(r"[^/\\]*[/\\]|[^/\\]+", path[1:]):
+        dots = re.sub("%2e", ".", segment.rstrip("/\\"), flags=re.IGNORECASE)
+        kept += segment if dots != ".." or depth else ""
+        depth = max(depth - 1, 0) if dots == ".." else depth + (dots != ".")
+    return kept + mark + query
+
+
 @lru_cache(maxsize=1 << 18)
 def resolved(text: str, base: drawn.Url) -> Optional[str]:
     """The URL of a text without a fragment."""
@@ -202,6 +222,22 @@ def resolved(text: str, base: drawn.Url) -> Optional[str]:
 def origin_of(url: drawn.Url) -> str:
     """The scheme, host and port of a URL, and the slash after them."""
     return str(url._replace(path=("",), query=""))
+
+
+def cut_front(text: str, front: str) -> str:
+    """A text without its front, if it has that."""
+    return text[len(front):] if text.startswith(front) else text
+
+
+def often(links: List[str], count: int) -> List[str]:
+    """The folders with this number of slashes in which at least half and at least two of the links are."""
+    folders = [found[0] for found in (re.match(f"(?:[^/]*/){{{count}}}", link) for link in links) if found]
+    return [folder for folder, times in Counter(folders).items() if 2 * times >= max(len(links), 4)]
+
+
+def paths_below(folder: str, links: List[str]) -> int:
+    """The number of links that are in a folder or to it."""
+    return sum(link.startswith(folder) for link in links)
 
 
 def is_short(word: str, text: str) -> bool:
@@ -516,7 +552,9 @@ class Site:
             return f"{self.file_of(page)} exists: --fallback html" if page and is_off else None
         index = self.likely_indices.get(key)
         if index:
-            return f"{os.fsdecode(key.path) or './'} has {index}: --index-file {index}"
+            # With queries in names, the name of index files has none
+            file, last = os.fsdecode(index[len(key.path):]), os.fsdecode(os.path.basename(self.path(index)))
+            return f"{os.fsdecode(key.path) or './'} has {file}: --index-file {last}"
         is_folder = key.query is None and (not key.path or key.path in self.names)
         return NO_INDEX_FILE if is_folder else None
 
@@ -525,15 +563,15 @@ class Site:
         ends = [found.start() for found in re.finditer(b"/", key.path)] + ([len(key.path)] if key.query is None else [])
         return next((self.skipped[key.path[:end]] for end in ends if key.path[:end] in self.skipped), None)
 
-    def likely_index(self, names: List[bytes]) -> Dict[Key, str]:
+    def likely_index(self, names: List[bytes]) -> Dict[Key, bytes]:
         """By folder and query, the first file that a server may use as index file."""
-        found: Dict[Key, str] = {}
+        found: Dict[Key, bytes] = {}
         for name in sorted(names):
             key = next(self.keys(name))
             folder, last = os.path.split(key.path)
             is_named = last.lower().startswith(tuple(map(str.encode, INDEX_NAMES)))
             if is_named and (form_of(key.path, True) in ("html", "") or is_page(key.path)):
-                found.setdefault(key._replace(path=os.path.join(folder, b"")), os.fsdecode(last))
+                found.setdefault(key._replace(path=os.path.join(folder, b"")), name)
         return found
 
     def path_of(self, parts: List[bytes]) -> Optional[bytes]:
@@ -638,7 +676,7 @@ class Model:
         self.others: Dict[str, Response] = {}  # of URLs of the site's origin that are not below the top
         self.links: Dict[str, List[Link]] = {}  # by the own URL of each file
         self.skipped: Counter[str] = Counter()  # by the own URL of each file, the links that are not http or https
-        self.invalid: Dict[Tuple[str, str], Tuple[Set[str], Located]] = {}  # by text and reason: the pages with the link, and the locations
+        self.invalid_at: Dict[str, List[Invalid]] = {}  # by the own URL of each file
         starts = [self.site.start_of(seed) for seed in settings.seeds or [""]]
         documents = [] if settings.reachable else self.site.own_starts()
         self.error = self.start_error(starts, documents)
@@ -646,6 +684,9 @@ class Model:
             self.search(starts)
         self.reached = self.files_found()
         self.search(documents)
+        # Of several links at one location, also those of other URLs of the file, the first one counts, in the order of URLs.
+        self.links = dict(sorted(self.links.items()))
+        self.invalid = self.invalid_found()
 
     def is_index_url(self) -> bool:
         """Whether BASE is the URL of an index file, and not that of a folder."""
@@ -711,12 +752,21 @@ class Model:
             else:
                 line, reason = written(text), "not_url" if lacks_slashes(text) else None
             if line and reason:
-                pages, places = self.invalid.setdefault((line, reason), (set(), {}))
-                pages.add(url)
-                places.setdefault(Place(name, *document.lines.place(link.at)), TOOL.cleaned(link.text))
-            if target is not None and is_short("link", target if base.is_given or self.is_in_folder(text, base) else text.partition("#")[0]):
+                place = Place(name, *document.lines.place(link.at))
+                self.invalid_at.setdefault(url, []).append(Invalid(line, reason, place, TOOL.cleaned(link.text)))
+            if target is not None and is_short("link", target if base.is_given else self.line_of(text, base)):
                 fragment = None if document.ids is None else fragment_of(link.text)
                 yield Link(target, fragment, Place(name, *document.lines.place(link.at)), TOOL.cleaned(link.text))
+
+    def invalid_found(self) -> Dict[Tuple[str, str], Tuple[Set[str], Located]]:
+        """The invalid links by text and reason, each with the pages that have it and the locations."""
+        invalid: Dict[Tuple[str, str], Tuple[Set[str], Located]] = {}
+        for url, links in sorted(self.invalid_at.items()):
+            for link in links:
+                pages, places = invalid.setdefault((link.text, link.reason), (set(), {}))
+                pages.add(url)
+                places.setdefault(link.place, link.written)
+        return invalid
 
     def base_of(self, text: str, page: "Base") -> "Base":
         """The base of a page with a `base` element that has this text."""
@@ -732,6 +782,11 @@ class Model:
     def is_in_folder(self, text: str, base: "Base") -> bool:
         """Whether a text is a path from the root that is a path in the folder, because no BASE is given."""
         return self.settings.is_rooted() and begins_path(text) and not base.front and origin_of(base.url) == origin_of(self.site.base)
+
+    def line_of(self, text: str, base: "Base") -> str:
+        """A text without its fragment, as the line of the link has it: below the top if it is a path in the folder, and not yet as a URL."""
+        path = text.partition("#")[0]
+        return path_below(path, self.site.base) if self.is_in_folder(text, base) else path
 
     def target_of(self, text: str, base: "Base") -> Optional[str]:
         """The URL to which a text leads, or None if it is not http or https."""
@@ -775,62 +830,85 @@ class Model:
         return [total, *base_hint, *broken, *invalid, *leaving, *worst, *redirects, *names, *external, *self.unused()]
 
     def base_hints(self, broken: List[Row]) -> Iterator[Row]:
-        """The hints at BASE, of which the first is reported: by all links, by those to other URLs, and by paths from the root, at a folder or its URL."""
-        yield from self.host_hint(broken)
-        yield from self.other_hint()
-        at_root = list(self.root_hint(broken))
-        if self.settings.is_rooted():
-            yield from at_root
-        for hint in at_root:
-            yield from self.url_hint(origin_of(self.site.base)[:-1] + hint["base"], self.link_urls())
+        """The hints at BASE, of which the first is reported: by all links, by those in some pages, and by paths from the root."""
+        yield from self.link_hint(broken)
+        yield from self.own_hint()
+        yield from self.foreign_hint()
+        for hint in self.root_hints(broken):
+            if self.settings.is_rooted():
+                yield {**hint, "base": "/" + hint["base"]}
+            else:
+                yield from self.url_hint(str(self.site.base) + hint["base"], self.link_urls())
 
-    def root_hint(self, broken: List[Row]) -> Iterator[Row]:
-        """The folder, which does not exist, with which most links begin that lead to missing pages and are paths from the root."""
-        paths = [row["written"] for row in broken if row["kind"] == "place" and row["missing"] == "page" and row["written"]]
-        found = [path[1] for path in map(ROOT_FOLDER.match, paths) if path]
-        most = [(name, count) for name, count in Counter(found).items() if 2 * count >= len(found) and count >= 2]
-        for name, count in most[:1]:
-            if not any(url.startswith(f"{self.site.base}{name}/") for url in self.site.urls()):
-                yield {"kind": "hint", "base": f"/{name}/", "paths": count, "of": len(found)}
+    def root_hints(self, broken: List[Row]) -> Iterator[Row]:
+        """The hint at the folder, which the site does not have, of most links that lead to missing pages and are paths from the root.
 
-    def host_hint(self, broken: List[Row]) -> Iterator[Row]:
+        Without it they lead to files, or it is the first folder of these paths.
+        """
+        top = str(self.site.base)
+        places = [row for row in broken if row["kind"] == "place" and row["missing"] == "page" and ROOT_PATH.match(row["written"] or "")]
+        paths = [path.partition("?")[0] for path in (cut_front(row["target"], top) for row in places) if path not in ("", "./")]
+        hints = list(self.folder_hints(paths, range(1, 7))) or [
+            {"kind": "hint", "base": folder, "paths": paths_below(folder, paths), "of": len(paths)} for folder in often(paths, 1)[:1] if not self.has_folder(folder)
+        ]
+        yield from hints[:1]
+
+    def has_folder(self, folder: str) -> bool:
+        """Whether a page is in a folder."""
+        return any(url.startswith(str(self.site.base) + folder) for url in self.site.urls())
+
+    def link_hint(self, broken: List[Row]) -> Iterator[Row]:
         """The hint that BASE is missing or another one: most links begin with a URL below which the folder has most of them."""
         links, top = self.link_urls(), str(self.site.base)
         lost = sum(row["kind"] == "place" and row["missing"] == "page" for row in broken)
         if 2 * max(sum(link.startswith(top) for link in links) - lost, 0) >= len(links):
             return
-        yield from self.folder_hints(links)
+        yield from self.folder_hints(links, SLASHES)
 
-    def other_hint(self) -> Iterator[Row]:
-        """The hint that BASE is missing or another one: most links to other URLs begin with one. It counts all links."""
-        links = self.link_urls()
-        others = [link for link in links if not link.startswith(str(self.site.base))]
-        for hint in self.folder_hints(others):
-            yield {**hint, "paths": sum(link.startswith(hint["base"]) for link in links), "of": len(links)}
+    def own_hint(self) -> Iterator[Row]:
+        """The hint that BASE is missing or another one: most pages with links elsewhere have one to their own path below the same URL."""
+        top, links, fronts, pages = str(self.site.base), self.link_urls(), [], 0
+        for url, urls in self.page_urls():
+            path = url.partition("?")[0][len(top):] if url.startswith(top) else ""
+            own = [link[:-len(path)] for link in urls if path and link.endswith("/" + path) and link.count("/", 0, len(link) - len(path)) >= 3]
+            fronts += [front for front in own[:1] if not (top.startswith(front) or front.startswith(top))]
+            pages += any(not link.startswith(top) for link in urls)
+        most = [front for front, times in Counter(fronts).items() if 2 * times >= max(pages, 4)]
+        for front in most[:1]:
+            yield {"kind": "hint", "base": front, "paths": paths_below(front, links), "of": len(links)}
 
-    def folder_hints(self, links: List[str]) -> Iterator[Row]:
-        """The hints at the URLs with which most of these links begin, from the shortest to the longest."""
-        for count in SLASHES:
-            folders = [found[0] for found in (re.match(f"(?:[^/]*/){{{count}}}", link) for link in links) if found]
-            often = [folder for folder, times in Counter(folders).items() if 2 * times >= max(len(links), 4)]
-            yield from self.url_hint(often[0], links) if often else ()
+    def foreign_hint(self) -> Iterator[Row]:
+        """The hint that BASE is missing or another one: most links in pages without links below it begin with one. It counts all links."""
+        links, found = self.link_urls(), []
+        for url, urls in self.page_urls():
+            found += urls if not any(link.startswith(str(self.site.base)) for link in urls) else []
+        for hint in self.folder_hints(found, SLASHES):
+            yield {**hint, "paths": paths_below(hint["base"], links), "of": len(links)}
+
+    def folder_hints(self, links: List[str], counts: Iterable[int]) -> Iterator[Row]:
+        """The hints at the folders with these numbers of slashes in which most of these links are, from the shortest to the longest."""
+        for count in counts:
+            for folder in often(links, count)[:1]:
+                yield from self.url_hint(folder, links)
 
     def url_hint(self, url: str, links: List[str]) -> Iterator[Row]:
-        """The hint at a URL with which some links begin, unless the top begins with it or the folder does not have most of the pages below it."""
+        """The hint at a folder in which some links are, unless the site has it or lacks most of what they name in it."""
         files, top = {page for page, _ in self.site.pages()}, str(self.site.base)
         below = [link[len(url):] for link in links if link.startswith(url) and link != url]
-        if not top.startswith(url) and len(below) >= 2 and 2 * sum(top + rest in files for rest in below) >= len(below):
-            yield {"kind": "hint", "base": url, "paths": sum(link.startswith(url) for link in links), "of": len(links)}
+        if not top.startswith(url) and not self.has_folder(url) and len(below) >= 2 and 2 * sum(top + rest in files for rest in below) >= len(below):
+            yield {"kind": "hint", "base": url, "paths": paths_below(url, links), "of": len(links)}
 
-    def link_urls(self) -> List[str]:
-        """The URLs, without queries, to which the links of each page lead, in the order of the pages. An alias has a link to its own URL."""
-        found: List[str] = []
+    def page_urls(self) -> Iterator[Tuple[str, List[str]]]:
+        """Each page, in order, with the URLs to which its links lead, without queries. An alias has a link to its own URL."""
         for url, response in sorted(self.responses.items()):
             if isinstance(response, Found):
-                found += [link.url for link in self.links[url]]
+                yield url, [link.url.partition("?")[0] for link in self.links[url]]
             elif isinstance(response, Alias):
-                found.append(response.own)
-        return [url.partition("?")[0] for url in found]
+                yield url, [response.own.partition("?")[0]]
+
+    def link_urls(self) -> List[str]:
+        """These URLs in the order of the pages."""
+        return [link for _, urls in self.page_urls() for link in urls]
 
     def linking(self) -> Dict[str, Set[str]]:
         """The pages that link to each URL. A redirect or an alias counts as a link to its target."""

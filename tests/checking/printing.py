@@ -15,7 +15,7 @@ ESCAPES = re.compile("(?:%[0-9A-Fa-f]{2})+")
 CONTROL = "[\0-\x1f\x7f-\x9f\u2028\u2029\u202a-\u202e\u2066-\u2069]"
 REASONS = {
     "not_url": "not a URL", "unknown_scheme": "unknown scheme", "local_file": "local file",
-    "above_folder": "leaves the folder", "outside_base": "outside BASE, on the same host", "not_in_map": "no such page in the mapped folder",
+    "above_folder": "leaves the folder", "outside_base": "outside BASE on the same host, not checked", "not_in_map": "no such page in the mapped folder",
 }
 UNLISTED = "not in a sitemap"
 KINDS = ("broken", "invalid", "leaving")
@@ -69,8 +69,13 @@ def shown(text: str) -> str:
 
 
 def decoded(text: str) -> str:
-    """A path without percent-escapes of spaces, and of characters beyond ASCII that a report shows. A URL is left as it is."""
-    return text if text.startswith(("http://", "https://")) else ESCAPES.sub(lambda run: run_decoded(run[0]), text)
+    """
+    A path without percent-escapes of spaces, and of characters beyond ASCII that a report shows. A URL is left as it is, and so is a space
+    that nobody would see, at the beginning or the end.
+    """
+    if text.startswith(("http://", "https://")):
+        return text
+    return re.sub(r"\A | \Z", "%20", ESCAPES.sub(lambda run: run_decoded(run[0]), text))
 
 
 def run_decoded(run: str) -> str:
@@ -173,7 +178,7 @@ def list_line(row: Row) -> str:
 
 
 HEADINGS = {
-    "worst": "files with the most broken, invalid and leaving links:", "redirect": "links to redirects (not errors; in documents, --fix --dry-run shows where):", "unreached": "unreached files:", "unlisted": "documents that no sitemap lists:",
+    "worst": "files with the most broken, invalid and leaving links:", "redirect": "links to redirects (not errors; in documents, --fix --dry-run shows where):", "unreached": "unreached files:", "unlisted": "documents that no sitemap lists (list them, or leave them out with --ignore):",
     "external": "external links (not checked):", "unused": "unused --ignore entries:",
 }
 

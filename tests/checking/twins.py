@@ -520,8 +520,9 @@ def hint_text(site: model.Site, folder: Folder, hint: Union[Hint, LinkHint, Fold
     name = folder.names[hint.number]
     if hint.is_fallback:
         return f"{site.file_of(name)} exists: --fallback html"
-    front, last = os.path.split(os.fsdecode(site.path(name)))
-    return f"{os.path.join(front, '') or './'} has {last}: --index-file {last}"
+    path = site.path(name)
+    front, last = os.path.split(os.fsdecode(path))
+    return f"{os.path.join(front, '') or './'} has {last}{os.fsdecode(name[len(path):])}: --index-file {last}"
 
 
 def is_response(site: model.Site, folder: Folder, response: Response, url: str) -> bool:

@@ -455,7 +455,7 @@ NATIVES: Dict[str, Native] = {
     "is_ascii": (lambda b: b < 128, 1), "is_ascii_whitespace": (lambda b: b in b"\t\n\f\r ", 1), "is_ascii_alphabetic": (lambda b: 65 <= b < 91 or 97 <= b < 123, 1),
     "is_c0_control_or_space": (lambda b: b <= 32, 1), "trim_start": (lambda f, xs: drop(prefix_len(f, xs), xs), 2),
     "is_ascii_alphanumeric": (lambda b: 48 <= b < 58 or 65 <= b < 91 or 97 <= b < 123, 1), "IsAscii": (lambda xs: all(b < 128 for b in items(xs)), 1),
-    "percent_encode": (percent_encode, 2), "percent_decode": (percent_decode, 1), "rsplit_once": (rsplit_once, 2), "url.specs.Input.trim_end": (trim_end, 2),
+    "percent_encode": (percent_encode, 2), "percent_encode_byte": (lambda b: text(b"%%%02X" % b), 1), "percent_decode": (percent_decode, 1), "rsplit_once": (rsplit_once, 2), "url.specs.Input.trim_end": (trim_end, 2),
     "strip_tabs_and_new_lines": (lambda xs: listed(b for b in items(xs) if b not in b"\t\n\r"), 1),
     "trim_c0_control_and_space": (lambda xs: text(unlisted(xs).strip(EDGE)), 1), "split_scheme": (split_scheme, 1), "dot_count": (dot_count, 1),
     "number_sign": (35, None), "question_mark": (63, None), "slash": (47, None), "colon": (58, None), "space": (32, None),

@@ -4,6 +4,7 @@ mod Controls
 mod Decoding
 mod Inert
 mod Objects
+mod PathBytes
 mod Pieces
 mod Results
 mod Runs

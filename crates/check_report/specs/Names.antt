@@ -1,5 +1,5 @@
 -- How the names of pages are shown to people: with the characters that their escapes encode.
-use Rattle.std.specs.Prelude.{ℕ, ◌-◌, ◌*◌, zero, suc, ◌==◌, Bool, true, false, ◌&&◌, ◌||◌, not, List, [], ◌∷◌, ◌++◌, chars, codes, nat_eq, nat_le, string_bytes, take, if◌then◌else◌, Option, None, Some, option_map}
+use Rattle.std.specs.Prelude.{ℕ, ◌-◌, ◌*◌, zero, suc, ◌==◌, Bool, true, false, ◌&&◌, ◌||◌, not, List, [], ◌∷◌, ◌++◌, chars, codes, drop, length, nat_eq, nat_le, string_bytes, take, if◌then◌else◌, Option, None, Some, option_map}
 use Rattle.std.specs.Char.{encode_utf8}
 use Rattle.std.specs.List.{ends_with, starts_with}
 use Rattle.std.specs.Option.{option_or}
@@ -61,8 +61,20 @@ abbrev pub unescaped : List ℕ → List ℕ
 unescaped text = unescaped_from 0 text
 
 -- these bytes as text. They are UTF-8, because whole characters replace their escapes, so `utf8_lossy` replaces nothing
+abbrev pub all_decoded : List ℕ → List ℕ
+all_decoded text = utf8_lossy (unescaped text)
+
+-- the text with an escape in place of a space at its end, which nobody would see
+abbrev pub with_end : List ℕ → List ℕ
+with_end text = if ends_with nat_eq text (codes " ") then take (length text - 1) text ++ codes "%20" else text
+
+-- likewise at its beginning
+abbrev pub with_ends : List ℕ → List ℕ
+with_ends text = if starts_with nat_eq text (codes " ") then codes "%20" ++ with_end (drop 1 text) else with_end text
+
+-- the text with the readable characters that its escapes encode, but for a space at its beginning or end
 unfoldable pub decoded : List ℕ → List ℕ
-decoded text = utf8_lossy (unescaped text)
+decoded text = with_ends (all_decoded text)
 
 -- ---- names
 

@@ -50,7 +50,7 @@ message NotUrl = codes "not a URL"
 message UnknownScheme = codes "unknown scheme"
 message LocalFile = codes "local file"
 message Leaves = codes "leaves the folder"
-message OutsideBase = codes "outside BASE, on the same host"
+message OutsideBase = codes "outside BASE on the same host, not checked"
 message NotInMap = codes "no such page in the mapped folder"
 
 abbrev pub same_name_text : Escape → Option (List ℕ) → List ℕ
@@ -157,7 +157,7 @@ title section.Broken = []
 title section.Worst = codes "files with the most broken, invalid and leaving links:\n"
 title section.Redirects = codes "links to redirects (not errors; in documents, --fix --dry-run shows where):\n"
 title section.Unreached = codes "unreached files:\n"
-title section.Unlisted = codes "documents that no sitemap lists:\n"
+title section.Unlisted = codes "documents that no sitemap lists (list them, or leave them out with --ignore):\n"
 title section.External = codes "external links (not checked):\n"
 title section.Unused = codes "unused --ignore entries:\n"
 

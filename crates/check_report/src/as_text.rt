@@ -137,7 +137,8 @@ fn title(section: Section) -> &'static str
         Section::Redirects =>
             "links to redirects (not errors; in documents, --fix --dry-run shows where):\n",
         Section::Unreached => "unreached files:\n",
-        Section::Unlisted => "documents that no sitemap lists:\n",
+        Section::Unlisted =>
+            "documents that no sitemap lists (list them, or leave them out with --ignore):\n",
         Section::External => "external links (not checked):\n",
         Section::Unused => "unused --ignore entries:\n",
     }
@@ -242,7 +243,7 @@ pub fn message(kind: Kind) -> &'static str
         Kind::UnknownScheme => "unknown scheme",
         Kind::LocalFile => "local file",
         Kind::Leaves => "leaves the folder",
-        Kind::OutsideBase => "outside BASE, on the same host",
+        Kind::OutsideBase => "outside BASE on the same host, not checked",
         Kind::NotInMap => "no such page in the mapped folder",
     }
 }

@@ -2,7 +2,7 @@
 ghost use Rattle.std.specs.Prelude.{◌≡◌, ◌-◌, ◌*◌, ◌≤◌, ◌++◌, IfOk, IfSome, OnOk, Some, None, chars, if◌then◌else◌, drop, length, string_bytes, take};
 ghost use Rattle.std.specs.Char.{encode_utf8};
 ghost use Rattle.percent_encoding.specs.Percent.{percent_decode};
-ghost use Rattle.check_report.specs.Names.{at_percent, decoded, ends_with_link, escapes_of, has_host, is_command, is_readable, is_text, page_in, page_name, readable_at, readable_in, readable_only, target_in, target_name, unescaped};
+ghost use Rattle.check_report.specs.Names.{all_decoded, at_percent, decoded, ends_with_link, escapes_of, has_host, is_command, is_readable, is_text, page_in, page_name, readable_at, readable_in, readable_only, target_in, target_name, unescaped, with_end, with_ends};
 ghost use Rattle.shown_text.specs.Shown.{is_hidden};
 
 use crate::escape::{Escape, put_escaped};
@@ -99,13 +99,49 @@ pub fn has_host(text: &str) -> bool
     text.as_bytes().starts_with(b"http://") || text.as_bytes().starts_with(b"https://")
 }
 
-/// The text with the readable characters that its escapes encode.
+/// The text with the readable characters that its escapes encode, but for a space at its beginning or end.
 #[tactic(auto, unfolding(crate::specs::Names::decoded))]
 fn decoded(alloc: Global, text: &str) -> Result<String, NoMemory>
-    ensures { IfOk result (λ all. string_bytes all ≡ decoded text.now) }
+    ensures { IfOk result (λ name. string_bytes name ≡ decoded text.now) }
+{
+    let all = all_decoded(alloc, text)?;
+    with_ends(alloc, all.as_str())
+}
+
+/// The text with the readable characters that its escapes encode.
+fn all_decoded(alloc: Global, text: &str) -> Result<String, NoMemory>
+    ensures { IfOk result (λ all. string_bytes all ≡ all_decoded text.now) }
 {
     let bytes = unescaped(alloc, text.as_bytes())?;
     String::from_utf8_lossy(alloc, bytes.as_slice())
+}
+
+/// The text with an escape in place of a space at its beginning or end, which nobody would see.
+fn with_ends(alloc: Global, text: &str) -> Result<String, NoMemory>
+    ensures { IfOk result (λ name. string_bytes name ≡ with_ends text.now) }
+{
+    let mut name = String::new(alloc);
+    match text.strip_prefix(" ") {
+        Some(rest) => {
+            name.push_str("%20")?;
+            push_with_end(&mut name, rest)?;
+        }
+        None => push_with_end(&mut name, text)?,
+    }
+    Ok(name)
+}
+
+/// Appends a text, with an escape in place of a space at its end.
+fn push_with_end(name: &mut String, text: &str) -> Result<(), NoMemory>
+    ensures { OnOk result (string_bytes name.new ≡ string_bytes name.old ++ with_end text.now) }
+{
+    match text.strip_suffix(" ") {
+        Some(rest) => {
+            name.push_str(rest)?;
+            name.push_str("%20")
+        }
+        None => name.push_str(text),
+    }
 }
 
 /// The bytes of the text, with readable characters in place of their escapes.

@@ -56,6 +56,7 @@ fn front_path(alloc: Global, folder: &str) -> Result<String, NoMemory>
 }
 
 /// A path in a URL.
+#[tactic(auto, using(crate::proofs::PathBytes::path_encoded))]
 pub fn path_uri(alloc: Global, path: &str) -> Result<String, NoMemory>
     ensures { IfOk result (λ uri. string_bytes uri ≡ path_uri path.now) }
 {

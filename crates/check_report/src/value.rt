@@ -141,7 +141,7 @@ pub struct Place {
 /// The start that many links share, if it shows that BASE is missing or wrong: a folder that is not in the site, or a whole URL.
 #[derive(Drop)]
 pub struct BaseHint {
-    /// A slash, the name of the folder, and a slash; or a URL that begins with `http://` or `https://`.
+    /// A path of folders between slashes; or a URL that begins with `http://` or `https://`.
     pub folder: String,
     /// The number of locations of links to missing pages whose path begins with the folder; or the number of links that begin with the
     /// URL.

@@ -14,12 +14,12 @@ ends_itself suffix front =
     let end : drop (length (front ++ suffix) - length suffix) (front ++ suffix) ≡ suffix = ap (λ k. drop k (front ++ suffix)) n ∙ drop-append_seam front suffix in
     ((bytes_eq-Decides _ suffix).1 end, ap (λ k. take k (front ++ suffix)) n ∙ take-append_seam front suffix)
 
-ends_with : (suffix text front : List ℕ) → StripsSuffix (FindsTextSuffix suffix) text front → (ends suffix text ≡ true) × (without_end suffix text ≡ front)
+pub ends_with : (suffix text front : List ℕ) → StripsSuffix (FindsTextSuffix suffix) text front → (ends suffix text ≡ true) × (without_end suffix text ≡ front)
 ends_with suffix text front strips =
     let split : text ≡ front ++ suffix = strips.1.1 ∙ ap (λ t. t ++ suffix) (sym strips.2) in
     subst (λ t. (ends suffix t ≡ true) × (without_end suffix t ≡ front)) (sym split) (ends_itself suffix front)
 
-ends_not : (suffix text : List ℕ) → FindsTextSuffix suffix text None → ends suffix text ≡ false
+pub ends_not : (suffix text : List ℕ) → FindsTextSuffix suffix text None → ends suffix text ≡ false
 ends_not suffix text lacks =
     let n = length text - length suffix in
     elim (cases_Bool (ends suffix text)) [

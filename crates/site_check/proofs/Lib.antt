@@ -17,6 +17,7 @@ pub mod LackedFound
 pub mod LeadsFound
 pub mod LeadTargets
 pub mod LeavingRows
+pub mod LinkCounts
 pub mod LinkFolders
 pub mod Listed
 pub mod LocatedRows
@@ -25,6 +26,7 @@ pub mod Namesakes
 pub mod Orders
 pub mod Origins
 pub mod Outsides
+pub mod OwnFronts
 pub mod PageIndices
 pub mod Patterns
 pub mod Placed

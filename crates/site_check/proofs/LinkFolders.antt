@@ -1,55 +1,17 @@
--- The URLs with which links begin, and the links that begin with them.
-use Rattle.site_check.proofs.Prelude.{◌≡◌, ◌∙◌, ℕ, suc, zero, ◌+◌, ◌^◌, ◌<◌, ◌≤◌, ◌&&◌, Bool, true, false, List, [], ◌∷◌, ◌++◌, Option, Some, None, length, drop, take, get_or, count_by, refl, subst, sym, ap, inl, inr, arith, append_assoc, cases_Bool, cond-false, cond-true, string_bytes, take-append-drop, bytes_eq-Decides, begins, Bor, flat_map, option_map, pointed, Counts, PageResult, SiteFiles, count_at, is_slash, often_first, one_if, path_count}
-use Rattle.std.proofs.Common.{◌*◌, ◌-◌, ◌≢◌, MatchOption, cond, length-append, take_all}
+-- The folders in which links are, and the links that are in them.
+use Rattle.site_check.proofs.Prelude.{◌≡◌, ◌∙◌, ℕ, suc, zero, ◌+◌, ◌<◌, ◌≤◌, ◌&&◌, Bool, true, false, List, [], ◌∷◌, ◌++◌, Option, Some, None, length, drop, take, get_or, count_by, refl, subst, sym, ap, inl, inr, arith, append_assoc, cases_Bool, cond-false, cond-true, string_bytes, take-append-drop, bytes_eq-Decides, begins, Bor, flat_map, option_map, pointed, Counts, PageResult, SiteFiles, count_at, is_slash, often_first, path_count}
+use Rattle.std.proofs.Common.{◌-◌, ◌≢◌, MatchOption, take_all}
 use Rattle.std.proofs.lemmas.List.{append_cancel_right, drop_all, flat_map_more}
-use Rattle.std.proofs.lemmas.List.Sums.{sum_by-append, sum_by-cons}
 use Rattle.std.specs.Option.{option_and_then, option_or, option_to_list}
 use Rattle.std.specs.Str.Pattern.{FindsTextSuffix, StripsSuffix}
-use Rattle.check_report.specs.declared.value.BaseHint.{BaseHint}
 use Rattle.check_report.specs.declared.value.Broken.{Broken}
 use Rattle.crawl_sources.proofs.Counts.{length_pointed, pointed_more}
 use Rattle.site_check.proofs.Fronts.{begins_with}
 use Rattle.site_check.proofs.Outsides.{IsName, first_free, more_name}
 use Rattle.site_check.proofs.RootFolders.{cut_here}
-use Rattle.site_check.specs.Base.{Hint, hint_at, root_hint_of}
-use Rattle.site_check.specs.Totals.{is_page, place_count}
-use Rattle.site_files.specs.Server.{before_query}
-use Rattle.site_check.specs.LinkBase.{Cuts, all_count, are_few_below, below_count, is_few, other_url, other_urls, page_links, page_others, first_hint, folder_to, folder_with, folders_to, goes_below, has_file_at, hint_in, hint_of_urls, hint_on_host, hint_with_counts, host_hint, leads_to_file, link_hint, link_urls}
-
--- ---- counts
-
-count_next : (test : List ℕ → Bool) (xs : List (List ℕ)) (x : List ℕ) → count_by test (xs ++ x ∷ []) ≡ count_by test xs + one_if (test x)
-count_next test xs x =
-    let all : count_by test (xs ++ x ∷ []) ≡ count_by test xs + count_by test (x ∷ []) = sum_by-append (λ u. one_if (test u)) xs (x ∷ []) in
-    let one : count_by test (x ∷ []) ≡ one_if (test x) + 0 = sum_by-cons (λ u. one_if (test u)) x [] in
-    omega (arith, all, one)
-
--- one URL more, which is counted if it passes the test
-pub count_more : (test : List ℕ → Bool) (urls : List (Bor (List ℕ))) (i n k : ℕ) (url : Bor (List ℕ)) (is : Bool) → i < length urls → url ≡ get_or urls i url → k ≡ one_if is → is ≡ test url.now →
-    n ≡ count_by test (pointed (take i urls)) → n + k ≡ count_by test (pointed (take (i + 1) urls))
-count_more test urls i n k url is below at one tested so_far =
-    let next : count_by test (pointed (take (i + 1) urls)) ≡ count_by test (pointed (take i urls)) + one_if (test url.now) =
-    ap (count_by test) (pointed_more urls i url below at) ∙ count_next test (pointed (take i urls)) url.now in
-    let own : k ≡ one_if (test url.now) = one ∙ ap one_if tested in
-    omega (arith, next, own, so_far)
-
-pub count_end : (test : List ℕ → Bool) (urls : List (Bor (List ℕ))) (i n : ℕ) → length urls ≤ i → n ≡ count_by test (pointed (take i urls)) → n ≡ count_by test (pointed urls)
-count_end test urls i n past so_far = so_far ∙ ap (λ l. count_by test (pointed l)) (take_all i urls past)
-
-one_fits : (is : Bool) → one_if is ≤ 1
-one_fits true = omega arith
-one_fits false = omega arith
-
--- no more are counted than there are
-pub count_fits : (i n k : ℕ) (is : Bool) → k ≡ one_if is → n ≤ i → n + k ≤ i + 1
-count_fits i n k is one fits = omega (arith, one, fits, one_fits is)
-
--- a sum of numbers of 64 bits
-pub sum_fits : (n k i all : ℕ) → n ≤ i * 2 ^ 64 → k < 2 ^ 64 → i < all → all < 2 ^ 64 → n + k < 2 ^ 128
-sum_fits n k i all so_far one within few = omega (arith, so_far, one, within, few)
-
-pub sum_next : (n k i : ℕ) → n ≤ i * 2 ^ 64 → k < 2 ^ 64 → n + k ≤ (i + 1) * 2 ^ 64
-sum_next n k i so_far one = omega (arith, so_far, one)
+use Rattle.site_check.specs.Base.{Hint}
+use Rattle.site_check.specs.LinkBase.{Cuts, first_hint, folder_to, folder_with, folders_to, goes_below, has_file_at, hint_below, hint_in, hint_of_paths, hint_of_urls, hint_with_counts, is_known, leads_to_file, link_hint}
+use Rattle.site_check.specs.PageLinks.{are_few_below, link_urls}
 
 -- ---- folders
 
@@ -122,7 +84,7 @@ pub leads_on : (files : SiteFiles) (folder url path : List ℕ) (n : ℕ) (has :
 leads_on files folder url path n has count split cut is =
     is ∙ ap (has_file_at files) (cut ∙ ap (λ k. drop k url) count) ∙ (λ i. sym (begins_with folder url (drop n url) split) i && has_file_at files (drop (length folder) url))
 
-not_begun : (front url : List ℕ) → ((rest : List ℕ) → url ≡ front ++ rest → ⊥) → begins front url ≡ false
+pub not_begun : (front url : List ℕ) → ((rest : List ℕ) → url ≡ front ++ rest → ⊥) → begins front url ≡ false
 not_begun front url lacks =
     let rest = drop (length front) url in
     elim (cases_Bool (begins front url)) [
@@ -163,39 +125,15 @@ pub first_folder : (urls folders : List (List ℕ)) (counts : Counts) (of n : �
     found ≡ often_first of (count_at counts) folders → found ≡ folder_with urls of n
 first_folder urls folders counts of n found listed are first = first ∙ (λ i. often_first of (λ other. are other i) folders) ∙ ap (λ l. often_first of (path_count l) l) listed
 
--- a URL with which the top begins has none
-pub hint_at_top : (files : SiteFiles) (urls : List (List ℕ)) (of : ℕ) (folder top : List ℕ) → top ≡ string_bytes files.site.top → begins folder top ≡ true → None ≡ hint_in files urls of folder
-hint_at_top files urls of folder top is same = sym (cond-true (begins folder (string_bytes files.site.top)) _ _ (ap (begins folder) (sym is) ∙ same))
+-- a folder of the site has none
+pub hint_at_known : (files : SiteFiles) (urls : List (List ℕ)) (of : ℕ) (folder : List ℕ) (known : Bool) → known ≡ is_known files folder → known ≡ true → None ≡ hint_in files urls of folder
+hint_at_known files urls of folder known is has = sym (cond-true (is_known files folder) _ _ (sym is ∙ has))
 
--- another URL has the one with its counts
-pub hint_elsewhere : (files : SiteFiles) (urls : List (List ℕ)) (of : ℕ) (folder top : List ℕ) (paths longer found : ℕ) (hint : Option Hint) → top ≡ string_bytes files.site.top → begins folder top ≡ false →
+-- another folder has the one with its counts
+pub hint_elsewhere : (files : SiteFiles) (urls : List (List ℕ)) (of : ℕ) (folder : List ℕ) (known : Bool) (paths longer found : ℕ) (hint : Option Hint) → known ≡ is_known files folder → known ≡ false →
     paths ≡ count_by (begins folder) urls → longer ≡ count_by (goes_below folder) urls → found ≡ count_by (leads_to_file files folder) urls → hint ≡ hint_with_counts of folder paths longer found → hint ≡ hint_in files urls of folder
-hint_elsewhere files urls of folder top paths longer found hint is differ counted below lead own =
-    own ∙ (λ i. hint_with_counts of folder (counted i) (below i) (lead i)) ∙ sym (cond-false (begins folder (string_bytes files.site.top)) _ _ (ap (begins folder) (sym is) ∙ differ))
-
--- ---- the links to other URLs
-
-one_other : (url : List ℕ) (is : Bool) → one_if is + length (cond is [] (before_query url ∷ [])) ≡ 1
-one_other url true = refl
-one_other url false = refl
-
--- each link begins with the top or is one to another URL
-each_link : (top : List ℕ) (links : List (List ℕ)) → count_by (begins top) links + length (flat_map (other_url top) links) ≡ length links
-each_link top [] = refl
-each_link top (url ∷ links) =
-    omega (arith, each_link top links, one_other url (begins top url), sum_by-cons (λ u. one_if (begins top u)) url links, length-append (other_url top url) (flat_map (other_url top) links))
-
-all_links : (top : List ℕ) (results : List PageResult) → below_count top results + length (other_urls top results) ≡ all_count results
-all_links top [] = refl
-all_links top (r ∷ results) =
-    omega (arith, all_links top results, each_link top (page_links r), sum_by-cons (λ one. count_by (begins top) (page_links one)) r results, sum_by-cons (λ one. length (page_links one)) r results, length-append (page_others top r) (other_urls top results))
-
-pub few_below : (top : List ℕ) (results : List PageResult) (rows : List Broken) (others all below missing found : ℕ) (few : Bool) → all ≡ all_count results → below ≡ all - others → missing ≡ place_count is_page rows →
-    found ≡ below - missing → few ≡ is_few found all → others ≡ length (other_urls top results) → few ≡ are_few_below top results rows
-few_below top results rows others all below missing found few counted left lost kept is own =
-    let each : below_count top results + length (other_urls top results) ≡ all_count results = all_links top results in
-    let same : found ≡ below_count top results - place_count is_page rows = omega (arith, each, counted, left, lost, kept, own) in
-    is ∙ (λ i. is_few (same i) (counted i))
+hint_elsewhere files urls of folder known paths longer found hint is lacks counted below lead own =
+    own ∙ (λ i. hint_with_counts of folder (counted i) (below i) (lead i)) ∙ sym (cond-false (is_known files folder) _ _ (sym is ∙ lacks))
 
 -- fewer than half of the links begin with the top, or at least half
 pub hint_of_few : (files : SiteFiles) (all : List (Bor (List ℕ))) (results : List PageResult) (rows : List Broken) (hint : Option Hint) → are_few_below (string_bytes files.site.top) results rows ≡ true → pointed all ≡ link_urls results →
@@ -210,21 +148,14 @@ pub hint_counts : (files : SiteFiles) (urls : List (Bor (List ℕ))) (hint : Opt
 unfolding hint_of_urls
 hint_counts files urls hint own = own ∙ ap (λ n. first_hint files (pointed urls) n (3 ∷ 4 ∷ 5 ∷ 6 ∷ 7 ∷ 8 ∷ [])) (sym (length_pointed urls))
 
--- ---- a folder on the host
-
-pub host_there : (files : SiteFiles) (results : List PageResult) (rows : List Broken) (found : Option BaseHint) (hint : BaseHint) → found ≡ Some hint → option_map hint_at found ≡ root_hint_of true files rows →
-    hint_on_host files results (string_bytes hint.folder) ≡ host_hint files results rows
-host_there files results rows found hint is own =
-    ap (option_and_then (λ (other : Hint). hint_on_host files results other.folder)) (ap (option_map hint_at) (sym is) ∙ own)
-
-pub host_lacks : (files : SiteFiles) (results : List PageResult) (rows : List Broken) (found : Option BaseHint) → found ≡ None → option_map hint_at found ≡ root_hint_of true files rows → None ≡ host_hint files results rows
-host_lacks files results rows found is own =
-    ap (option_and_then (λ (other : Hint). hint_on_host files results other.folder)) (ap (option_map hint_at) (sym is) ∙ own)
+pub path_counts : (files : SiteFiles) (paths : List (Bor (List ℕ))) (hint : Option Hint) → hint ≡ first_hint files (pointed paths) (length paths) (1 ∷ 2 ∷ 3 ∷ 4 ∷ 5 ∷ 6 ∷ []) → hint ≡ hint_of_paths files (pointed paths)
+unfolding hint_of_paths
+path_counts files paths hint own = own ∙ ap (λ n. first_hint files (pointed paths) n (1 ∷ 2 ∷ 3 ∷ 4 ∷ 5 ∷ 6 ∷ [])) (sym (length_pointed paths))
 
 -- the links are all of them
-pub host_counts : (files : SiteFiles) (all : List (Bor (List ℕ))) (results : List PageResult) (folder url : List ℕ) (hint : Option Hint) → pointed all ≡ link_urls results → url ≡ string_bytes files.site.origin ++ folder →
-    hint ≡ hint_in files (pointed all) (length all) url → hint ≡ hint_on_host files results folder
-host_counts files all results folder url hint are is own =
+pub counts_below : (files : SiteFiles) (all : List (Bor (List ℕ))) (results : List PageResult) (folder url : List ℕ) (hint : Option Hint) → pointed all ≡ link_urls results → url ≡ string_bytes files.site.top ++ folder →
+    hint ≡ hint_in files (pointed all) (length all) url → hint ≡ hint_below files results folder
+counts_below files all results folder url hint are is own =
     own
     ∙ ap (λ n. hint_in files (pointed all) n url) (sym (length_pointed all))
     ∙ ap (λ urls. hint_in files urls (length urls) url) are

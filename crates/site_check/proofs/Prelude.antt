@@ -3,7 +3,7 @@ pub use Rattle.crawl_pages.specs.declared.page.Page.{Page}
 pub use Rattle.crawl_pages.specs.declared.page.PageResult.{PageResult}
 pub use Rattle.crawl_sources.specs.Tallies.{Count, IsTally, count_of, pointed}
 pub use Rattle.site_check.specs.Aliases.{is_alias, is_alias_page, is_document, is_document_page, is_file_page, is_in, is_own_page}
-pub use Rattle.site_check.specs.Base.{Counts, begins_name, count_at, first_in, has_folder, hint_among, hint_at, hint_for, hint_with, is_in_folder, is_often, is_special, named_folder, often_first, one_if, path_count, place_folder, root_folder, row_folders, to_slash}
+pub use Rattle.site_check.specs.Base.{Counts, count_at, first_in, has_folder, hint_at, is_in_folder, is_often, often_first, one_if, path_count, place_path, row_paths}
 pub use Rattle.site_check.specs.Broken.{Linked, after_byte, any_end, begins, broken_of, file_in, file_mark, fits, is_ignored, is_last, is_place_ignored, is_star, is_unfound, linked, linked_at, matches, matches_place, matches_target, names_file, redirects_of, result_at, rows_at, rows_with, shown, target_in, ways_at, ways_with}
 pub use Rattle.site_check.specs.Hints.{folder_in, hint_of, hints_at, hints_in, hints_of, hints_of_page}
 pub use Rattle.site_check.specs.Ignored.{anchors_in, entries_in, entry_in, is_used, matches_row, missing_texts, not_ignored, text_at, unused}

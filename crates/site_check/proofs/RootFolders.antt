@@ -1,88 +1,13 @@
--- The first folder of a path, and how many paths have it.
-use Rattle.site_check.proofs.Prelude.{common_steps, ◌≡◌, ◌∙◌, ℕ, zero, suc, ◌+◌, ◌<◌, ◌^◌, ◌≤◌, ◌&&◌, Bool, true, false, not, ◌||◌, cond, List, [], ◌∷◌, ◌++◌, Option, Some, None, length, length-map, filter, drop, get_or, slice_get, refl, subst, sym, ap, inl, inr, arith, cases_Bool, cond-true, cond-false, bytes_eq, bytes_eq-Decides, count_by-le-length, list_any, option_map, Bor, pointed, Counts, PageFile, SiteFiles, begins_name, count_at, first_in, hint_among, hint_for, hint_with, is_often, is_slash, is_special, named_folder, often_first, one_if, path_count, root_folder, to_slash}
-use Rattle.std.proofs.Common.{◌==◌, add-one, codes, drop-cons, eqb-true, true≢false}
-use Rattle.std.proofs.lemmas.Bool.{and_parts, not-true}
+-- How often texts are among others, the first that is often there, and the pages in a folder.
+use Rattle.site_check.proofs.Prelude.{cond, ◌≡◌, ◌∙◌, ℕ, zero, suc, ◌+◌, ◌<◌, ◌^◌, ◌≤◌, Bool, true, false, ◌||◌, List, [], ◌∷◌, Option, Some, None, length, length-map, filter, drop, get_or, slice_get, refl, subst, sym, ap, inl, inr, arith, common_steps, cases_Bool, cond-true, cond-false, bytes_eq, bytes_eq-Decides, count_by-le-length, list_any, Bor, pointed, Counts, PageFile, count_at, first_in, is_often, often_first, one_if, path_count}
+use Rattle.std.proofs.Common.{add-one, drop-cons}
 use Rattle.std.proofs.lemmas.List.{drop_all}
 use Rattle.std.proofs.lemmas.List.Sums.{sum_by-cons}
-use Rattle.std.specs.Option.{option_and_then, unwrap_or}
+use Rattle.std.specs.Option.{unwrap_or}
 use Rattle.std.specs.BTreeMap as tree
 use Rattle.hash_order.specs.HashOrder.{by_hash}
 use Rattle.site_check.proofs.LeadsFound.{put_at}
 use Rattle.site_check.proofs.Namesakes.{some_at}
-use Rattle.site_check.proofs.Outsides.{IsName, first_free, more_name}
-
--- ---- the folder
-
-no_folder : (path : List ℕ) → IsName path → to_slash path ≡ None
-no_folder [] free = refl
-no_folder (b ∷ path) free =
-    cond-false (is_slash b) _ _ (first_free b path free)
-    ∙ elim (cases_Bool (is_special b)) [
-      | inl ends ↦ cond-true (is_special b) _ _ ends
-      | inr more ↦ cond-false (is_special b) _ _ more ∙ ap (option_map (λ name. b ∷ name)) (no_folder path (more_name b path free))
-    ]
-
--- the bytes before a slash are the folder, unless one of them ends the path
-longer : (is : Bool) (b : ℕ) (folder : List ℕ) → option_map (λ name. b ∷ name) (cond is None (Some folder)) ≡ cond is None (Some (b ∷ folder))
-longer true b folder = refl
-longer false b folder = refl
-
-cut_folder : (folder more : List ℕ) → IsName folder → to_slash (folder ++ 47 ∷ more) ≡ cond (list_any is_special folder) None (Some folder)
-cut_folder [] more free = refl
-cut_folder (b ∷ folder) more free =
-    cond-false (is_slash b) _ _ (first_free b folder free)
-    ∙ elim (cases_Bool (is_special b)) [
-      | inl ends ↦ cond-true (is_special b) _ _ ends ∙ sym (cond-true (list_any is_special (b ∷ folder)) _ _ (λ i. ends i || list_any is_special folder))
-      | inr goes_on ↦
-          cond-false (is_special b) _ _ goes_on ∙ ap (option_map (λ name. b ∷ name)) (cut_folder folder more (more_name b folder free))
-          ∙ longer (list_any is_special folder) b folder ∙ ap (λ is. cond is None (Some (b ∷ folder))) (sym (λ i. goes_on i || list_any is_special folder))
-    ]
-
-abbrev pub is_folder : List ℕ → Bool
-is_folder name = begins_name name && not (list_any is_special name)
-
-named : (folder : List ℕ) → is_folder folder ≡ true → Some folder ≡ named_folder (cond (list_any is_special folder) None (Some folder))
-named [] is = absurd (true≢false (sym is))
-named (b ∷ folder) is =
-    let special = list_any is_special (b ∷ folder) in
-    let parts = and_parts (not (b == 46)) (not special) is in
-    sym (ap named_folder (cond-false special None (Some (b ∷ folder)) (not-true special parts.1)) ∙ cond-false (b == 46) None (Some (b ∷ folder)) (not-true (b == 46) parts.0))
-
-begins_with_dot : (dot special : Bool) → (not dot && not special) ≡ false → special ≡ false → dot ≡ true
-begins_with_dot true special is plain = refl
-begins_with_dot false special is plain = absurd (true≢false (sym (ap not plain) ∙ is))
-
-unnamed : (folder : List ℕ) → is_folder folder ≡ false → None ≡ named_folder (cond (list_any is_special folder) None (Some folder))
-unnamed [] is = refl
-unnamed (b ∷ folder) is =
-    let special = list_any is_special (b ∷ folder) in
-    elim (cases_Bool special) [
-      | inl other ↦ sym (ap named_folder (cond-true special None (Some (b ∷ folder)) other))
-      | inr plain ↦
-          sym (ap named_folder (cond-false special None (Some (b ∷ folder)) plain) ∙ cond-true (b == 46) None (Some (b ∷ folder)) (begins_with_dot (b == 46) special is plain))
-    ]
-
-pub folder_there : (path folder more : List ℕ) → path ≡ folder ++ 47 ∷ more → IsName folder → is_folder folder ≡ true → Some folder ≡ named_folder (to_slash path)
-folder_there path folder more is free own = named folder own ∙ sym (ap (λ p. named_folder (to_slash p)) is ∙ ap named_folder (cut_folder folder more free))
-
-pub folder_lacks : (path folder more : List ℕ) → path ≡ folder ++ 47 ∷ more → IsName folder → is_folder folder ≡ false → None ≡ named_folder (to_slash path)
-folder_lacks path folder more is free own = unnamed folder own ∙ sym (ap (λ p. named_folder (to_slash p)) is ∙ ap named_folder (cut_folder folder more free))
-
-pub no_slash_there : (path : List ℕ) → IsName path → None ≡ named_folder (to_slash path)
-no_slash_there path free = sym (ap named_folder (no_folder path free))
-
--- ---- a path from the root
-
-pub root_there : (written path : List ℕ) (n : ℕ) → written ≡ codes "/" ++ drop n written → path ≡ drop n written → named_folder (to_slash path) ≡ root_folder written
-root_there written path n split cut = ap (λ p. named_folder (to_slash p)) cut ∙ sym (ap root_folder split)
-
-pub root_lacks : (written : List ℕ) → ((rest : List ℕ) → written ≡ codes "/" ++ rest → ⊥) → None ≡ root_folder written
-root_lacks [] lacks = refl
-root_lacks (b ∷ written) lacks =
-    elim (cases_Bool (is_slash b)) [
-      | inl is ↦ absurd (lacks written (ap (λ first. first ∷ written) (eqb-true b 47 is)))
-      | inr other ↦ sym (cond-false (is_slash b) _ _ other)
-    ]
 
 -- ---- the counts
 
@@ -195,14 +120,3 @@ page_passed test pages n is all within tested passed so_far =
 
 pub pages_end : (test : PageFile → Bool) (pages : List PageFile) (n : ℕ) (all : Bool) → length pages ≤ n → list_any test (drop n pages) ≡ all → false ≡ all
 pages_end test pages n all past so_far = sym (ap (list_any test) (drop_all n pages past)) ∙ so_far
-
--- ---- the hint
-
-pub hint_chosen : (files : SiteFiles) (counts : Counts) (all : List (List ℕ)) (of paths : ℕ) (folder : List ℕ) → of ≡ length all → ((other : List ℕ) → count_at counts other ≡ path_count all other) →
-    paths ≡ count_at counts folder → Some folder ≡ often_first of (count_at counts) all → hint_with files folder paths of ≡ hint_among files all
-hint_chosen files counts all of paths folder whole are own first =
-    (λ i. hint_with files folder ((own ∙ are folder) i) (whole i)) ∙ ap (option_and_then (hint_for files all)) (first ∙ (λ i. often_first (whole i) (λ other. are other i) all))
-
-pub hint_lacks : (files : SiteFiles) (counts : Counts) (all : List (List ℕ)) (of : ℕ) → of ≡ length all → ((other : List ℕ) → count_at counts other ≡ path_count all other) →
-    None ≡ often_first of (count_at counts) all → None ≡ hint_among files all
-hint_lacks files counts all of whole are first = ap (option_and_then (hint_for files all)) (first ∙ (λ i. often_first (whole i) (λ other. are other i) all))

@@ -12,21 +12,28 @@ use Rattle.site_check.specs.Broken.{is_ignored, shown}
 use Rattle.site_check.specs.Names.{after_slashes, is_slash}
 use Rattle.site_files.specs.Files.{name_at}
 use Rattle.site_files.specs.Hints.{hint_at}
+use Rattle.site_files.specs.Pages.{path_in, query_in}
 use Rattle.site_files.specs.declared.files.SiteFiles.{SiteFiles}
 use Rattle.site_files.specs.declared.hint.Hint.{Hint}
 use Rattle.site_files.specs.declared.hint.Hint.TheVariants.{HtmlFallback, IndexFile, LeadsNowhere, LeadsOut, NoIndexFile}
 
 -- ---- the texts
 
--- the folder of a file's name, without the slash
+-- the folder of a file's path, without the slash
 abbrev pub folder_in : List ℕ → List ℕ
-folder_in name = if list_any is_slash name then take (length name - length (after_slashes name) - 1) name else codes "."
+folder_in path = if list_any is_slash path then take (length path - length (after_slashes path) - 1) path else codes "."
 
 abbrev pub fallback_text : List ℕ → List ℕ
 fallback_text name = name ++ codes " exists: --fallback html"
 
-abbrev pub index_text : List ℕ → List ℕ
-index_text name = folder_in name ++ codes "/ has " ++ after_slashes name ++ codes ": --index-file " ++ after_slashes name
+-- a query after its question mark
+abbrev pub marked : Option (List ℕ) → List ℕ
+marked None = []
+marked (Some query) = 63 ∷ query
+
+-- the file has its query, and the option only the last name of the path
+abbrev pub index_text : List ℕ → Option (List ℕ) → List ℕ
+index_text path query = folder_in path ++ codes "/ has " ++ after_slashes path ++ marked query ++ codes ": --index-file " ++ after_slashes path
 
 -- the name of the file with this index
 abbrev pub name_in : SiteFiles → ℕ → List ℕ
@@ -34,7 +41,8 @@ name_in files index = unwrap_or (name_at files index) []
 
 abbrev pub hint_text : SiteFiles → Hint → List ℕ
 hint_text files (HtmlFallback index) = fallback_text (name_in files index)
-hint_text files (IndexFile index) = index_text (name_in files index)
+hint_text files (IndexFile index) =
+    index_text (path_in files.rules.now.queries (name_in files index)) (query_in files.rules.now.queries (name_in files index))
 hint_text files LeadsOut = codes "a symbolic link out of the folder: --follow"
 hint_text files LeadsNowhere = codes "a symbolic link to nothing"
 hint_text files NoIndexFile = codes "the folder has no index file"

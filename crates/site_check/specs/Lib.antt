@@ -18,6 +18,8 @@ pub mod Located
 pub mod Locations
 pub mod Maps
 pub mod Names
+pub mod OwnFronts
+pub mod PageLinks
 pub mod Reported
 pub mod RowMeanings
 pub mod Totals

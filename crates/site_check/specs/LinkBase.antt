@@ -1,55 +1,20 @@
--- The hint at another URL of the folder: most links, or most of those to other URLs, begin with it, and the folder has the files to which
--- they would lead.
-use Rattle.std.specs.Prelude.{◌≡◌, ◌==◌, ◌-◌, ◌++◌, ◌∷◌, ℕ, zero, suc, Bool, true, false, ◌&&◌, if◌then◌else◌, List, [], length, drop, map, count_by, sum_by, nat_le, nat_lt, Option, None, Some, is_some, option_and_then, option_map, string_bytes}
+-- The hint at another URL of the folder, or at a missing BASE: most links, or most paths from the root that lead to missing pages, begin
+-- with it, and the folder has the files to which they would lead.
+use Rattle.std.specs.Prelude.{◌≡◌, ◌==◌, ◌-◌, ◌++◌, ◌∷◌, ℕ, zero, suc, Bool, false, ◌&&◌, ◌||◌, if◌then◌else◌, List, [], length, drop, count_by, nat_le, nat_lt, Option, None, Some, is_some, option_and_then, option_map, string_bytes}
 use Rattle.std.specs.List.{flat_map}
 use Rattle.std.specs.Option.{option_or, option_to_list}
 use Rattle.check_report.specs.declared.value.Broken.{Broken}
-use Rattle.crawl_pages.specs.Pages.{is_found, links_of}
 use Rattle.crawl_pages.specs.declared.page.PageResult.{PageResult}
-use Rattle.site_check.specs.Base.{Hint, often_first, path_count, root_hint_of}
+use Rattle.site_check.specs.Base.{Hint, has_folder, often_first, path_count, root_paths}
 use Rattle.site_check.specs.Broken.{begins}
 use Rattle.site_check.specs.Names.{is_slash}
-use Rattle.site_check.specs.Totals.{is_page, place_count}
+use Rattle.site_check.specs.OwnFronts.{front_hint, own_hint}
+use Rattle.site_check.specs.PageLinks.{are_few_below, foreign_urls, link_urls}
 use Rattle.site_files.specs.Entries.{entry_at}
 use Rattle.site_files.specs.Pages.{found_file}
-use Rattle.site_files.specs.Server.{before_query}
 use Rattle.site_files.specs.declared.files.SiteFiles.{SiteFiles}
 
--- ---- the links
-
--- the links in a page, if it was found. An alias has one, to the own URL
-abbrev pub page_links : PageResult → List (List ℕ)
-page_links r = if is_found r.page then links_of r.page else []
-
-abbrev pub page_urls : PageResult → List (List ℕ)
-page_urls r = map before_query (page_links r)
-
--- the URLs of the links in found pages, without queries
-abbrev pub link_urls : List PageResult → List (List ℕ)
-link_urls results = flat_map page_urls results
-
--- how many there are
-abbrev pub all_count : List PageResult → ℕ
-all_count results = sum_by (λ r. length (page_links r)) results
-
--- how many of them begin with the top
-abbrev pub below_count : List ℕ → List PageResult → ℕ
-below_count top results = sum_by (λ r. count_by (begins top) (page_links r)) results
-
--- ---- the links to other URLs
-
--- a URL without its query, unless it begins with the top
-abbrev pub other_url : List ℕ → List ℕ → List (List ℕ)
-other_url top url = if begins top url then [] else before_query url ∷ []
-
-abbrev pub page_others : List ℕ → PageResult → List (List ℕ)
-page_others top r = flat_map (other_url top) (page_links r)
-
--- the URLs of the links in found pages that do not begin with the top, without queries
-abbrev pub other_urls : List ℕ → List PageResult → List (List ℕ)
-other_urls top results = flat_map (page_others top) results
-
--- ---- their folders
+-- ---- folders
 
 -- the text to the end of its slash with this number. There is none if it has fewer slashes
 abbrev pub folder_to : ℕ → List ℕ → Option (List ℕ)
@@ -87,18 +52,18 @@ leads_to_file files folder url = begins folder url && has_file_at files (drop (l
 abbrev pub are_enough : ℕ → ℕ → Bool
 are_enough part of = nat_le 2 of && nat_le (of - part) part
 
--- fewer than half of them
-abbrev pub is_few : ℕ → ℕ → Bool
-is_few part of = nat_lt part (of - part)
-
 abbrev pub hint_with_counts : ℕ → List ℕ → ℕ → ℕ → ℕ → Option Hint
 hint_with_counts of folder paths longer found = if are_enough found longer then Some (record { folder = folder; paths = paths; of = of }) else None
 
--- the top does not begin with the folder, and at least half of the links that go below the folder lead to files. Links to the folder
--- itself say nothing: many pages link to the first page of another site
+-- the site has the folder: the top begins with it, or a page after the top
+abbrev pub is_known : SiteFiles → List ℕ → Bool
+is_known files folder = begins folder (string_bytes files.site.top) || has_folder files folder
+
+-- the site does not have the folder, and at least half of the links that go below it lead to files. Links to the folder itself say
+-- nothing: many pages link to the first page of another site
 abbrev pub hint_in : SiteFiles → List (List ℕ) → ℕ → List ℕ → Option Hint
 hint_in files urls of folder =
-    if begins folder (string_bytes files.site.top)
+    if is_known files folder
     then None
     else hint_with_counts of folder (count_by (begins folder) urls) (count_by (goes_below folder) urls) (count_by (leads_to_file files folder) urls)
 
@@ -112,40 +77,56 @@ abbrev pub first_hint : SiteFiles → List (List ℕ) → ℕ → List ℕ → O
 first_hint files urls of [] = None
 first_hint files urls of (n ∷ more) = option_and_then (λ folder. option_or (hint_in files urls of folder) (first_hint files urls of more)) (folder_with urls of n)
 
--- fewer than half of the links begin with the top, after the number of locations of links to missing pages is taken off
-abbrev pub are_few_below : List ℕ → List PageResult → List Broken → Bool
-are_few_below top results rows = is_few (below_count top results - place_count is_page rows) (all_count results)
+-- ---- by links
 
 -- the third slash of a URL ends the host
 unfoldable pub hint_of_urls : SiteFiles → List (List ℕ) → Option Hint
 hint_of_urls files urls = first_hint files urls (length urls) (3 ∷ 4 ∷ 5 ∷ 6 ∷ 7 ∷ 8 ∷ [])
 
--- then there is a hint by all links
 abbrev pub link_hint : SiteFiles → List PageResult → List Broken → Option Hint
 link_hint files results rows = if are_few_below (string_bytes files.site.top) results rows then hint_of_urls files (link_urls results) else None
 
--- a hint with the numbers of all links that begin with its folder, and of all links
-abbrev pub among_all : List PageResult → Hint → Hint
-among_all results hint = record { folder = hint.folder; paths = count_by (begins hint.folder) (link_urls results); of = length (link_urls results) }
+-- by the links in pages without a link that begins with the top, with the numbers of all links
+abbrev pub foreign_hint : SiteFiles → List PageResult → Option Hint
+foreign_hint files results = option_map (λ (hint : Hint). front_hint results hint.folder) (hint_of_urls files (foreign_urls (string_bytes files.site.top) results))
 
--- a hint by the links to other URLs
-abbrev pub other_hint : SiteFiles → List PageResult → Option Hint
-other_hint files results = option_map (among_all results) (hint_of_urls files (other_urls (string_bytes files.site.top) results))
-
--- at the URL of a folder on the host
-abbrev pub hint_on_host : SiteFiles → List PageResult → List ℕ → Option Hint
-hint_on_host files results folder = hint_in files (link_urls results) (length (link_urls results)) (string_bytes files.site.origin ++ folder)
-
--- the folder is that of the paths from the root which lead to missing pages
-abbrev pub host_hint : SiteFiles → List PageResult → List Broken → Option Hint
-host_hint files results rows = option_and_then (λ (hint : Hint). hint_on_host files results hint.folder) (root_hint_of true files rows)
+abbrev pub elsewhere_hint : SiteFiles → List PageResult → Option Hint
+elsewhere_hint files results = option_or (own_hint files results) (foreign_hint files results)
 
 abbrev pub url_hint_of : SiteFiles → List PageResult → List Broken → Option Hint
-url_hint_of files results rows = option_or (link_hint files results rows) (other_hint files results)
+url_hint_of files results rows = option_or (link_hint files results rows) (elsewhere_hint files results)
 
+-- ---- by paths from the root
+
+-- with the files of the folder
+unfoldable pub hint_of_paths : SiteFiles → List (List ℕ) → Option Hint
+hint_of_paths files paths = first_hint files paths (length paths) (1 ∷ 2 ∷ 3 ∷ 4 ∷ 5 ∷ 6 ∷ [])
+
+-- without them, unless the site has the folder
+abbrev pub hint_without_files : SiteFiles → List (List ℕ) → List ℕ → Option Hint
+hint_without_files files paths folder = if is_known files folder then None else Some (record { folder = folder; paths = count_by (begins folder) paths; of = length paths })
+
+-- in the first folder of most paths
+abbrev pub hint_at_folder : SiteFiles → List (List ℕ) → Option Hint
+hint_at_folder files paths = option_and_then (hint_without_files files paths) (folder_with paths (length paths) 1)
+
+abbrev pub root_hint : SiteFiles → List (List ℕ) → Option Hint
+root_hint files paths = option_or (hint_of_paths files paths) (hint_at_folder files paths)
+
+-- written as a path from the root
+abbrev pub after_slash : Hint → Hint
+after_slash hint = record { folder = 47 ∷ hint.folder; paths = hint.paths; of = hint.of }
+
+-- the URL of this folder below the top, if enough links begin with it and lead to files
+abbrev pub hint_below : SiteFiles → List PageResult → List ℕ → Option Hint
+hint_below files results folder = hint_in files (link_urls results) (length (link_urls results)) (string_bytes files.site.top ++ folder)
+
+-- the folder, if its URL is not known, or its URL
 abbrev pub path_hint_of : Bool → SiteFiles → List PageResult → List Broken → Option Hint
-path_hint_of rooted files results rows = option_or (root_hint_of rooted files rows) (host_hint files results rows)
+path_hint_of rooted files results rows =
+    let found = root_hint files (root_paths (string_bytes files.site.top) rows) in
+    if rooted then option_map after_slash found else option_and_then (λ (hint : Hint). hint_below files results hint.folder) found
 
--- at a URL, by all links or by those to other URLs; or else at the folder of these paths, if its URL is not known, or at its URL
+-- by links, or else by paths from the root
 abbrev pub base_hint_of : Bool → SiteFiles → List PageResult → List Broken → Option Hint
 base_hint_of rooted files results rows = option_or (url_hint_of files results rows) (path_hint_of rooted files results rows)

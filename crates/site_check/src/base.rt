@@ -1,191 +1,90 @@
-//! The hint at a missing BASE, by the links to missing pages.
-ghost use Rattle.std.specs.Prelude.{◌≡◌, ◌<◌, ◌+◌, ◌^◌, ◌&&◌, ◌∷◌, ◌++◌, ℕ, List, [], IfOk, OnOk, Some, bytes_eq, not, option_map, slice_get, string_bytes};
-ghost use Rattle.std.specs.List.{flat_map, list_any};
+//! Paths from the root that lead to missing pages, folders of the site, and which text most of some are.
+ghost use Rattle.std.specs.Prelude.{◌≡◌, ◌<◌, ◌+◌, ◌^◌, ◌++◌, ℕ, List, IfOk, OnOk, Some, bytes_eq, option_map, slice_get, string_bytes};
+ghost use Rattle.std.specs.List.{flat_map};
 ghost use Rattle.crawl_sources.specs.Tallies.{pointed};
 ghost use Rattle.site_files.specs.Files.{PageFile, pages_of};
-ghost use Rattle.site_check.specs.Base.{begins_name, count_at, has_folder, hint_among, hint_at, hint_with, is_in_folder, is_mark, is_often, is_plain, is_special, named_folder, often_first, one_if, path_count, place_folder, root_folder, root_hint_of, row_folders, to_slash, written_folder};
+ghost use Rattle.site_check.specs.Base.{count_at, has_folder, is_in_folder, is_often, is_rooted, often_first, one_if, path_count, place_path, root_paths, row_paths, target_path};
 
-use crate::names::split_byte;
-use crate::shown::{is_below, shown};
+use crate::shown::{begins, shown};
 use crate::totals::is_page;
-use check_report::{BaseHint, Broken, Place};
+use check_report::{Broken, Place};
 use crawl_pages::NoMemory;
 use hash_order::HashedText;
-use site_files::SiteFiles;
+use site_files::{SiteFiles, before_query};
 use std::alloc::Global;
 use std::collections::BTreeMap;
 
-/// The folder that BASE would name, if the URL of the site is not known: many links to missing pages are written as paths from the root
-/// that begin with it, and the site does not have it.
-pub(crate) fn root_hint(
+/// The paths of the missing pages below the top, one for each location of a link that is written as a path from the root.
+pub(crate) fn root_paths<'a>(
     alloc: Global,
-    rooted: bool,
-    files: &SiteFiles<'_>,
-    rows: &[Broken],
-) -> Result<Option<BaseHint>, NoMemory>
-    ensures { IfOk result (λ hint. option_map hint_at hint ≡ root_hint_of rooted files.now rows.now) }
+    top: &str,
+    rows: &'a [Broken],
+) -> Result<Vec<&'a str>, NoMemory>
+    ensures { IfOk result (λ paths. pointed paths.items ≡ root_paths top.now rows.now) }
 {
-    if !rooted {
-        return Ok(None);
-    }
-    let folders = folders_of(alloc, rows)?;
-    hint_among(alloc, files, folders.as_slice())
-}
-
-/// The first folders of the links to missing pages that are written as a path from the root, in the order of the rows.
-fn folders_of(alloc: Global, rows: &[Broken]) -> Result<Vec<&str>, NoMemory>
-    ensures { IfOk result (λ folders. pointed folders.items ≡ flat_map row_folders rows.now) }
-{
-    let mut folders = Vec::new(alloc);
+    let mut paths = Vec::new(alloc);
     for row in rows {
-        push_row(row, &mut folders)?;
+        push_row(top, row, &mut paths)?;
     }
-    Ok(folders)
+    Ok(paths)
 }
 
-/// Appends the folders of the locations of a row, if it is that of a missing page.
-fn push_row<'a>(row: &'a Broken, folders: &mut Vec<&'a str>) -> Result<(), NoMemory>
-    ensures { OnOk result (pointed folders.new.items ≡ pointed folders.old.items ++ row_folders row.now) }
+/// Appends the paths of a row, if it is that of a missing page. The top itself has none.
+fn push_row<'a>(top: &str, row: &'a Broken, paths: &mut Vec<&'a str>) -> Result<(), NoMemory>
+    ensures { OnOk result (pointed paths.new.items ≡ pointed paths.old.items ++ row_paths top.now row.now) }
 {
-    if is_page(row.kind) {
-        push_places(row.places.as_slice(), folders)?;
+    let path = target_path(top, row);
+    if is_page(row.kind) && path != "./" {
+        push_places(path, row.places.as_slice(), paths)?;
     }
     Ok(())
 }
 
-/// Appends the folders of these locations.
-fn push_places<'a>(places: &'a [Place], folders: &mut Vec<&'a str>) -> Result<(), NoMemory>
-    ensures { OnOk result (pointed folders.new.items ≡ pointed folders.old.items ++ flat_map place_folder places.now) }
+/// The path of a target below the top, without its query.
+fn target_path<'a>(top: &str, row: &'a Broken) -> &'a str
+    ensures { result.now ≡ target_path top.now row.now }
+{
+    before_query(shown(top, row.target.as_str()))
+}
+
+/// Appends a path for each of these locations whose link is written as a path from the root.
+fn push_places<'a>(
+    path: &'a str,
+    places: &[Place],
+    paths: &mut Vec<&'a str>,
+) -> Result<(), NoMemory>
+    ensures { OnOk result (pointed paths.new.items ≡ pointed paths.old.items ++ flat_map (place_path path.now) places.now) }
 {
     for place in places {
-        push_place(place, folders)?;
+        push_place(path, place, paths)?;
     }
     Ok(())
 }
 
-/// Appends the folder of a location, if its link is a path from the root.
-fn push_place<'a>(place: &'a Place, folders: &mut Vec<&'a str>) -> Result<(), NoMemory>
-    ensures { OnOk result (pointed folders.new.items ≡ pointed folders.old.items ++ place_folder place.now) }
+/// Appends the path, if the link at the location is written as a path from the root.
+fn push_place<'a>(path: &'a str, place: &Place, paths: &mut Vec<&'a str>) -> Result<(), NoMemory>
+    ensures { OnOk result (pointed paths.new.items ≡ pointed paths.old.items ++ place_path path.now place.now) }
 {
-    match written_folder(&place.written) {
-        Some(folder) => {
-            folders.push(folder)?;
-            Ok(())
-        }
-        None => Ok(()),
+    if is_rooted(&place.written) {
+        paths.push(path)?;
     }
+    Ok(())
 }
 
-/// The first folder of a link, if it is written as a path from the root.
-fn written_folder(written: &Option<String>) -> Option<&str>
-    ensures { option_map (λ folder. folder.now) result ≡ written_folder (option_map string_bytes written.now) }
+/// Whether a link is written as a path from the root: it begins with one slash.
+fn is_rooted(written: &Option<String>) -> bool
+    ensures { result ≡ is_rooted (option_map string_bytes written.now) }
 {
     match written {
-        Some(written) => root_folder(written.as_str()),
-        None => None,
-    }
-}
-
-/// The folder between the first two slashes of a text that begins with one. `None` if it is not a plain name.
-#[tactic(auto, using(crate::proofs::RootFolders::root_there, crate::proofs::RootFolders::root_lacks))]
-fn root_folder(written: &str) -> Option<&str>
-    ensures { option_map (λ folder. folder.now) result ≡ root_folder written.now }
-{
-    match written.strip_prefix("/") {
-        Some(path) => first_folder(path),
-        None => None,
-    }
-}
-
-/// The folder before the first slash of a path, if it is a plain name.
-fn first_folder(path: &str) -> Option<&str>
-    ensures { option_map (λ folder. folder.now) result ≡ named_folder (to_slash path.now) }
-{
-    match path.split_once('/') {
-        Some((folder, more)) => if is_folder(folder) {
-            Some(folder)
-        } else {
-            None
-        },
-        None => None,
-    }
-}
-
-/// Whether a name is plain: it is not empty, does not begin with a dot, and has only bytes that its URL has as well.
-fn is_folder(name: &str) -> bool
-    ensures { result ≡ (begins_name name.now && not (list_any is_special name.now)) }
-{
-    begins_name(name.as_bytes()) && !has_special(name.as_bytes())
-}
-
-/// Whether a name begins with another byte than a dot.
-fn begins_name(name: &[u8]) -> bool
-    ensures { result ≡ begins_name name.now }
-{
-    match split_byte(name) {
-        Some((first, _)) => first != b'.',
+        Some(written) => begins("/", written.as_str()) && !begins("//", written.as_str()),
         None => false,
     }
 }
 
-/// Whether one of these bytes is special.
-fn has_special(name: &[u8]) -> bool
-    ensures { result ≡ list_any is_special name.now }
-{
-    for byte in name {
-        if is_special(*byte) {
-            return true;
-        }
-    }
-    false
-}
-
-/// Whether a byte is special: it ends the path of a URL, or the URL of a folder may have it in another form.
-fn is_special(byte: u8) -> bool
-    ensures { result ≡ is_special byte }
-{
-    !is_plain(byte)
-}
-
-/// Whether a URL and the name of a folder have this byte as it is.
-#[tactic(auto, unfolding(crate::specs::Base::is_plain))]
-fn is_plain(byte: u8) -> bool
-    ensures { result ≡ is_plain byte }
-{
-    byte.is_ascii_alphanumeric() || is_mark(byte)
-}
-
-/// Whether a byte is `-`, `.`, `_` or `~`.
-fn is_mark(byte: u8) -> bool
-    ensures { result ≡ is_mark byte }
-{
-    byte == b'-' || byte == b'.' || byte == b'_' || byte == b'~'
-}
-
-/// The numbers of paths by their first folders.
+/// The numbers of equal texts.
 pub(crate) type PathCounts<'a> = BTreeMap<HashedText<'a>, u64>;
 
-/// The hint, if at least half and at least two of the paths have the same first folder, and the site does not have that.
-#[tactic(auto, using(crate::proofs::RootFolders::hint_lacks))]
-fn hint_among(
-    alloc: Global,
-    files: &SiteFiles<'_>,
-    folders: &[&str],
-) -> Result<Option<BaseHint>, NoMemory>
-    ensures { IfOk result (λ hint. option_map hint_at hint ≡ hint_among files.now (pointed folders.now)) }
-{
-    let counts = path_counts(alloc, folders)?;
-    let of = folders.len() as u64;
-    match often_first(of, &counts, folders) {
-        Some(folder) => {
-            let paths = count_at(&counts, folder);
-            hint_with(alloc, files, folder, paths, of)
-        }
-        None => Ok(None),
-    }
-}
-
-/// Counts how many of the paths have each folder.
+/// Counts how many of the texts are each.
 #[tactic(auto, using(crate::proofs::RootFolders::counts_more, crate::proofs::RootFolders::counts_end))]
 pub(crate) fn path_counts<'a>(
     alloc: Global,
@@ -200,7 +99,7 @@ pub(crate) fn path_counts<'a>(
     Ok(counts)
 }
 
-/// Counts a path with this first folder.
+/// Counts a text.
 pub(crate) fn count_path<'a>(folder: &'a str, counts: &mut PathCounts<'a>) -> Result<(), NoMemory>
     ensures { OnOk result (count_at counts.old folder.now + 1 < 2 ^ 64 → (other : List ℕ) → count_at counts.new other ≡ one_if (bytes_eq folder.now other) + count_at counts.old other) }
 {
@@ -209,14 +108,14 @@ pub(crate) fn count_path<'a>(folder: &'a str, counts: &mut PathCounts<'a>) -> Re
     Ok(())
 }
 
-/// The number of paths with this first folder so far.
+/// How often this text was counted.
 pub(crate) fn count_at<'a>(counts: &PathCounts<'a>, folder: &'a str) -> u64
     ensures { result ≡ count_at counts.now folder.now }
 {
     counts.get(&HashedText::from(folder)).copied().unwrap_or(0)
 }
 
-/// The first folder that at least half and at least two of the paths have.
+/// The first text that is at least half of all, and at least two of them.
 #[tactic(auto, using(crate::proofs::RootFolders::often_here, crate::proofs::RootFolders::often_skip, crate::proofs::RootFolders::often_none))]
 pub(crate) fn often_first<'a>(
     of: u64,
@@ -233,7 +132,7 @@ pub(crate) fn often_first<'a>(
     None
 }
 
-/// Whether at least half and at least two of all paths have this first folder.
+/// Whether at least half of all, and at least two, are this text.
 fn is_often_first<'a>(of: u64, counts: &PathCounts<'a>, folder: &'a str) -> bool
     ensures { result ≡ is_often of (count_at counts.now folder.now) }
 {
@@ -247,36 +146,9 @@ fn is_often(of: u64, count: u64) -> bool
     2 <= count && of.saturating_sub(count) <= count
 }
 
-/// The hint at this folder with its numbers of paths, unless the site has the folder.
-fn hint_with(
-    alloc: Global,
-    files: &SiteFiles<'_>,
-    folder: &str,
-    paths: u64,
-    of: u64,
-) -> Result<Option<BaseHint>, NoMemory>
-    ensures { IfOk result (λ hint. option_map hint_at hint ≡ hint_with files.now folder.now paths of) }
-{
-    if has_folder(files, folder) {
-        return Ok(None);
-    }
-    let folder = between_slashes(alloc, folder)?;
-    Ok(Some(BaseHint { folder, paths, of }))
-}
-
-/// The name of a folder between slashes.
-fn between_slashes(alloc: Global, folder: &str) -> Result<String, NoMemory>
-    ensures { IfOk result (λ text. string_bytes text ≡ 47 ∷ folder.now ++ 47 ∷ []) }
-{
-    let mut text = String::from_str(alloc, "/")?;
-    text.push_str(folder)?;
-    text.push('/')?;
-    Ok(text)
-}
-
-/// Whether a page of the site is in the folder.
+/// Whether a page of the site is in the folder, which ends with a slash.
 #[tactic(auto, using(crate::proofs::RootFolders::page_found, crate::proofs::RootFolders::page_passed, crate::proofs::RootFolders::pages_end))]
-fn has_folder(files: &SiteFiles<'_>, folder: &str) -> bool
+pub(crate) fn has_folder(files: &SiteFiles<'_>, folder: &str) -> bool
     ensures { result ≡ has_folder files.now folder.now }
 {
     for number in 0..files.page_count() {
@@ -292,7 +164,7 @@ fn is_in_folder(files: &SiteFiles<'_>, folder: &str, number: usize) -> bool
     ensures { (page : PageFile) → slice_get (pages_of files.now) number ≡ Some page → result ≡ is_in_folder files.now folder.now page }
 {
     match files.page(number) {
-        Some((url, _)) => is_below(folder, shown(files.top(), url)),
+        Some((url, _)) => begins(folder, shown(files.top(), url)),
         None => false,
     }
 }

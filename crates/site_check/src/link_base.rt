@@ -1,20 +1,18 @@
-//! The hint at another URL of the folder, with which most links, or most of those to other URLs, begin.
-ghost use Rattle.std.specs.Prelude.{◌++◌, ◌≡◌, IfOk, List, OnOk, count_by, length, map, option_map, string_bytes, ℕ};
-ghost use Rattle.std.specs.List.{flat_map};
-ghost use Rattle.std.specs.Option.{option_or, option_to_list};
+//! The hint at another URL of the folder, or at a missing BASE.
+ghost use Rattle.std.specs.Prelude.{◌++◌, ◌∷◌, ◌≡◌, IfOk, List, OnOk, Some, count_by, if◌then◌else◌, option_map, string_bytes, ℕ};
+ghost use Rattle.std.specs.Option.{option_to_list};
 ghost use Rattle.crawl_sources.specs.Tallies.{pointed};
-ghost use Rattle.site_files.specs.Server.{before_query};
 ghost use Rattle.site_check.specs.Base.{hint_at};
-ghost use Rattle.site_check.specs.Broken.{begins};
-ghost use Rattle.site_check.specs.LinkBase.{Cuts, all_count, among_all, are_enough, are_few_below, base_hint_of, first_hint, folder_to, folder_with, folders_to, goes_below, has_file_at, hint_in, hint_of_urls, hint_on_host, hint_with_counts, host_hint, is_few, leads_to_file, link_hint, link_urls, other_hint, other_url, other_urls, page_links, path_hint_of, url_hint_of};
+ghost use Rattle.site_check.specs.LinkBase.{Cuts, after_slash, are_enough, base_hint_of, elsewhere_hint, first_hint, folder_to, folder_with, folders_to, foreign_hint, goes_below, has_file_at, hint_at_folder, hint_below, hint_in, hint_of_paths, hint_of_urls, hint_with_counts, hint_without_files, is_known, leads_to_file, link_hint, path_hint_of, root_hint, url_hint_of};
 
-use crate::base::{often_first, path_counts, root_hint};
+use crate::base::{has_folder, often_first, path_counts, root_paths};
+use crate::own_fronts::{front_hint, own_hint};
+use crate::page_links::{are_few_below, count_with, foreign_urls, link_urls};
 use crate::shown::begins;
-use crate::totals::{links_to_missing, number_of};
+use crate::totals::number_of;
 use check_report::{BaseHint, Broken};
-use crawl_keys::CanonUrl;
-use crawl_pages::{NoMemory, PageResult, links_of};
-use site_files::{SiteFiles, before_query};
+use crawl_pages::{NoMemory, PageResult};
+use site_files::SiteFiles;
 use std::alloc::Global;
 
 /// The folder or URL that BASE would name: by links, or else by the paths from the root that lead to missing pages.
@@ -33,7 +31,67 @@ pub(crate) fn base_hint(
     }
 }
 
-/// The folder that BASE would name, by the paths from the root that lead to missing pages, or its URL.
+/// The URL that BASE would name: by all links, or else by pages with a link to their own path, or by those without links below the top.
+fn url_hint(
+    alloc: Global,
+    files: &SiteFiles<'_>,
+    results: &[PageResult],
+    rows: &[Broken],
+) -> Result<Option<BaseHint>, NoMemory>
+    ensures { IfOk result (λ hint. option_map hint_at hint ≡ url_hint_of files.now results.now rows.now) }
+{
+    match link_hint(alloc, files, results, rows)? {
+        Some(hint) => Ok(Some(hint)),
+        None => elsewhere_hint(alloc, files, results),
+    }
+}
+
+/// The URL that BASE would name, by pages with a link to their own path, or else by those without links below the top.
+fn elsewhere_hint(
+    alloc: Global,
+    files: &SiteFiles<'_>,
+    results: &[PageResult],
+) -> Result<Option<BaseHint>, NoMemory>
+    ensures { IfOk result (λ hint. option_map hint_at hint ≡ elsewhere_hint files.now results.now) }
+{
+    match own_hint(alloc, files, results)? {
+        Some(hint) => Ok(Some(hint)),
+        None => foreign_hint(alloc, files, results),
+    }
+}
+
+/// The hint at a URL with which many links in pages without a link below the top begin, such as a sitemap.
+fn foreign_hint(
+    alloc: Global,
+    files: &SiteFiles<'_>,
+    results: &[PageResult],
+) -> Result<Option<BaseHint>, NoMemory>
+    ensures { IfOk result (λ hint. option_map hint_at hint ≡ foreign_hint files.now results.now) }
+{
+    let urls = foreign_urls(alloc, files.top(), results)?;
+    match hint_of_urls(alloc, files, urls.as_slice())? {
+        Some(hint) => Ok(Some(front_hint(alloc, results, hint.folder.as_str())?)),
+        None => Ok(None),
+    }
+}
+
+/// The hint at a URL with which many links begin, unless at least half of the links begin with the top and lead to pages.
+fn link_hint(
+    alloc: Global,
+    files: &SiteFiles<'_>,
+    results: &[PageResult],
+    rows: &[Broken],
+) -> Result<Option<BaseHint>, NoMemory>
+    ensures { IfOk result (λ hint. option_map hint_at hint ≡ link_hint files.now results.now rows.now) }
+{
+    if !are_few_below(files.top(), results, rows) {
+        return Ok(None);
+    }
+    let all = link_urls(alloc, results)?;
+    hint_of_urls(alloc, files, all.as_slice())
+}
+
+/// The folder that BASE would name, by the paths from the root that lead to missing pages, or its URL if BASE is given.
 fn path_hint(
     alloc: Global,
     rooted: bool,
@@ -43,116 +101,124 @@ fn path_hint(
 ) -> Result<Option<BaseHint>, NoMemory>
     ensures { IfOk result (λ hint. option_map hint_at hint ≡ path_hint_of rooted files.now results.now rows.now) }
 {
-    match root_hint(alloc, rooted, files, rows)? {
-        Some(hint) => Ok(Some(hint)),
-        None => host_hint(alloc, files, results, rows),
-    }
-}
-
-/// The URL that BASE would name: by all links, or else by the links to other URLs.
-fn url_hint(
-    alloc: Global,
-    files: &SiteFiles<'_>,
-    results: &[PageResult],
-    rows: &[Broken],
-) -> Result<Option<BaseHint>, NoMemory>
-    ensures { IfOk result (λ hint. option_map hint_at hint ≡ url_hint_of files.now results.now rows.now) }
-{
-    let all = other_urls(alloc, files.top(), results)?;
-    let others = all.as_slice();
-    match link_hint(alloc, files, results, rows, others)? {
-        Some(hint) => Ok(Some(hint)),
-        None => other_hint(alloc, files, results, others),
-    }
-}
-
-/// The hint at the URL of the folder with which many of these paths begin, if the site does not have the folder.
-#[tactic(auto, using(crate::proofs::LinkFolders::host_lacks))]
-fn host_hint(
-    alloc: Global,
-    files: &SiteFiles<'_>,
-    results: &[PageResult],
-    rows: &[Broken],
-) -> Result<Option<BaseHint>, NoMemory>
-    ensures { IfOk result (λ hint. option_map hint_at hint ≡ host_hint files.now results.now rows.now) }
-{
-    let found = root_hint(alloc, true, files, rows)?;
-    match found {
-        Some(hint) => hint_on_host(alloc, files, results, hint.folder.as_str()),
+    let paths = root_paths(alloc, files.top(), rows)?;
+    match root_hint(alloc, files, paths.as_slice())? {
+        Some(hint) => hint_at_path(alloc, rooted, files, results, hint),
         None => Ok(None),
     }
 }
 
-/// The hint at the URL of a folder on the host, if enough links begin with it and lead to files.
-fn hint_on_host(
+/// The hint at a folder below the top: as a path from the root, or at its URL if BASE is given.
+fn hint_at_path(
+    alloc: Global,
+    rooted: bool,
+    files: &SiteFiles<'_>,
+    results: &[PageResult],
+    hint: BaseHint,
+) -> Result<Option<BaseHint>, NoMemory>
+    ensures { IfOk result (λ found. option_map hint_at found ≡ (if rooted then Some (after_slash (hint_at hint)) else hint_below files.now results.now (string_bytes hint.folder))) }
+{
+    if rooted {
+        return Ok(Some(after_slash(alloc, hint)?));
+    }
+    hint_below(alloc, files, results, hint.folder.as_str())
+}
+
+/// The hint with a slash before its folder.
+fn after_slash(alloc: Global, hint: BaseHint) -> Result<BaseHint, NoMemory>
+    ensures { IfOk result (λ new. hint_at new ≡ after_slash (hint_at hint)) }
+{
+    let mut folder = String::from_str(alloc, "/")?;
+    folder.push_str(hint.folder.as_str())?;
+    Ok(BaseHint {
+        folder,
+        paths: hint.paths,
+        of: hint.of,
+    })
+}
+
+/// The hint at the URL of a folder below the top, if enough links begin with it and lead to files.
+fn hint_below(
     alloc: Global,
     files: &SiteFiles<'_>,
     results: &[PageResult],
     folder: &str,
 ) -> Result<Option<BaseHint>, NoMemory>
-    ensures { IfOk result (λ hint. option_map hint_at hint ≡ hint_on_host files.now results.now folder.now) }
+    ensures { IfOk result (λ hint. option_map hint_at hint ≡ hint_below files.now results.now folder.now) }
 {
-    let text = host_url(alloc, files, folder)?;
+    let text = url_below(alloc, files, folder)?;
     let url = text.as_str();
     let all = link_urls(alloc, results)?;
     let urls = all.as_slice();
     hint_in(alloc, files, urls, urls.len() as u64, url)
 }
 
-/// The URL of a folder on the host. The folder is between slashes.
-fn host_url(alloc: Global, files: &SiteFiles<'_>, folder: &str) -> Result<String, NoMemory>
-    ensures { IfOk result (λ url. string_bytes url ≡ string_bytes files.now.site.origin ++ folder.now) }
+/// The URL of a folder below the top.
+fn url_below(alloc: Global, files: &SiteFiles<'_>, folder: &str) -> Result<String, NoMemory>
+    ensures { IfOk result (λ url. string_bytes url ≡ string_bytes files.now.site.top ++ folder.now) }
 {
-    let mut url = String::from_str(alloc, files.origin())?;
+    let mut url = String::from_str(alloc, files.top())?;
     url.push_str(folder)?;
     Ok(url)
 }
 
-/// The hint at a URL with which many links begin, unless at least half of the links begin with the top and lead to pages. `others` are
-/// the links that do not begin with the top.
-fn link_hint(
+/// The hint at a folder in which most of the paths are: one without which they lead to files, or else their first folder.
+fn root_hint(
     alloc: Global,
     files: &SiteFiles<'_>,
-    results: &[PageResult],
-    rows: &[Broken],
-    others: &[&str],
+    paths: &[&str],
 ) -> Result<Option<BaseHint>, NoMemory>
-    ensures { pointed others.now ≡ other_urls (string_bytes files.now.site.top) results.now → IfOk result (λ hint. option_map hint_at hint ≡ link_hint files.now results.now rows.now) }
+    ensures { IfOk result (λ hint. option_map hint_at hint ≡ root_hint files.now (pointed paths.now)) }
 {
-    if !are_few_below(others.len(), results, rows) {
-        return Ok(None);
+    match hint_of_paths(alloc, files, paths)? {
+        Some(hint) => Ok(Some(hint)),
+        None => hint_at_folder(alloc, files, paths),
     }
-    let all = link_urls(alloc, results)?;
-    hint_of_urls(alloc, files, all.as_slice())
 }
 
-/// The hint at a URL with which many of the links begin that do not begin with the top.
-fn other_hint(
+/// The hint at a folder with one to six slashes in which most of the paths are, and without which they lead to files.
+fn hint_of_paths(
     alloc: Global,
     files: &SiteFiles<'_>,
-    results: &[PageResult],
-    others: &[&str],
+    paths: &[&str],
 ) -> Result<Option<BaseHint>, NoMemory>
-    ensures { pointed others.now ≡ other_urls (string_bytes files.now.site.top) results.now → IfOk result (λ hint. option_map hint_at hint ≡ other_hint files.now results.now) }
+    ensures { IfOk result (λ hint. option_map hint_at hint ≡ hint_of_paths files.now (pointed paths.now)) }
 {
-    match hint_of_urls(alloc, files, others)? {
-        Some(hint) => Ok(Some(among_all(alloc, results, hint)?)),
+    first_hint(alloc, files, paths, paths.len() as u64, &[1, 2, 3, 4, 5, 6])
+}
+
+/// The hint at the first folder of most of the paths, unless the site has it.
+fn hint_at_folder(
+    alloc: Global,
+    files: &SiteFiles<'_>,
+    paths: &[&str],
+) -> Result<Option<BaseHint>, NoMemory>
+    ensures { IfOk result (λ hint. option_map hint_at hint ≡ hint_at_folder files.now (pointed paths.now)) }
+{
+    match folder_with(alloc, paths, paths.len() as u64, 1)? {
+        Some(folder) => hint_without_files(alloc, files, paths, folder),
         None => Ok(None),
     }
 }
 
-/// The hint with the numbers of all links that begin with its URL, and of all links.
-fn among_all(alloc: Global, results: &[PageResult], hint: BaseHint) -> Result<BaseHint, NoMemory>
-    ensures { IfOk result (λ new. hint_at new ≡ among_all results.now (hint_at hint)) }
+/// The hint at a folder, unless the site has it.
+fn hint_without_files(
+    alloc: Global,
+    files: &SiteFiles<'_>,
+    paths: &[&str],
+    folder: &str,
+) -> Result<Option<BaseHint>, NoMemory>
+    ensures { IfOk result (λ hint. option_map hint_at hint ≡ hint_without_files files.now (pointed paths.now) folder.now) }
 {
-    let all = link_urls(alloc, results)?;
-    let urls = all.as_slice();
-    let paths = count_with(hint.folder.as_str(), urls);
-    Ok(BaseHint {
-        folder: hint.folder,
-        paths,
-        of: urls.len() as u64,
-    })
+    if is_known(files, folder) {
+        return Ok(None);
+    }
+    let name = String::from_str(alloc, folder)?;
+    Ok(Some(BaseHint {
+        folder: name,
+        paths: count_with(folder, paths),
+        of: paths.len() as u64,
+    }))
 }
 
 /// The hint at a URL with three to eight slashes with which many of these links begin. The third slash ends the host.
@@ -164,121 +230,6 @@ fn hint_of_urls(
     ensures { IfOk result (λ hint. option_map hint_at hint ≡ hint_of_urls files.now (pointed urls.now)) }
 {
     first_hint(alloc, files, urls, urls.len() as u64, &[3, 4, 5, 6, 7, 8])
-}
-
-/// Whether fewer than half of the links begin with the top, after the number of locations of links to missing pages is taken off, if
-/// `others` of them do not begin with it.
-#[tactic(auto, using(crate::proofs::LinkFolders::few_below))]
-fn are_few_below(others: usize, results: &[PageResult], rows: &[Broken]) -> bool
-    ensures { (top : List ℕ) → others ≡ length (other_urls top results.now) → result ≡ are_few_below top results.now rows.now }
-{
-    let all = link_count(results);
-    let below = all.saturating_sub(others as u128);
-    let found = below.saturating_sub(u128::from(links_to_missing(rows)));
-    is_few(found, all)
-}
-
-/// The number of links in found pages. A `u64` might not hold it.
-#[tactic(auto, using(crate::proofs::LinkFolders::sum_fits, crate::proofs::LinkFolders::sum_next))]
-fn link_count(results: &[PageResult]) -> u128
-    ensures { result ≡ all_count results.now }
-{
-    let mut of: u128 = 0;
-    for one in results {
-        of += page_links(one).len() as u128;
-    }
-    of
-}
-
-/// The URLs of the links in found pages that do not begin with the top, without queries.
-fn other_urls<'a>(
-    alloc: Global,
-    top: &str,
-    results: &'a [PageResult],
-) -> Result<Vec<&'a str>, NoMemory>
-    ensures { IfOk result (λ urls. pointed urls.items ≡ other_urls top.now results.now) }
-{
-    let mut urls = Vec::new(alloc);
-    for one in results {
-        push_others(top, page_links(one), &mut urls)?;
-    }
-    Ok(urls)
-}
-
-/// Appends those of these URLs that do not begin with the top, without their queries.
-fn push_others<'a>(
-    top: &str,
-    links: &'a [CanonUrl],
-    urls: &mut Vec<&'a str>,
-) -> Result<(), NoMemory>
-    ensures { OnOk result (pointed urls.new.items ≡ pointed urls.old.items ++ flat_map (other_url top.now) links.now) }
-{
-    for link in links {
-        push_other(top, link.as_str(), urls)?;
-    }
-    Ok(())
-}
-
-/// Appends a URL without its query, unless it begins with the top.
-fn push_other<'a>(top: &str, url: &'a str, urls: &mut Vec<&'a str>) -> Result<(), NoMemory>
-    ensures { OnOk result (pointed urls.new.items ≡ pointed urls.old.items ++ other_url top.now url.now) }
-{
-    if begins(top, url) {
-        return Ok(());
-    }
-    urls.push(before_query(url))?;
-    Ok(())
-}
-
-/// The links in a page, if it was found.
-fn page_links(one: &PageResult) -> &[CanonUrl]
-    ensures { result.now ≡ page_links one.now }
-{
-    if one.page.is_found() {
-        links_of(&one.page)
-    } else {
-        &[]
-    }
-}
-
-/// Whether the part is less than half of all.
-fn is_few(part: u128, of: u128) -> bool
-    ensures { result ≡ is_few part of }
-{
-    part < of.saturating_sub(part)
-}
-
-/// The URLs of the links in found pages, without queries.
-fn link_urls(alloc: Global, results: &[PageResult]) -> Result<Vec<&str>, NoMemory>
-    ensures { IfOk result (λ urls. pointed urls.items ≡ link_urls results.now) }
-{
-    let mut urls = Vec::new(alloc);
-    for one in results {
-        push_links(page_links(one), &mut urls)?;
-    }
-    Ok(urls)
-}
-
-/// Appends these URLs without their queries.
-fn push_links<'a>(links: &'a [CanonUrl], urls: &mut Vec<&'a str>) -> Result<(), NoMemory>
-    ensures { OnOk result (pointed urls.new.items ≡ pointed urls.old.items ++ map before_query links.now) }
-{
-    for link in links {
-        urls.push(before_query(link.as_str()))?;
-    }
-    Ok(())
-}
-
-/// The number of URLs that begin with the front.
-#[tactic(auto, using(crate::proofs::LinkFolders::count_more, crate::proofs::LinkFolders::count_fits, crate::proofs::LinkFolders::count_end))]
-fn count_with(front: &str, urls: &[&str]) -> u64
-    ensures { result ≡ count_by (begins front.now) (pointed urls.now) }
-{
-    let mut count: u64 = 0;
-    for url in urls {
-        count += number_of(begins(front, *url));
-    }
-    count
 }
 
 /// Whether the part is at least half of all, which are at least two.
@@ -377,9 +328,9 @@ fn rest_after(slashes: usize, url: &str) -> Option<&str>
     }
 }
 
-/// The hint at a URL, unless the top begins with it, or fewer than two links go below it, or fewer than half of those would lead to files at
-/// the top.
-#[tactic(auto, using(crate::proofs::LinkFolders::hint_at_top, crate::proofs::LinkFolders::hint_elsewhere))]
+/// The hint at a folder or URL, unless the site has it, or fewer than two links go below it, or fewer than half of those would lead to
+/// files at the top.
+#[tactic(auto, using(crate::proofs::LinkFolders::hint_at_known, crate::proofs::LinkFolders::hint_elsewhere))]
 fn hint_in(
     alloc: Global,
     files: &SiteFiles<'_>,
@@ -389,13 +340,20 @@ fn hint_in(
 ) -> Result<Option<BaseHint>, NoMemory>
     ensures { IfOk result (λ hint. option_map hint_at hint ≡ hint_in files.now (pointed urls.now) of folder.now) }
 {
-    if begins(folder, files.top()) {
+    if is_known(files, folder) {
         return Ok(None);
     }
     let paths = count_with(folder, urls);
     let longer = count_below(folder, urls);
     let found = count_files(alloc, files, folder, urls)?;
     hint_with_counts(alloc, of, folder, paths, longer, found)
+}
+
+/// Whether the site has a folder: the top begins with it, or a page after the top.
+fn is_known(files: &SiteFiles<'_>, folder: &str) -> bool
+    ensures { result ≡ is_known files.now folder.now }
+{
+    begins(folder, files.top()) || has_folder(files, folder)
 }
 
 /// The hint at a URL with these numbers of links, if of the `longer` ones that go below it enough lead to files.
@@ -417,7 +375,7 @@ fn hint_with_counts(
 }
 
 /// The number of URLs that begin with the folder and do not end there.
-#[tactic(auto, using(crate::proofs::LinkFolders::count_more, crate::proofs::LinkFolders::count_fits, crate::proofs::LinkFolders::count_end))]
+#[tactic(auto, using(crate::proofs::LinkCounts::count_more, crate::proofs::LinkCounts::count_fits, crate::proofs::LinkCounts::count_end))]
 fn count_below(folder: &str, urls: &[&str]) -> u64
     ensures { result ≡ count_by (goes_below folder.now) (pointed urls.now) }
 {
@@ -436,7 +394,7 @@ fn goes_below(folder: &str, url: &str) -> bool
 }
 
 /// The number of URLs that go below the folder and lead to files if the folder is the top.
-#[tactic(auto, using(crate::proofs::LinkFolders::count_more, crate::proofs::LinkFolders::count_fits, crate::proofs::LinkFolders::count_end))]
+#[tactic(auto, using(crate::proofs::LinkCounts::count_more, crate::proofs::LinkCounts::count_fits, crate::proofs::LinkCounts::count_end))]
 fn count_files(
     alloc: Global,
     files: &SiteFiles<'_>,

@@ -34,7 +34,7 @@ pub use files::{SiteFile, SiteFiles, SiteNames};
 pub use hint::Hint;
 pub use kinds::FileKind;
 pub use notes::{Left, Note};
-pub use rules::Rules;
+pub use rules::{Rules, split_name};
 pub use site_list::{ListError, SiteList, read_site_list};
 pub use skipped::SkippedLink;
 pub use spellings::before_query;

@@ -30,7 +30,7 @@ pub struct Rules {
 }
 
 /// What is before the first `?` of a text, and what is after it, if there is one and a query is read there.
-pub(crate) fn split_name(name: &str, queries: bool) -> (&str, Option<&str>)
+pub fn split_name(name: &str, queries: bool) -> (&str, Option<&str>)
     ensures path { result.0.now ≡ (if queries then before_query name.now else name.now) }
     ensures query { option_map (λ q. q.now) result.1 ≡ (if queries then query_of name.now else None) }
 {

@@ -2,6 +2,7 @@
 //! `docs/a.html:3:14: gone.html: no such page`, matches nothing, because an entry has neither a line and a column nor a message. Neither
 //! does a path with spaces or characters beyond ASCII, because an entry has escapes for them.
 
+use percent_encoding::{AsciiSet, CONTROLS, ascii_set, percent_encode};
 use std::alloc::{AllocError, Global};
 
 /// What to write in place of a line of an ignore list, if that is written as in a report. A comment is not.
@@ -29,7 +30,7 @@ fn advice_for_parts(
 
 /// What to write in place of a line that was copied from a report.
 fn advice_for_copy(alloc: Global, file: &str, target: &str) -> Result<Option<String>, AllocError> {
-    if has_no_escapes(target) {
+    if may_be_invalid(target) {
         let advice = "write only the file and the target, as --json spells them";
         return Ok(Some(String::from_str(alloc, advice)?));
     }
@@ -40,7 +41,7 @@ fn advice_for_copy(alloc: Global, file: &str, target: &str) -> Result<Option<Str
 
 /// What to write in place of the target of an entry, if it is a path without escapes for spaces and characters beyond ASCII.
 fn advice_for_target(alloc: Global, target: &str) -> Result<Option<String>, AllocError> {
-    if is_plain(target) || has_no_escapes(target) {
+    if is_plain(target) || may_be_invalid(target) {
         return Ok(None);
     }
     let path = with_escapes(alloc, target)?;
@@ -48,27 +49,19 @@ fn advice_for_target(alloc: Global, target: &str) -> Result<Option<String>, Allo
     Ok(Some(advice))
 }
 
-/// Whether a target has spaces or characters beyond ASCII, but may be no path: an invalid link, which has them without escapes, has a colon.
-fn has_no_escapes(target: &str) -> bool {
+/// Whether a target with spaces or characters beyond ASCII may be an invalid link, which has them without escapes. Such a link has a colon.
+fn may_be_invalid(target: &str) -> bool {
     !is_plain(target) && target.contains(':')
 }
+
+/// The bytes in ASCII that a path has as escapes. `percent_encode` escapes all bytes beyond ASCII, too.
+const HIDDEN: AsciiSet = ascii_set!(CONTROLS.add(b' '));
 
 /// A path with an escape for each byte that is not a visible character of ASCII.
 fn with_escapes(alloc: Global, path: &str) -> Result<String, AllocError> {
     let mut new = String::new(alloc);
-    for byte in path.bytes() {
-        push_byte(alloc, byte, &mut new)?;
-    }
+    percent_encode(path.as_bytes(), HIDDEN).append_to(&mut new)?;
     Ok(new)
-}
-
-/// Appends a byte of a path, or its escape.
-fn push_byte(alloc: Global, byte: u8, path: &mut String) -> Result<(), AllocError> {
-    if byte.is_ascii_graphic() {
-        return path.push(char::from(byte));
-    }
-    let escape = format!(in alloc; "%{byte:02X}")?;
-    path.push_str(escape.as_str())
 }
 
 /// The file in a location such as `docs/a.html:3:14`. `None` if the text does not end with a line and a column.

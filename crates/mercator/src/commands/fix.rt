@@ -347,9 +347,26 @@ fn replace<R: Files>(
 /// The name of the new file until it is whole, in the same folder.
 fn partial_name(alloc: Global, path: &str) -> Result<String, AllocError> {
     match path.rsplit_once('/') {
-        Some((folder, name)) => format!(in alloc; "{folder}/.{name}.mercator-new"),
-        None => format!(in alloc; ".{path}.mercator-new"),
+        Some((folder, name)) => {
+            let front = name_front(name);
+            format!(in alloc; "{folder}/.{front}.mercator-new")
+        }
+        None => {
+            let front = name_front(path);
+            format!(in alloc; ".{front}.mercator-new")
+        }
     }
+}
+
+/// The beginning of a name, which is the whole name unless it is long. A name has at most 255 bytes, and the new file's has 14 more than this.
+fn name_front(name: &str) -> &str {
+    // One of four positions is at the end of a character.
+    for end in [241, 240, 239, 238] {
+        if let Some(front) = name.get(..end) {
+            return front;
+        }
+    }
+    name
 }
 
 /// Creates the new file, which only its owner can read.
